@@ -67,7 +67,7 @@ shows whether sharded_slab and the heap use a key again, and whether two callers
   --plots FOLDER  writes the pictures ratios.svg and growth.svg of the table of calls into this folder
   -h, --help      this text
 
-The variable SH_BENCH names the program of the heap, in place of crates/sh_bench/out/sh_bench, and SH_THROUGH that of
+The variable SH_BENCH names the program of the heap, in place of crates/tool_bench/out/tool_bench, and SH_THROUGH that of
 the library, in place of bench/through/target/release/through.
 Exit status: 0 all was measured, 1 something could not be, 2 the command line is wrong.";
 

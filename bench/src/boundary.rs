@@ -25,8 +25,8 @@ struct Job<'a> {
     words: Vec<String>,
 }
 
-// What is done, its names in `sh_bench` and in `through`, and how often. With a read go the get and the release of its
-// hold. `sh_bench` has no load: it is beside the three calls that it replaces.
+// What is done, its names in `tool_bench` and in `through`, and how often. With a read go the get and the release of its
+// hold. `tool_bench` has no load: it is beside the three calls that it replaces.
 const WAYS: [(&str, &str, &str, usize); 7] = [
     ("get + release", "get", "get", 1_000_000),
     ("read", "read", "read", 400_000),
@@ -135,7 +135,7 @@ mod tests {
 
     #[test]
     fn the_programs_are_told_the_same_numbers() {
-        let (inside, through) = (Path::new("/sh_bench"), Path::new("/through"));
+        let (inside, through) = (Path::new("/tool_bench"), Path::new("/through"));
         let jobs = calls()[2].jobs(inside, through).map(|job| job.words.join(" "));
         let numbers = "--operations 400000 --live 1 --words 1";
         assert_eq!(jobs, ["read", "rust read", "c read"].map(|first| format!("{first} {numbers}")));

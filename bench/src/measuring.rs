@@ -126,7 +126,7 @@ mod tests {
 
     #[test]
     fn a_row_that_the_program_does_not_measure_is_left_out() {
-        let plan = Plan { program: Path::new("/nowhere/sh_bench"), rounds: 1 };
+        let plan = Plan { program: Path::new("/nowhere/tool_bench"), rounds: 1 };
         assert!(plan.measure(vec![Row::new(Workload::Get, 1, 1)]).is_empty());
     }
 }

@@ -32,7 +32,7 @@ pub fn spent(program: &Path, words: &[String], operations: usize) -> Result<f64,
     time(&times).ok_or_else(|| format!("{told} told no time"))
 }
 
-/// The nanoseconds of one operation of a row of `sh_bench`. An error is one line.
+/// The nanoseconds of one operation of a row of `tool_bench`. An error is one line.
 pub fn measure(program: &Path, row: &Row) -> Result<f64, String> {
     let spent = spent(program, &row.arguments(), row.operations * row.threads)?;
     Ok(spent / row.operations as f64)

@@ -7,7 +7,7 @@ use std::path::{Path, PathBuf};
 use std::process::Command;
 
 // Each has a variable that names it, in place of the usual one, which lies below the folder above the bench.
-const INSIDE: (&str, &str) = ("SH_BENCH", "crates/sh_bench/out/sh_bench");
+const INSIDE: (&str, &str) = ("SH_BENCH", "crates/tool_bench/out/tool_bench");
 const THROUGH: (&str, &str) = ("SH_THROUGH", "bench/through/target/release/through");
 
 /// A program, as its file was when it was looked at.
@@ -35,7 +35,7 @@ fn described(folder: &Path) -> Option<String> {
 }
 
 impl Program {
-    /// `sh_bench`, by the calls inside.
+    /// `tool_bench`, by the calls inside.
     pub fn inside() -> Result<Self, String> {
         Self::of(INSIDE)
     }
@@ -79,15 +79,15 @@ mod tests {
 
     #[test]
     fn the_variable_names_the_program() {
-        let below = "crates/sh_bench/out/sh_bench";
+        let below = "crates/tool_bench/out/tool_bench";
         assert_eq!(named(Some("/some/program".into()), below), PathBuf::from("/some/program"));
         assert!(named(None, below).ends_with(below));
     }
 
     #[test]
     fn a_program_that_is_not_there_is_told_in_one_line() {
-        let why = Program::at(Path::new("/nowhere/sh_bench")).expect_err("there is none");
-        assert!(why.starts_with("no program /nowhere/sh_bench: ") && !why.contains('\n'), "{why}");
+        let why = Program::at(Path::new("/nowhere/tool_bench")).expect_err("there is none");
+        assert!(why.starts_with("no program /nowhere/tool_bench: ") && !why.contains('\n'), "{why}");
     }
 
     #[test]

@@ -1,4 +1,4 @@
-//! A ring of keys that one thread hands to another: the same steps as in `sh_bench`.
+//! A ring of keys that one thread hands to another: the same steps as in `tool_bench`.
 use std::hint::spin_loop;
 use std::sync::atomic::{AtomicU64, Ordering::SeqCst};
 

@@ -1,9 +1,9 @@
-//! The rows of the table: what is measured, and the options of `sh_bench` that ask for it.
+//! The rows of the table: what is measured, and the options of `tool_bench` that ask for it.
 use crate::samples::Lengths;
 use crate::sides::Side;
 use crate::workload::Workload;
 
-/// One row: the same numbers as the options of `sh_bench`.
+/// One row: the same numbers as the options of `tool_bench`.
 #[derive(Clone, Copy, Debug, PartialEq)]
 pub struct Row {
     pub workload: Workload,
@@ -83,7 +83,7 @@ impl Row {
         (self.live + self.freed).div_ceil(48)
     }
 
-    /// The words of the command line of `sh_bench`: its workload, and all of its numbers as options, which each of them
+    /// The words of the command line of `tool_bench`: its workload, and all of its numbers as options, which each of them
     /// takes. `--live` is how many values there are beside what is inserted or churned.
     pub fn arguments(&self) -> Vec<String> {
         let mut words = vec![self.workload.name().to_string()];

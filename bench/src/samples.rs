@@ -1,4 +1,4 @@
-//! The words that are stored: the same as `sh_bench` stores.
+//! The words that are stored: the same as `tool_bench` stores.
 
 /// How long values are.
 #[derive(Clone, Copy, Debug, PartialEq, Eq)]
@@ -35,7 +35,7 @@ impl Samples {
     }
 }
 
-/// A mixed order of this many places, the same as `sh_bench` has.
+/// A mixed order of this many places, the same as `tool_bench` has.
 pub fn mixed_order(places: usize) -> Vec<usize> {
     const STRIDE: usize = 7919;
     (0..places).scan(0, |place, _| Some(std::mem::replace(place, (*place + STRIDE) % places))).collect()

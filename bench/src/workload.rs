@@ -6,11 +6,11 @@ pub enum Workload {
     Get,
     /// As `Get`, and the hold is a guard, which releases it as it goes out of scope.
     GetGuard,
-    /// A key is held, its value read, and released: `sh_bench` reads a value by what the call answers.
+    /// A key is held, its value read, and released: `tool_bench` reads a value by what the call answers.
     Read,
-    /// As `Read`, and `sh_bench` reads into one value of the caller's, which is the same in all reads.
+    /// As `Read`, and `tool_bench` reads into one value of the caller's, which is the same in all reads.
     ReadInto,
-    /// As `Read`, and `sh_bench` holds and reads by a guard.
+    /// As `Read`, and `tool_bench` holds and reads by a guard.
     ReadGuard,
     Insert,
     /// Values are inserted, and none is removed.
@@ -46,7 +46,7 @@ impl Workload {
         WORKLOADS.into_iter().find(|workload| workload.name() == name)
     }
 
-    /// Its name, the first argument of `sh_bench`. A workload that is added there is added here by the same name. Its
+    /// Its name, the first argument of `tool_bench`. A workload that is added there is added here by the same name. Its
     /// other arguments are the options of `Row::arguments`.
     pub fn name(self) -> &'static str {
         match self {

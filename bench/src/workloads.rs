@@ -1,4 +1,4 @@
-//! The workloads over a rival: the same loops as in `sh_bench`.
+//! The workloads over a rival: the same loops as in `tool_bench`.
 use crate::gate::Gate;
 use crate::ring::Ring;
 use crate::rival::Rival;

@@ -3,7 +3,7 @@
 
 usage: library/c/agrees.py [ARCHIVE]
 
-It compares each export of crates/sh_c with its declaration in the header, parameter by parameter; the records that the
+It compares each export of crates/c_exports with its declaration in the header, parameter by parameter; the records that the
 library writes; each code with its number; and the version of the header with that of the Rust crate. With an archive it
 also looks whether the archive exports what the header declares, and nothing beside it.
 """
@@ -14,7 +14,7 @@ import sys
 
 TOP = pathlib.Path(__file__).resolve().parent.parent.parent
 HEADER = (TOP / 'library/include/shardheap.h').read_text(encoding='utf-8')
-SOURCES = '\n'.join(it.read_text(encoding='utf-8') for it in sorted((TOP / 'crates/sh_c/src').glob('*.rt')))
+SOURCES = '\n'.join(it.read_text(encoding='utf-8') for it in sorted((TOP / 'crates/c_exports/src').glob('*.rt')))
 REFUSALS = (TOP / 'crates/sh_value/src/refusal.rt').read_text(encoding='utf-8')
 
 # What C has for a parameter of the library. The allocator has no size, so that C passes none.

@@ -108,7 +108,7 @@ static void *uses(void *unused) {
     return NULL;
 }
 
-static void two_threads(void) {
+static void example_two_threads(void) {
     shardheap heap = SHARDHEAP_INIT;
     pthread_t threads[2];
     shared_key = opens(&heap, &shared, SHARDHEAP_WIDE);
@@ -227,7 +227,7 @@ int main(void) {
     copied_and_moved();
     not_initialised();
     in_use();
-    two_threads();
+    example_two_threads();
     another_heap(SHARDHEAP_WIDE);
     another_heap(SHARDHEAP_TAGGED);
     another_heap(SHARDHEAP_TINY);

@@ -1,8 +1,8 @@
 //! Finds the library, and links it. It is the first that is there of these:
 //!
-//! 1. `libshardheap.a`, `libshardheap.so` or `libsh_c.a` in the folder that the variable `SHARDHEAP_LIB_DIR` names. A
+//! 1. `libshardheap.a`, `libshardheap.so` or `libc_exports.a` in the folder that the variable `SHARDHEAP_LIB_DIR` names. A
 //!    folder without any of them is an error.
-//! 2. `crates/sh_c/out/libsh_c.a` of the repository that this crate is in.
+//! 2. `crates/c_exports/out/libc_exports.a` of the repository that this crate is in.
 //! 3. The installed library that pkg-config finds under the name `shardheap`, in the minor version of this crate.
 //!
 //! The static library is linked, or the shared one if `SHARDHEAP_SHARED` is set. If nothing is found, the build goes on
@@ -13,7 +13,7 @@ use std::path::{Path, PathBuf};
 use std::process::Command;
 
 /// The archive of the repository, which takes memory by functions that are compiled beside it.
-const OWN: &str = "libsh_c.a";
+const OWN: &str = "libc_exports.a";
 
 fn run(program: &str, words: &[&str]) {
     let status = Command::new(program).args(words).status();
@@ -50,7 +50,7 @@ fn link_from(folder: &Path, own: &Path) -> bool {
     let mut found = found.cycle().skip(usize::from(!shared)).take(3).filter(|(file, _)| folder.join(file).is_file());
     let Some((file, kind)) = found.next() else { return false };
     println!("cargo:rerun-if-changed={}", folder.join(file).display());
-    link(folder, kind, if file == OWN { "sh_c" } else { "shardheap" });
+    link(folder, kind, if file == OWN { "c_exports" } else { "shardheap" });
     if file == OWN {
         link_memory(own);
     }
@@ -84,7 +84,7 @@ fn main() {
         );
         return;
     }
-    let found = link_from(&own.join("../../crates/sh_c/out"), &own);
+    let found = link_from(&own.join("../../crates/c_exports/out"), &own);
     if !found && !installed().is_some_and(|folder| link_from(&folder, &own)) {
         println!("cargo:warning=there is no libshardheap: install it, or name its folder in SHARDHEAP_LIB_DIR");
         println!("cargo:rustc-link-lib=dylib=shardheap");

@@ -1,7 +1,7 @@
 #!/usr/bin/env python3
 """Looks that what mutants.md names finds each mutant: library/rust/mutants.py [--tsan ARCHIVE] [WORD ..].
 
-With words only the rows in which one of them occurs are run. ARCHIVE is a libsh_c.a that has the instrumentation of
+With words only the rows in which one of them occurs are run. ARCHIVE is a libc_exports.a that has the instrumentation of
 ThreadSanitizer (`scripts/trial-archive OUT --tsan`). Without one the rows of tsan.py are skipped, with a line that says
 so.
 
@@ -125,7 +125,7 @@ def main():
     with tempfile.TemporaryDirectory(prefix="mutants-") as room:
         folder, usual = copied(pathlib.Path(room)), {}
         usual_places = {"CARGO_TARGET_DIR": f"{room}/target",
-                        "SHARDHEAP_LIB_DIR": str(HERE.parent.parent / "crates/sh_c/out")}
+                        "SHARDHEAP_LIB_DIR": str(HERE.parent.parent / "crates/c_exports/out")}
         environment = {**usual_places, **os.environ, "RUST_BACKTRACE": "0", "TSAN_OPTIONS": "halt_on_error=1"}
         found = [is_found(it, folder, usual, archive, environment) for it in rows if it not in skipped]
     print(f"mutants: {sum(found)} of {len(found)} are found")

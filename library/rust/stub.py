@@ -1,7 +1,7 @@
 #!/usr/bin/env python3
 """Tries the Rust crate's slab over a stand-in for the library: library/rust/stub.py [twice] [threads].
 
-stub/stub.c is compiled as an archive in the place of libsh_c.a. Without a word both parts are run:
+stub/stub.c is compiled as an archive in the place of libc_exports.a. Without a word both parts are run:
 
   twice    the stand-in issues a place that is in use. stub/twice.rs looks that each call which would fill the place
            panics, and that no value is read as another: as it is, and under valgrind's memcheck.
@@ -27,7 +27,7 @@ MEMCHECK = ("valgrind --quiet --error-exitcode=9 --leak-check=full --show-leak-k
 def archive(folder, flags):
     """Compiles the stand-in, and returns the archive."""
     folder.mkdir()
-    compiled, made = folder / "stub.o", folder / "libsh_c.a"
+    compiled, made = folder / "stub.o", folder / "libc_exports.a"
     source = [HERE / "stub/stub.c", f"-I{HERE.parent / 'include'}"]
     subprocess.run(["gcc", *WARNINGS, *flags, "-g", "-O2", "-fPIC", "-c", *source, "-o", compiled], check=True)
     subprocess.run(["ar", "rcs", made, compiled], check=True)

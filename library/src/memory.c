@@ -1,5 +1,5 @@
 /* The functions by which the library takes and returns memory, over the C library's malloc, realloc and free. A program
-   that links libsh_c.a links this file too; libshardheap.a and libshardheap.so have it inside.
+   that links libc_exports.a links this file too; libshardheap.a and libshardheap.so have it inside.
 
    The library calls them under these names, which are the toolchain's, and no other program calls them. Blocks have at
    most 2^63 - 1 bytes and an alignment that divides 16, as every block of malloc has. */

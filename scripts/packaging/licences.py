@@ -1,6 +1,6 @@
 """The licences of a package: ours, and those of the toolchain's crates that the archive is built over.
 
-A crate counts if a crate below sh_c names it in crates.txt, or another such crate of the toolchain uses it. What of it
+A crate counts if a crate below c_exports names it in crates.txt, or another such crate of the toolchain uses it. What of it
 is in the machine code cannot be seen, since functions are merged into their callers. So all of them are named.
 """
 import pathlib
@@ -27,8 +27,8 @@ def listed():
 
 
 def used(kit):
-    """The crates of the toolchain that sh_c and the crates below it use."""
-    ours, found, left = listed(), set(), ["sh_c", "std"]
+    """The crates of the toolchain that c_exports and the crates below it use."""
+    ours, found, left = listed(), set(), ["c_exports", "std"]
     while left:
         name = left.pop()
         if name in found:

@@ -97,7 +97,7 @@ def crates(prefix):
 
 def build(archive, made, prefix, lib):
     """How the package was made: the archive, its record, and the sums of what is in the package."""
-    lines = {"version": version(), **made, "sha256 of libsh_c.a": made["sha256"], "package": record.commit(".")}
+    lines = {"version": version(), **made, "sha256 of libc_exports.a": made["sha256"], "package": record.commit(".")}
     lines.pop("sha256")
     lines.setdefault("tests", "none is recorded")
     lines["compiler of the memory functions"] = record.said("gcc", "--version").splitlines()[0]

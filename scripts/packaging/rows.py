@@ -68,7 +68,7 @@ class Row:
 
 ROWS = [
     Row("the package says how it was made", """
-grep -q '^sha256 of libsh_c.a: [0-9a-f]\\{64\\}$' $PREFIX/share/doc/libshardheap-dev/BUILD
+grep -q '^sha256 of libc_exports.a: [0-9a-f]\\{64\\}$' $PREFIX/share/doc/libshardheap-dev/BUILD
 proved=$(sed -n 's/^proved: //p' $PREFIX/share/doc/libshardheap-dev/BUILD)
 [ "$proved" = "$(pkg-config --variable=proved shardheap)" ]
 [ $(ls $PACKAGES | grep -c unproved) -eq $([ "$proved" = yes ] && echo 0 || ls $PACKAGES | wc -l) ]""",

@@ -9,7 +9,7 @@ since no proof looks at how the steps are compiled, nor the last two. Those with
 judges how many holds a key has. A search that passes over an armed page loses a slot only while its freer is in the
 middle of the free, when Full is right too. A page is in the queue of its class still when JUDGE frees a slot of it.
 
-The copy's sh_stress judges one thing more (JUDGE): while nothing else runs, a full shard has room again once another
+The copy's tool_stress judges one thing more (JUDGE): while nothing else runs, a full shard has room again once another
 pass has removed one of its values, and once its owner has.
 """
 import collections
@@ -123,8 +123,8 @@ HEAPS = [
     Broken(
         "slot_stays_in_the_hand",
         "sh_pass/src/ending.rt",
-        "{\n    finish(table, seat, spot, generation, owned)\n",
-        "{\n    if BROKEN && spot.slot == 0 { return false; }\n    finish(table, seat, spot, generation, owned)\n",
+        "{\n    finish(table, seat, slot_ref, generation, owned)\n",
+        "{\n    if BROKEN && slot_ref.slot == 0 { return false; }\n    finish(table, seat, slot_ref, generation, owned)\n",
     ),
     Broken(
         "read_is_empty",
@@ -259,10 +259,10 @@ HEAPS = [
     ),
 ]
 
-# File, old text and new text of the copy's sh_stress.
+# File, old text and new text of the copy's tool_stress.
 JUDGE = [
     (
-        "sh_stress/src/ending.rt",
+        "tool_stress/src/ending.rt",
         """    if let Some(worker) = workers.first_mut() {
         worker.fill(moments, len);
 """,
@@ -274,7 +274,7 @@ JUDGE = [
 """,
     ),
     (
-        "sh_stress/src/worker.rt",
+        "tool_stress/src/worker.rt",
         """    /// Fills each shard with values of `len` words. Nobody owns a shard.
 """,
         """    // Fills the first shard, and again after another pass and after the owner removed a value. A slot of the
@@ -309,7 +309,7 @@ JUDGE = [
 """,
     ),
     (
-        "sh_stress/src/owning.rt",
+        "tool_stress/src/owning.rt",
         """/// Adopts a shard that nobody owns, inserts values of `len` words until it is full, and leaves it.
 """,
         """// Fills the shard, and again after another pass and after the owner removed a value.

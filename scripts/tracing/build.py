@@ -1,4 +1,4 @@
-"""The program sh_trace, built without a proof and kept until a source of it changes."""
+"""The program script_trace, built without a proof and kept until a source of it changes."""
 
 import hashlib
 import os
@@ -7,7 +7,7 @@ import subprocess
 import sys
 
 TOP = pathlib.Path(__file__).resolve().parent.parent.parent
-CRATE = "sh_trace"
+CRATE = "script_trace"
 
 
 def uses():
@@ -41,7 +41,7 @@ def checksum():
 
 def build(target):
     """Builds the program, and takes earlier ones away."""
-    print("trace: builds sh_trace without a proof, which takes a minute or more", file=sys.stderr, flush=True)
+    print("trace: builds script_trace without a proof, which takes a minute or more", file=sys.stderr, flush=True)
     target.parent.mkdir(exist_ok=True)
     unfinished = target.with_suffix(f".{os.getpid()}")
     words = [sys.executable, TOP / "scripts/trial-build", CRATE, unfinished]
@@ -62,7 +62,7 @@ def program():
     try:
         target = TOP / "out" / f"{CRATE}-{checksum()}"
     except (OSError, subprocess.CalledProcessError):
-        sys.exit("trace: the toolchain's command rt is needed to build sh_trace")
+        sys.exit("trace: the toolchain's command rt is needed to build script_trace")
     if not target.exists():
         build(target)
     return target

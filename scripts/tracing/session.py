@@ -1,10 +1,10 @@
-"""A script that grows line by line, and what sh_trace prints of it. The program runs the script from its first line
+"""A script that grows line by line, and what script_trace prints of it. The program runs the script from its first line
 each time, as the same script always has the same trace."""
 
 import re
 import subprocess
 
-FAULT = re.compile(r"sh_trace: fault \d+ (\w+)(?: line (\d+) (\w+))?")
+FAULT = re.compile(r"script_trace: fault \d+ (\w+)(?: line (\d+) (\w+))?")
 # What to do about each cause of a fault.
 CAUSES = {
     "Byte": "a line has only letters, digits and signs of ASCII",

@@ -1,6 +1,6 @@
 //! The command line.
 
-/// What is done over and over: the workloads of `sh_bench` by their names, and two of ours.
+/// What is done over and over: the workloads of `tool_bench` by their names, and two of ours.
 #[derive(Clone, Copy, Debug, PartialEq, Eq)]
 pub enum Workload {
     Get,
@@ -14,7 +14,7 @@ pub enum Workload {
     Remove,
 }
 
-/// What is measured: the same numbers as the options of `sh_bench`.
+/// What is measured: the same numbers as the options of `tool_bench`.
 #[derive(Clone, Copy, Debug, PartialEq, Eq)]
 pub struct Options {
     pub workload: Workload,

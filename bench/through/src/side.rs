@@ -3,7 +3,7 @@
 pub const SAMPLES: usize = 16;
 pub const WORDS: usize = 16;
 
-/// Sixteen values, the same as `sh_bench` stores: the one at place n of a list is the one at n % 16 here. C has the
+/// Sixteen values, the same as `tool_bench` stores: the one at place n of a list is the one at n % 16 here. C has the
 /// same structure.
 #[repr(C)]
 pub struct Samples {

@@ -1,4 +1,4 @@
-//! The workloads over a side: the same loops as in `sh_bench`, in one thread.
+//! The workloads over a side: the same loops as in `tool_bench`, in one thread.
 use crate::options::{Options, Workload};
 use crate::side::{Samples, Side};
 use std::hint::black_box;

@@ -5,7 +5,7 @@
 //! # First steps
 //!
 //! A program that stores a value, reads it in two threads, gathers all passes and counts what is left. It is proved as
-//! it is, without a proof file (`crates/two_threads` is this with its printing):
+//! it is, without a proof file (`crates/example_two_threads` is this with its printing):
 //!
 //! ```text
 //! #![tactic(auto)]
@@ -71,8 +71,8 @@
 //!
 //! Most calls return a `Result`. Its `Refusal` says why the call was not done, and a refused call changes nothing. `?`
 //! works on each of them, also if a refusal comes with the pass or shard that the call consumed. A loop over a pass
-//! needs one line that says what stays, as in `crates/session_store`. `crates/test_gearlongan` has an example of each
-//! call.
+//! needs one line that says what stays, as in `crates/example_session_store`. `crates/test_gearlongan` has an example
+//! of each call.
 //!
 //! # The words
 //!
@@ -149,21 +149,24 @@
 //! that this pass makes cover it too. A receipt belongs to one heap, as a pass does, and `heed` requires that both are
 //! of the same heap. `copy` makes a second receipt for one more thread.
 //!
-//! `insert_told` and `fetch_told` do both ends, for a key and its receipt that go together; `crates/key_channel` sends
-//! such keys over a channel. `heard_comes_first` says what follows for keys, and proofs cite it. `remove_then_get` is
-//! an example: a pass that heard of a removal does not find the key any more.
+//! `insert_told` and `fetch_told` do both ends, for a key and its receipt that go together;
+//! `crates/example_key_channel` sends such keys over a channel. `heard_comes_first` says what follows for keys, and
+//! proofs cite it. `remove_then_get` is an example: a pass that heard of a removal does not find the key any more.
 #![tactic(auto)]
 
+pub mod task;
+
 pub use sh_core::Accounts;
-pub use sh_gather::{Whole, gather, join, whole};
+pub use sh_gather::{
+    PageAccounts, Totals, Whole, all_accounts, gather, join, next_key, total, whole,
+};
 pub use sh_key::{Deep, KeyLayout, Tagged, Tiny, Wide};
-pub use sh_meet::{Task, all, both};
 pub use sh_pass::{Guard, Heap, NextKey, Pass, Receipt, Seats, remove_then_get};
 pub use sh_plain::{Lookup, Store};
 pub use sh_readers::{Reader, ToldKey, fetch_told, insert_told, next_own_key};
 pub use sh_shape::Shape;
 pub use sh_shard::Shard;
 pub use sh_table::heard_comes_first;
-pub use sh_totals::{PageAccounts, Totals, all_accounts, next_key, total};
 pub use sh_typed::Typed;
 pub use sh_value::{Hold, Record, Refusal, Value};
+pub use task::{Task, all, both};

@@ -1,7 +1,7 @@
 //! What a pass did so far.
 
+use script_models::event_line::push_event;
 use sh_core::Outcome;
-use sh_models::event_line::push_event;
 use sh_step::Event;
 use std::alloc::{AllocError, Global};
 

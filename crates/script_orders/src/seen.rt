@@ -4,7 +4,8 @@ use sh_key::KeyLayout;
 use sh_shape::Shape;
 use sh_shape::places::{FIRST_LINK, FIRST_STATE, PAGE_WORDS, SLOT_PLACES};
 use sh_slots::{
-    GetAnswer, Hand, Spot, after_drop, answer_to_get, is_first_mark, is_live_at, is_reusable_after,
+    GetAnswer, Hand, SlotRef, after_drop, answer_to_get, is_first_mark, is_live_at,
+    is_reusable_after,
 };
 use sh_step::Move;
 use sh_step::operands::{gen_max, guard_max};
@@ -21,7 +22,7 @@ fn seen_by_get(generation: u32, most: u32, found: u64) -> u64 {
 
 // The generation that a drop leaves to be ended, plus 1; 0 if it leaves none.
 fn seen_by_drop(found: u64) -> u64 {
-    match after_drop(Spot { page: 0, slot: 0 }, found) {
+    match after_drop(SlotRef { page: 0, slot: 0 }, found) {
         Hand::Finishing(_, generation) => u64::from(generation) + 1,
         _ => 0,
     }
@@ -69,14 +70,14 @@ pub fn found_at(shape: &Shape, the_move: &Move) -> Option<u64> {
         | Move::EnterRemove(_, name)
         | Move::Mark(_, name)
         | Move::DropHold(_, name) => Some(state_at(name.page, name.slot)),
-        Move::Drop(spot) | Move::Finish(spot, _) | Move::Publish(spot, _) => {
-            Some(state_at(spot.page, spot.slot))
+        Move::Drop(slot_ref) | Move::Finish(slot_ref, _) | Move::Publish(slot_ref, _) => {
+            Some(state_at(slot_ref.page, slot_ref.slot))
         }
         Move::ReadClass(_, name) => Some(in_page(name.page, 0)),
         Move::ReadLength(_, name) => Some(length_at(name.page, name.slot)),
         Move::ReadPage(page) => Some(in_page(*page, 0)),
         Move::Take(page) | Move::Arm(page) => Some(in_page(*page, 1)),
-        Move::Put(spot) | Move::PutSlot(spot) => Some(in_page(spot.page, 1)),
+        Move::Put(slot_ref) | Move::PutSlot(slot_ref) => Some(in_page(slot_ref.page, 1)),
         Move::FollowBell(page) => Some(in_page(*page, 2)),
         Move::Follow(page, slot) => Some(link_at(*page, *slot)),
         Move::Adopt(shard) => Some(owner_at(shape, *shard)),

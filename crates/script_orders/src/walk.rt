@@ -6,9 +6,9 @@ use crate::level::Level;
 use crate::next::next_line;
 use crate::play::{played, seen_by, step};
 use crate::state::State;
+use script_output::account_line::push_accounts;
 use sh_core::World;
 use sh_key::KeyLayout;
-use sh_output::account_line::push_accounts;
 use std::alloc::{AllocError, Global};
 
 // The state once the pass did its next line, if it has one.

@@ -6,8 +6,8 @@ use Rattle.sh_word.specs.Kinds.{kind_by as state_kind}
 use Rattle.sh_slots.specs.declared.hand.Hand.{Hand as HandOf}
 use Rattle.sh_slots.specs.declared.hand.Hand.TheVariants.{Idle, Removing, Leaving, Finishing, ToPut, Tying, Ringing}
 use Rattle.sh_slots.specs.declared.hand.Hand.TheVariants.{RingTying, Filling}
-use Rattle.sh_slots.specs.declared.hand.Spot.{Spot}
-use Rattle.sh_slots.specs.Slots.{same_spot}
+use Rattle.sh_slots.specs.declared.hand.SlotRef.{SlotRef}
+use Rattle.sh_slots.specs.Slots.{same_slot}
 use Rattle.sh_step.specs.Collections.{total, if1, has}
 use Rattle.sh_step.specs.declared.body.Body.{Body}
 use Rattle.sh_step.proofs.ListLaws.{any_is_has}
@@ -45,20 +45,20 @@ if1_none true e = absurd (let z : true ≡ false = e in cc)
 if1_none false e = refl
 
 -- one pass
-mine_some : (x : Spot) (p : Body) → has (same_spot x) p.mine ≡ true → 0 < mine_at x p
-mine_some x p e = any_some (same_spot x) (λ y. if1 (same_spot x y)) (λ y. if1_some (same_spot x y)) p.mine
-    (any_is_has (same_spot x) p.mine ∙ e)
+mine_some : (x : SlotRef) (p : Body) → has (same_slot x) p.mine ≡ true → 0 < mine_at x p
+mine_some x p e = any_some (same_slot x) (λ y. if1 (same_slot x y)) (λ y. if1_some (same_slot x y)) p.mine
+    (any_is_has (same_slot x) p.mine ∙ e)
 
-mine_none : (x : Spot) (p : Body) → has (same_spot x) p.mine ≡ false → mine_at x p ≡ 0
-mine_none x p e = any_none (same_spot x) (λ y. if1 (same_spot x y)) (λ y. if1_none (same_spot x y)) p.mine
-    (any_is_has (same_spot x) p.mine ∙ e)
+mine_none : (x : SlotRef) (p : Body) → has (same_slot x) p.mine ≡ false → mine_at x p ≡ 0
+mine_none x p e = any_none (same_slot x) (λ y. if1 (same_slot x y)) (λ y. if1_none (same_slot x y)) p.mine
+    (any_is_has (same_slot x) p.mine ∙ e)
 
-hand_some : (x : Spot) (p : Body) → has_in_hand x p ≡ true → 0 < in_hand x p
+hand_some : (x : SlotRef) (p : Body) → has_in_hand x p ≡ true → 0 < in_hand x p
 hand_some x p = go p.hand where
-  go : (h : HandOf) → elim h as (λ _. Bool) [ ToPut y ↦ same_spot x y | Filling y v n ↦ same_spot x y | _ ↦ false ]
-      ≡ true → 0 < elim h as (λ _. ℕ) [ ToPut y ↦ if1 (same_spot x y) | Filling y v n ↦ if1 (same_spot x y) | _ ↦ 0 ]
-  go (ToPut y) e = if1_some (same_spot x y) e
-  go (Filling y v n) e = if1_some (same_spot x y) e
+  go : (h : HandOf) → elim h as (λ _. Bool) [ ToPut y ↦ same_slot x y | Filling y v n ↦ same_slot x y | _ ↦ false ]
+      ≡ true → 0 < elim h as (λ _. ℕ) [ ToPut y ↦ if1 (same_slot x y) | Filling y v n ↦ if1 (same_slot x y) | _ ↦ 0 ]
+  go (ToPut y) e = if1_some (same_slot x y) e
+  go (Filling y v n) e = if1_some (same_slot x y) e
   go Idle e = absurd (let z : false ≡ true = e in cc)
   go (Removing j) e = absurd (let z : false ≡ true = e in cc)
   go (Leaving y) e = absurd (let z : false ≡ true = e in cc)
@@ -67,12 +67,12 @@ hand_some x p = go p.hand where
   go (Ringing q) e = absurd (let z : false ≡ true = e in cc)
   go (RingTying q n) e = absurd (let z : false ≡ true = e in cc)
 
-hand_none : (x : Spot) (p : Body) → has_in_hand x p ≡ false → in_hand x p ≡ 0
+hand_none : (x : SlotRef) (p : Body) → has_in_hand x p ≡ false → in_hand x p ≡ 0
 hand_none x p = go p.hand where
-  go : (h : HandOf) → elim h as (λ _. Bool) [ ToPut y ↦ same_spot x y | Filling y v n ↦ same_spot x y | _ ↦ false ]
-      ≡ false → elim h as (λ _. ℕ) [ ToPut y ↦ if1 (same_spot x y) | Filling y v n ↦ if1 (same_spot x y) | _ ↦ 0 ] ≡ 0
-  go (ToPut y) e = if1_none (same_spot x y) e
-  go (Filling y v n) e = if1_none (same_spot x y) e
+  go : (h : HandOf) → elim h as (λ _. Bool) [ ToPut y ↦ same_slot x y | Filling y v n ↦ same_slot x y | _ ↦ false ]
+      ≡ false → elim h as (λ _. ℕ) [ ToPut y ↦ if1 (same_slot x y) | Filling y v n ↦ if1 (same_slot x y) | _ ↦ 0 ] ≡ 0
+  go (ToPut y) e = if1_none (same_slot x y) e
+  go (Filling y v n) e = if1_none (same_slot x y) e
   go Idle e = refl
   go (Removing j) e = refl
   go (Leaving y) e = refl
@@ -82,20 +82,20 @@ hand_none x p = go p.hand where
   go (RingTying q n) e = refl
 
 -- all passes
-some_mine : (x : Spot) (ps : List Body) → list_any (λ p. has (same_spot x) p.mine) ps ≡ true → 0 < total (mine_at x) ps
-some_mine x ps = any_some (λ p. has (same_spot x) p.mine) (mine_at x) (mine_some x) ps
+some_mine : (x : SlotRef) (ps : List Body) → list_any (λ p. has (same_slot x) p.mine) ps ≡ true → 0 < total (mine_at x) ps
+some_mine x ps = any_some (λ p. has (same_slot x) p.mine) (mine_at x) (mine_some x) ps
 
-none_mine : (x : Spot) (ps : List Body) → list_any (λ p. has (same_spot x) p.mine) ps ≡ false → total (mine_at x) ps ≡ 0
-none_mine x ps = any_none (λ p. has (same_spot x) p.mine) (mine_at x) (mine_none x) ps
+none_mine : (x : SlotRef) (ps : List Body) → list_any (λ p. has (same_slot x) p.mine) ps ≡ false → total (mine_at x) ps ≡ 0
+none_mine x ps = any_none (λ p. has (same_slot x) p.mine) (mine_at x) (mine_none x) ps
 
-some_hand : (x : Spot) (ps : List Body) → list_any (has_in_hand x) ps ≡ true → 0 < total (in_hand x) ps
+some_hand : (x : SlotRef) (ps : List Body) → list_any (has_in_hand x) ps ≡ true → 0 < total (in_hand x) ps
 some_hand x ps = any_some (has_in_hand x) (in_hand x) (hand_some x) ps
 
-none_hand : (x : Spot) (ps : List Body) → list_any (has_in_hand x) ps ≡ false → total (in_hand x) ps ≡ 0
+none_hand : (x : SlotRef) (ps : List Body) → list_any (has_in_hand x) ps ≡ false → total (in_hand x) ps ≡ 0
 none_hand x ps = any_none (has_in_hand x) (in_hand x) (hand_none x) ps
 
 -- The slot counts once, under its kind
-pub record Once (ps : List Body) (x : Spot) (is_marked is_present : Bool) (in_line : ℕ) : Type 0 where
+pub record Once (ps : List Body) (x : SlotRef) (is_marked is_present : Bool) (in_line : ℕ) : Type 0 where
   pub live : if1 (is Live (slot_kind_by (state_kind is_marked is_present) ps x)) ≡ if1 (is_present && not is_marked)
   pub marked : if1 (is Marked (slot_kind_by (state_kind is_marked is_present) ps x)) ≡ if1 (is_present && is_marked)
   pub retired : if1 (is Retired (slot_kind_by (state_kind is_marked is_present) ps x))
@@ -104,12 +104,12 @@ pub record Once (ps : List Body) (x : Spot) (is_marked is_present : Bool) (in_li
   pub hand : if1 (is Hand (slot_kind_by (state_kind is_marked is_present) ps x)) ≡ total (in_hand x) ps
   pub queued : if1 (is Queued (slot_kind_by (state_kind is_marked is_present) ps x)) ≡ in_line
 
-once_empty : (ps : List Body) (x : Spot) (in_line : ℕ) → total (mine_at x) ps + total (in_hand x) ps + in_line ≡ 1
+once_empty : (ps : List Body) (x : SlotRef) (in_line : ℕ) → total (mine_at x) ps + total (in_hand x) ps + in_line ≡ 1
     → Once ps x false false in_line
 unfolding empty_kind
-once_empty ps x in_line one = go (list_any (λ p. has (same_spot x) p.mine) ps) (list_any (has_in_hand x) ps) refl refl
+once_empty ps x in_line one = go (list_any (λ p. has (same_slot x) p.mine) ps) (list_any (has_in_hand x) ps) refl refl
   where
-    go : (b c : Bool) → list_any (λ p. has (same_spot x) p.mine) ps ≡ b → list_any (has_in_hand x) ps ≡ c
+    go : (b c : Bool) → list_any (λ p. has (same_slot x) p.mine) ps ≡ b → list_any (has_in_hand x) ps ≡ c
         → Once ps x false false in_line
     go true c is_mine is_in_hand = let some = some_mine x ps is_mine in record {
       live = rw is_mine refl;
@@ -138,7 +138,7 @@ once_empty ps x in_line one = go (list_any (λ p. has (same_spot x) p.mine) ps) 
           queued = rw (is_mine, is_in_hand) (omega arith);
         }
 
-pub once : (ps : List Body) (x : Spot) (marked present : Bool) (in_line : ℕ)
+pub once : (ps : List Body) (x : SlotRef) (marked present : Bool) (in_line : ℕ)
     → if1 (present && not marked) + if1 (present && marked) + if1 (not present && marked) + total (mine_at x) ps + total
     (in_hand x) ps + in_line ≡ 1 → Once ps x marked present in_line
 once ps x false false in_line one = once_empty ps x in_line (omega arith)

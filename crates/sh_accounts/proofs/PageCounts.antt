@@ -10,8 +10,8 @@ use Rattle.sh_shape.specs.declared.places.Place.TheVariants.{Class, State}
 use Rattle.sh_shape.specs.Classes.{class_count, slots}
 use Rattle.sh_shape.proofs.ClassLaws.{slots_few}
 use Rattle.sh_shape.specs.Places.{all_pages}
-use Rattle.sh_slots.specs.declared.hand.Spot.{Spot}
-use Rattle.sh_slots.specs.Slots.{spots}
+use Rattle.sh_slots.specs.declared.hand.SlotRef.{SlotRef}
+use Rattle.sh_slots.specs.Slots.{slot_refs}
 use Rattle.sh_step.specs.declared.action.Event.{Event}
 use Rattle.sh_step.specs.Collections.{total, if1}
 use Rattle.sh_step.specs.Plans.{Plan, plan_of}
@@ -29,12 +29,12 @@ use Rattle.sh_accounts.specs.Accounts.{AreAccounts, FillPage, all_slots, no_slot
 use Rattle.sh_accounts.proofs.OneByOne.{Once, once}
 
 -- sums over the same slots of equal numbers are equal
-among_same : (q : ℕ) (f g : Spot → ℕ) (n : ℕ) → ((t : ℕ) → t < n → f (record { page = q; slot = t })
+among_same : (q : ℕ) (f g : SlotRef → ℕ) (n : ℕ) → ((t : ℕ) → t < n → f (record { page = q; slot = t })
     ≡ g (record { page = q; slot = t })) → among q f n ≡ among q g n
-unfolding total spots
+unfolding total slot_refs
 among_same q f g n h = go 0 n (λ t a b. h t (omega arith)) where
   go : (s n : ℕ) → ((t : ℕ) → s ≤ t → t < s + n → f (record { page = q; slot = t }) ≡ g (record { page = q; slot = t }))
-      → total f (spots q s n) ≡ total g (spots q s n)
+      → total f (slot_refs q s n) ≡ total g (slot_refs q s n)
   go s zero h = refl
   go s (suc n) h = let here = h s (omega arith) (omega arith) in let rest = go (s + 1) n
       (λ t a b. h t (omega arith) (omega arith)) in omega arith
@@ -69,16 +69,16 @@ module _ (plan : Plan) (k : KeptWorld) (w : World) (l : PutLists) (stands : Stan
       ≡ slot_kind_by (kind_of (state_of w (record { page = q; slot = t }))) w.parts (record { page = q; slot = t })
   kind_is t low = rw (stands.words.at (State q t) (there, low), stands.parts) refl
 
-  each : (c t : ℕ) → w.words.class_at q ≡ c + 1 → t < slots c → let x : Spot = record { page = q; slot = t } in
+  each : (c t : ℕ) → w.words.class_at q ≡ c + 1 → t < slots c → let x : SlotRef = record { page = q; slot = t } in
       Once w.parts x (state_of w x).marked (state_of w x).present (times t (l.stack q) + times t (l.chain q))
-  each c t e low = let x : Spot = record { page = q; slot = t } in once w.parts x (state_of w x).marked
+  each c t e low = let x : SlotRef = record { page = q; slot = t } in once w.parts x (state_of w x).marked
       (state_of w x).present (times t (l.stack q) + times t (l.chain q)) (one c t e low) where
         one : (c t : ℕ) → w.words.class_at q ≡ c + 1 → t < slots c → kind_count w l (record { page = q; slot = t }) ≡ 1
         one c t e low = kinds (record { page = q; slot = t }) ∙ (let is : nat_lt t (slots_under (w.words.class_at q))
             ≡ true = rw (under_some (w.words.class_at q) c e) (lt-ltb t (slots c) low) in rw is refl)
 
   -- one number of the accounts
-  number_is : (kind : SlotKind) (g : Spot → ℕ) (n : ℕ) → n ≤ 48
+  number_is : (kind : SlotKind) (g : SlotRef → ℕ) (n : ℕ) → n ≤ 48
       → ((t : ℕ) → t < n → if1 (is kind (slot_kind_by (kind_of (state_of w (record { page = q; slot = t }))) w.parts
       (record { page = q; slot = t }))) ≡ g (record { page = q; slot = t }))
       → among q (λ x. if1 (is kind (kind_in k x))) n ≡ among q g n
@@ -105,7 +105,7 @@ module _ (plan : Plan) (k : KeptWorld) (w : World) (l : PutLists) (stands : Stan
       rw (u, named, live, marked, retired, mine, hand, queued) refl
 
   pub blank_is : w.words.class_at q ≡ 0 → no_slots None ≡ accounts w l q
-  unfolding accounts total spots
+  unfolding accounts total slot_refs
   blank_is e = rw e refl
 
 -- the class word of a page of a reachable heap is at most the number of classes

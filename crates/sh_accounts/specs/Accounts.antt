@@ -8,7 +8,7 @@ use Rattle.sh_shape.specs.declared.places.Place.TheVariants.{Class, State}
 use Rattle.sh_shape.specs.Classes.{class_count, slots}
 use Rattle.sh_shape.specs.Places.{number, pages_of}
 use Rattle.sh_shape.specs.Shape.{Numbers}
-use Rattle.sh_slots.specs.declared.hand.Spot.{Spot}
+use Rattle.sh_slots.specs.declared.hand.SlotRef.{SlotRef}
 use Rattle.sh_step.specs.declared.action.Event.{Event}
 use Rattle.sh_step.specs.Collections.{if1}
 use Rattle.sh_step.specs.Plans.{plan_of}
@@ -50,7 +50,7 @@ abbrev pub class_word : KeptWorld → ℕ → ℕ
 class_word k q = kept_word k (Class q)
 
 -- what a slot is, if it is one of its page's class
-abbrev pub kind_in : KeptWorld → Spot → SlotKind
+abbrev pub kind_in : KeptWorld → SlotRef → SlotKind
 kind_in k x = slot_kind_by (kind_of (fields_of (kept_word k (State x.page x.slot)))) k.parts x
 
 -- how many of the first n slots of page q are of this kind

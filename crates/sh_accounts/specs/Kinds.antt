@@ -4,8 +4,8 @@ use Rattle.std.specs.List.{list_any}
 use Rattle.sh_word.specs.declared.slot_state.Kind.{Kind}
 use Rattle.sh_word.specs.declared.slot_state.Kind.TheVariants as state
 use Rattle.sh_slots.specs.declared.hand.Hand.TheVariants.{ToPut, Filling}
-use Rattle.sh_slots.specs.declared.hand.Spot.{Spot}
-use Rattle.sh_slots.specs.Slots.{same_spot}
+use Rattle.sh_slots.specs.declared.hand.SlotRef.{SlotRef}
+use Rattle.sh_slots.specs.Slots.{same_slot}
 use Rattle.sh_step.specs.Collections.{has, if1}
 use Rattle.sh_step.specs.declared.body.Body.{Body}
 use Rattle.sh_core.specs.declared.accounts.Accounts.{Accounts}
@@ -13,15 +13,15 @@ use Rattle.sh_accounts.specs.declared.kinds.SlotKind.{SlotKind}
 use Rattle.sh_accounts.specs.declared.kinds.SlotKind.TheVariants.{Live, Marked, Retired, Mine, Hand, Queued}
 
 -- the pass has the empty slot in its hand
-abbrev pub has_in_hand : Spot → Body → Bool
-has_in_hand x p = elim (p.hand) [ ToPut y ↦ same_spot x y | Filling y v n ↦ same_spot x y | _ ↦ false ]
+abbrev pub has_in_hand : SlotRef → Body → Bool
+has_in_hand x p = elim (p.hand) [ ToPut y ↦ same_slot x y | Filling y v n ↦ same_slot x y | _ ↦ false ]
 
 -- an empty slot is with a pass, or otherwise queued
-unfoldable pub empty_kind : List Body → Spot → SlotKind
-empty_kind ps x = cond (list_any (λ p. has (same_spot x) p.mine) ps) Mine
+unfoldable pub empty_kind : List Body → SlotRef → SlotKind
+empty_kind ps x = cond (list_any (λ p. has (same_slot x) p.mine) ps) Mine
     (cond (list_any (has_in_hand x) ps) Hand Queued)
 
-abbrev pub slot_kind_by : Kind → List Body → Spot → SlotKind
+abbrev pub slot_kind_by : Kind → List Body → SlotRef → SlotKind
 slot_kind_by state.Live ps x = Live
 slot_kind_by state.Marked ps x = Marked
 slot_kind_by state.Retired ps x = Retired

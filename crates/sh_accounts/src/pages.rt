@@ -11,7 +11,7 @@ use crate::kinds::{SlotKind, slot_kind};
 use sh_core::{Accounts, World, refines_map};
 use sh_key::KeyLayout;
 use sh_shape::{CLASS_COUNT, slots};
-use sh_slots::Spot;
+use sh_slots::SlotRef;
 
 // The class that a class word names.
 fn class_of(word: u64) -> Option<u32>
@@ -74,11 +74,11 @@ fn kind_at<L: KeyLayout>(world: &World<L>, shard: u32, page: u32, slot: u32) -> 
 {
     let shape = world.shape();
     let word = world.words()[shape.state_at(shard, page, slot)];
-    let spot = Spot {
+    let slot_ref = SlotRef {
         page: u64::from(shape.page_number(shard, page)),
         slot: u64::from(slot),
     };
-    slot_kind(word, world.parts(), spot)
+    slot_kind(word, world.parts(), slot_ref)
 }
 
 // The slots of a page of this class, each counted by what it is.

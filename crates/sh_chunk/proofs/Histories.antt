@@ -5,10 +5,10 @@ use Rattle.std.proofs.lemmas.Nat.{div-mul-add}
 use Rattle.std.proofs.lemmas.List.Elements.{All-head, All-tail}
 use Rattle.sh_history.specs.declared.entry.Entry.{Entry}
 use Rattle.sh_history.specs.declared.entry.Entry.TheVariants.{Insert, Got, Gone, Crowded, Removed, Released}
-use Rattle.sh_local.specs.Groups.{key_of, entries_in, IsWithin, renamed, IsOneToOne}
-use Rattle.sh_local.proofs.Chosen.{never}
-use Rattle.sh_local.proofs.Groups.{one_history_of_all}
-use Rattle.sh_local.proofs.Renaming.{keys_may_be_renamed}
+use Rattle.history_local.specs.Groups.{key_of, entries_in, IsWithin, renamed, IsOneToOne}
+use Rattle.history_local.proofs.Chosen.{never}
+use Rattle.history_local.proofs.Groups.{one_history_of_all}
+use Rattle.history_local.proofs.Renaming.{keys_may_be_renamed}
 use Rattle.sh_chunk.specs.Chunks.{with_chunk, chunk_of}
 use Rattle.sh_chunk.specs.Histories.{of_chunk, KeysFit, OneHistoryOfChunks}
 

@@ -3,7 +3,7 @@ use Rattle.std.specs.Prelude.{◌≡◌, ℕ, ◌^◌, ◌<◌, Bool, List, map}
 use Rattle.std.specs.List.{All}
 use Rattle.sh_history.specs.declared.entry.Entry.{Entry}
 use Rattle.sh_history.specs.History.{Legal}
-use Rattle.sh_local.specs.Groups.{key_of, entries_in, renamed}
+use Rattle.history_local.specs.Groups.{key_of, entries_in, renamed}
 use Rattle.sh_chunk.specs.Chunks.{with_chunk, chunk_of}
 
 -- the history of a chunk, on keys with the chunk's number above them

@@ -2,7 +2,7 @@
 #![tactic(auto)]
 
 pub mod chunked;
-pub mod law;
+pub mod laws;
 
 pub use chunked::{CHUNKS, Chunked};
-pub use law::{chunked_keys_fit, one_history_of_chunks};
+pub use laws::{chunked_keys_fit, one_history_of_chunks};

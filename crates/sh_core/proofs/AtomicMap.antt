@@ -8,7 +8,7 @@ use Rattle.sh_history.specs.declared.entry.Entry.{Entry}
 use Rattle.sh_history.specs.declared.entry.Entry.TheVariants.{Insert, Got, Gone, Crowded, Removed, Released}
 use Rattle.sh_history.specs.History.{value_of, is_removed, present_value, Allowed, Legal}
 use Rattle.sh_history.proofs.Laws.{legal_after_parts}
-use Rattle.sh_slots.specs.declared.hand.Name.{Name}
+use Rattle.sh_slots.specs.declared.hand.KeyRef.{KeyRef}
 use Rattle.sh_slots.specs.Slots.{live_at, has_room, published_name}
 use Rattle.sh_slots.specs.declared.reply.Reply.{Reply}
 use Rattle.sh_slots.specs.declared.reply.Reply.TheVariants as reply
@@ -53,7 +53,7 @@ of_other true false now = refl
 of_other false true now = refl
 of_other false false now = refl
 
-module _ (plan : Plan) (w : World) (l : PutLists) (all : Refines plan w l) (k : ℕ) (n : Name)
+module _ (plan : Plan) (w : World) (l : PutLists) (all : Refines plan w l) (k : ℕ) (n : KeyRef)
     (names : plan.keys.unpack k ≡ Some n) where
   abbrev st : Fields
   st = fields_of (w.words.state_at n.page n.slot)
@@ -63,7 +63,7 @@ module _ (plan : Plan) (w : World) (l : PutLists) (all : Refines plan w l) (k : 
 
   shown : map_of plan w.words k
       ≡ cond (live_at n.generation (w.words.state_at n.page n.slot)) (Some (value_at w.words n.page n.slot)) None
-  shown = ap (λ (o : Option Name). elim o as (λ _. Option (List ℕ)) [
+  shown = ap (λ (o : Option KeyRef). elim o as (λ _. Option (List ℕ)) [
     | Some x ↦ cond (live_at x.generation (w.words.state_at x.page x.slot)) (Some (value_at w.words x.page x.slot)) None
     | None ↦ None
   ]) names
@@ -130,7 +130,7 @@ entry_keeps_key a v (reply.Removed k) = refl
 entry_keeps_key a v (reply.Released k) = refl
 
 IsNamed : Plan → ℕ → Type 0
-IsNamed plan k = (x : Name) × (plan.keys.unpack k ≡ Some x)
+IsNamed plan k = (x : KeyRef) × (plan.keys.unpack k ≡ Some x)
 
 -- for each move that replies
 named_reply : (plan : Plan) (w : World) (l : PutLists) → Refines plan w l → (a : ℕ) (p : Body) (m : Move)
@@ -141,7 +141,7 @@ named_reply plan w l all a p (move.EnterGet k x) at may has r is =
     go (live_at x.generation (w.words.state_at x.page x.slot))
     (has_room plan.keys.guard_max (w.words.state_at x.page x.slot)) is where
       go : (b c : Bool) → Some (cond b (cond c (reply.Got k) (reply.Crowded k)) (reply.Gone k)) ≡ Some r
-          → (x : Name) × (plan.keys.unpack (reply_key r) ≡ Some x)
+          → (x : KeyRef) × (plan.keys.unpack (reply_key r) ≡ Some x)
       go true true e = let s : reply.Got k ≡ r = cc in
           (x, subst (λ z. plan.keys.unpack (reply_key z) ≡ Some x) s may.1.unpacks)
       go true false e = let s : reply.Crowded k ≡ r = cc in
@@ -151,14 +151,14 @@ named_reply plan w l all a p (move.EnterGet k x) at may has r is =
 named_reply plan w l all a p (move.EnterRemove k x) at may has r is =
     go (live_at x.generation (w.words.state_at x.page x.slot)) is where
       go : (b : Bool) → cond b None (Some (reply.Gone k)) ≡ Some r
-          → (x : Name) × (plan.keys.unpack (reply_key r) ≡ Some x)
+          → (x : KeyRef) × (plan.keys.unpack (reply_key r) ≡ Some x)
       go true e = absurd (let z : None ≡ Some r = e in cc)
       go false e = let s : reply.Gone k ≡ r = cc in
           (x, subst (λ z. plan.keys.unpack (reply_key z) ≡ Some x) s may.1.unpacks)
 named_reply plan w l all a p (move.Mark k x) at may has r is =
     go (fields_of (w.words.state_at x.page x.slot)).marked is where
       go : (b : Bool) → Some (cond b (reply.Gone k) (reply.Removed k)) ≡ Some r
-          → (x : Name) × (plan.keys.unpack (reply_key r) ≡ Some x)
+          → (x : KeyRef) × (plan.keys.unpack (reply_key r) ≡ Some x)
       go true e = let s : reply.Gone k ≡ r = cc in
           (x, subst (λ z. plan.keys.unpack (reply_key z) ≡ Some x) s may.1.unpacks)
       go false e = let s : reply.Removed k ≡ r = cc in
@@ -209,13 +209,13 @@ made_none (Crowded a k) m j none other = none
 made_none (Released a k) m j none other = none
 
 unnamed : (plan : Plan) (w : World) (k : ℕ) → plan.keys.unpack k ≡ None → map_of plan w.words k ≡ None
-unnamed plan w k is = ap (λ (o : Option Name). elim o as (λ _. Option (List ℕ)) [
+unnamed plan w k is = ap (λ (o : Option KeyRef). elim o as (λ _. Option (List ℕ)) [
   | Some x ↦ cond (live_at x.generation (w.words.state_at x.page x.slot)) (Some (value_at w.words x.page x.slot)) None
   | None ↦ None
 ]) is
 
 -- a key that was not issued was not removed
-not_removed : (plan : Plan) (w : World) (l : PutLists) → Refines plan w l → (k : ℕ) (n : Name)
+not_removed : (plan : Plan) (w : World) (l : PutLists) → Refines plan w l → (k : ℕ) (n : KeyRef)
     → plan.keys.unpack k ≡ Some n → value_of w.log k ≡ None → is_removed w.log k ≡ false
 not_removed plan w l all k n names none =
     go ((fields_of (w.words.state_at n.page n.slot)).generation == n.generation) refl where
@@ -263,7 +263,7 @@ is_new plan w l all (Released a k) named may = tt
 words_same : (plan : Plan) (w v : World) (l j : PutLists) → Refines plan w l → Refines plan v j → v.log ≡ w.log
     → (k : ℕ) → map_of plan v.words k ≡ map_of plan w.words k
 words_same plan w v l j all one same k = go (plan.keys.unpack k) refl where
-  go : (o : Option Name) → plan.keys.unpack k ≡ o → map_of plan v.words k ≡ map_of plan w.words k
+  go : (o : Option KeyRef) → plan.keys.unpack k ≡ o → map_of plan v.words k ≡ map_of plan w.words k
   go None is = unnamed plan v k is ∙ sym (unnamed plan w k is)
   go (Some n) is = present_is plan v j one k n is ∙ (ap (λ log. present_value log k) same
       ∙ sym (present_is plan w l all k n is))
@@ -285,7 +285,7 @@ replied plan w v l j all one t named log = (
   new : IsNew w.log t
   new = is_new plan w l all t named may
 
-  each : (k : ℕ) (o : Option Name) → plan.keys.unpack k ≡ o
+  each : (k : ℕ) (o : Option KeyRef) → plan.keys.unpack k ≡ o
       → map_of plan v.words k ≡ made_by (map_of plan w.words) t k
   each k None is = unnamed plan v k is ∙ sym (made_none t (map_of plan w.words) k (unnamed plan w k is)
       (λ e. let z : None ≡ Some named.0 = sym is ∙ (ap plan.keys.unpack (sym e) ∙ named.1) in cc))
@@ -370,7 +370,7 @@ events_are_operations layout shape b c f es e =
 pub opens_empty : OpensEmpty
 unfolding run_from fields_of
 opens_empty layout shape k = go ((plan_of layout shape).keys.unpack k) where
-  go : (o : Option Name) → (elim o as (λ _. Option (List ℕ)) [
+  go : (o : Option KeyRef) → (elim o as (λ _. Option (List ℕ)) [
     | Some n ↦ cond (live_at n.generation ((open_world (plan_of layout shape)).words.state_at n.page n.slot))
         (Some (value_at (open_world (plan_of layout shape)).words n.page n.slot)) None
     | None ↦ None

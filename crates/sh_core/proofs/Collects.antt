@@ -8,8 +8,8 @@ use Rattle.sh_bell.specs.Bell.{top_of}
 use Rattle.sh_key.specs.Layout.{Layout, IsLayout}
 use Rattle.sh_shape.specs.Shape.{Numbers, IsShape, Fits}
 use Rattle.sh_slots.specs.declared.hand.Hand.TheVariants.{Idle}
-use Rattle.sh_slots.specs.declared.hand.Spot.{Spot}
-use Rattle.sh_slots.specs.Slots.{spots}
+use Rattle.sh_slots.specs.declared.hand.SlotRef.{SlotRef}
+use Rattle.sh_slots.specs.Slots.{slot_refs}
 use Rattle.sh_step.specs.declared.action.Action.TheVariants.{Take, Follow}
 use Rattle.sh_step.specs.declared.action.Event.{Event}
 use Rattle.sh_step.specs.declared.body.Body.{Body}
@@ -28,7 +28,7 @@ use Rattle.sh_core.specs.Lists.{no_lists}
 use Rattle.sh_core.specs.Lists.{accounts, slots_under}
 use Rattle.sh_core.specs.Quiet.{Quiet, NothingQueued, CollectingFindsAll}
 use Rattle.sh_core.specs.Refines.{Refines}
-use Rattle.sh_core.specs.Stacks.{top, link_to, spot, ties_of}
+use Rattle.sh_core.specs.Stacks.{top, link_to, slot_ref, ties_of}
 use Rattle.sh_core.specs.Words.{read}
 use Rattle.sh_core.specs.Worlds.{World, apply, run, run_from, step, open_world}
 use Rattle.sh_core.proofs.Clauses.RunTheorem.{theorem}
@@ -136,10 +136,10 @@ module _ (plan : Plan) (w : World) (l : PutLists) (all : Refines plan w l) (quie
       (cond (w.words.link_at q s == 0) l (chain_followed l q)) a q rest
   unfolding apply
   follows s rest none some may =
-      let free : total (ties_of (spot q s)) w.parts ≡ 0 = none_of (ties_of (spot q s)) w.parts
+      let free : total (ties_of (slot_ref q s)) w.parts ≡ 0 = none_of (ties_of (slot_ref q s)) w.parts
       (λ b u has. rw (quiet b u has) refl) in
-      let on : LinksOn (w.words.link_at q) (λ t. total (ties_of (spot q t)) w.parts) (s ∷ rest) = subst
-      (LinksOn (w.words.link_at q) (λ t. total (ties_of (spot q t)) w.parts)) some (all.links.chain q) in
+      let on : LinksOn (w.words.link_at q) (λ t. total (ties_of (slot_ref q t)) w.parts) (s ∷ rest) = subst
+      (LinksOn (w.words.link_at q) (λ t. total (ties_of (slot_ref q t)) w.parts)) some (all.links.chain q) in
       let is : w.words.link_at q s ≡ link_to rest = ⊎_elim
       (λ h. let one = h.1 in absurd (omega (arith, one, free))) (λ h. h.0) on.0 in
       let not_0 : (w.words.link_at q s == 0) ≡ false = ap (λ n. n == 0) is ∙ written rest in
@@ -207,7 +207,7 @@ module _ (layout : Layout) (shape : Numbers) (is_layout : IsLayout layout) (is_s
       subst (λ (ds : List Event). Collecting plan (run plan ds) (lists_of plan ds) a q [])
       (append_assoc es (e ∷ []) (replicate (length rest) e)) done
 
-none_among : (f : Spot → ℕ) → ((x : Spot) → f x ≡ 0) → (xs : List Spot) → total f xs ≡ 0
+none_among : (f : SlotRef → ℕ) → ((x : SlotRef) → f x ≡ 0) → (xs : List SlotRef) → total f xs ≡ 0
 unfolding total
 none_among f none [] = refl
 none_among f none (x ∷ xs) = let here = none x in let rest = none_among f none xs in omega arith
@@ -222,7 +222,7 @@ nothing_queued plan w l a q all now = record {
   queued = none_among (λ x. times x.slot (l.stack q) + times x.slot (l.chain q))
       (λ x. let s : times x.slot (l.stack q) ≡ 0 = ap (times x.slot) now.stack in
       let c : times x.slot (l.chain q) ≡ 0 = ap (times x.slot) now.chain in omega arith)
-      (spots q 0 (slots_under (w.words.class_at q)));
+      (slot_refs q 0 (slots_under (w.words.class_at q)));
   mine = λ x on empty.
       let one = (loses_nothing plan w l all now.quiet).none_lost x empty in
       let s : times x.slot (l.stack x.page) ≡ 0 = ap (λ r. times x.slot (l.stack r)) on ∙ ap (times x.slot) now.stack in

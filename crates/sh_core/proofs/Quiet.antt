@@ -3,13 +3,13 @@ use Rattle.std.proofs.Common.{◌≡◌, ℕ, zero, suc, ◌+◌, ◌-◌, ◌�
 use Rattle.std.proofs.Common.{◌∷◌, refl, ap, sym, ◌∙◌, subst, arith, length, Some, None, slice_get}
 use Rattle.std.specs.Prelude.{option_map}
 use Rattle.std.proofs.lemmas.Bool.Decides.{nat_tests}
-use Rattle.sh_slots.specs.declared.hand.Spot.{Spot}
+use Rattle.sh_slots.specs.declared.hand.SlotRef.{SlotRef}
 use Rattle.sh_step.specs.declared.body.Body.{Body}
 use Rattle.sh_step.specs.Collections.{total}
 use Rattle.sh_step.specs.Plans.{Plan, plan_of, home}
 use Rattle.sh_core.specs.Worlds.{World, run}
 use Rattle.sh_core.specs.Lists.{PutLists, times, lists_of, in_hand}
-use Rattle.sh_core.specs.Stacks.{top, link_to, first_is, spot, ties_of}
+use Rattle.sh_core.specs.Stacks.{top, link_to, first_is, slot_ref, ties_of}
 use Rattle.sh_core.specs.LinkWords.{LinksOn}
 use Rattle.sh_core.specs.Refines.{in_hands, Refines}
 use Rattle.sh_core.specs.Quiet.{Quiet, walked, WordsLead, NoneLost, LeftIsOnStacks, LosesNothing}
@@ -57,19 +57,19 @@ leads link tied (s ∷ xs) on free (suc n) few =
     subst (λ t. walked link (suc n) t ≡ Some (s ∷ xs)) is first
 
 module _ (plan : Plan) (w : World) (l : PutLists) (all : Refines plan w l) (quiet : Quiet w) where
-  no_ties_now : (q s : ℕ) → total (ties_of (spot q s)) w.parts ≡ 0
-  no_ties_now q s = none_of (ties_of (spot q s)) w.parts (λ a p at. rw (quiet a p at) refl)
+  no_ties_now : (q s : ℕ) → total (ties_of (slot_ref q s)) w.parts ≡ 0
+  no_ties_now q s = none_of (ties_of (slot_ref q s)) w.parts (λ a p at. rw (quiet a p at) refl)
 
-  no_hands_now : (x : Spot) → in_hands w x ≡ 0
+  no_hands_now : (x : SlotRef) → in_hands w x ≡ 0
   no_hands_now x = none_of (in_hand x) w.parts (λ a p at. rw (quiet a p at) refl)
 
   lead : WordsLead w l
   lead = record {
     stack = λ q n few. subst (λ (t : ℕ). walked (w.words.link_at q) n t ≡ Some (l.stack q))
         (sym (all.linked.0.tops q))
-        (leads (w.words.link_at q) (λ s. total (ties_of (spot q s)) w.parts) (l.stack q) (all.links.stack q)
+        (leads (w.words.link_at q) (λ s. total (ties_of (slot_ref q s)) w.parts) (l.stack q) (all.links.stack q)
         (no_ties_now q) n few);
-    chain = λ q n few. leads (w.words.link_at q) (λ s. total (ties_of (spot q s)) w.parts) (l.chain q)
+    chain = λ q n few. leads (w.words.link_at q) (λ s. total (ties_of (slot_ref q s)) w.parts) (l.chain q)
         (all.links.chain q) (no_ties_now q) n few;
     cursor = all.linked.0.cursors;
   }

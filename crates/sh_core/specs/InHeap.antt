@@ -9,11 +9,11 @@ use Rattle.sh_shape.specs.declared.places.Place.TheVariants.{Bell}
 use Rattle.sh_slots.specs.declared.hand.Hand.{Hand}
 use Rattle.sh_slots.specs.declared.hand.Hand.TheVariants.{Removing, Leaving, Finishing, ToPut, Tying, Ringing}
 use Rattle.sh_slots.specs.declared.hand.Hand.TheVariants.{RingTying, Filling}
-use Rattle.sh_slots.specs.declared.hand.Name.{Name}
-use Rattle.sh_slots.specs.declared.hand.Spot.{Spot}
+use Rattle.sh_slots.specs.declared.hand.KeyRef.{KeyRef}
+use Rattle.sh_slots.specs.declared.hand.SlotRef.{SlotRef}
 use Rattle.sh_step.specs.declared.action.Action.{Action}
 use Rattle.sh_step.specs.declared.body.Body.{Body}
-use Rattle.sh_step.specs.Conditions.{Named, SpotWithin}
+use Rattle.sh_step.specs.Conditions.{Named, SlotWithin}
 use Rattle.sh_step.specs.Plans.{Plan, plan_of, heap_pages}
 use Rattle.sh_step.specs.Moves.{row}
 use Rattle.sh_step.specs.Rows.{Row}
@@ -30,14 +30,14 @@ use Rattle.sh_core.specs.Lists.{times}
 -- The key in the hand names a slot of the heap. A slot or page in the hand is one of the heap. A generation that the
 -- hand ends is at most the last one
 abbrev pub HandWithin : Plan → Hand → Type 0
-HandWithin plan (Removing k) = (x : Name) × Named plan k x
-HandWithin plan (Leaving x) = SpotWithin plan x
-HandWithin plan (Finishing x g) = SpotWithin plan x × (g ≤ plan.keys.gen_max)
-HandWithin plan (ToPut x) = SpotWithin plan x
-HandWithin plan (Tying x l r) = SpotWithin plan x
+HandWithin plan (Removing k) = (x : KeyRef) × Named plan k x
+HandWithin plan (Leaving x) = SlotWithin plan x
+HandWithin plan (Finishing x g) = SlotWithin plan x × (g ≤ plan.keys.gen_max)
+HandWithin plan (ToPut x) = SlotWithin plan x
+HandWithin plan (Tying x l r) = SlotWithin plan x
 HandWithin plan (Ringing q) = q < heap_pages plan
 HandWithin plan (RingTying q l) = q < heap_pages plan
-HandWithin plan (Filling x v i) = SpotWithin plan x
+HandWithin plan (Filling x v i) = SlotWithin plan x
 HandWithin plan _ = Unit {0}
 
 -- the hand, the pass's own shard and its armed pages are within the heap
@@ -107,7 +107,7 @@ BellsAreSmall plan w = ((n : ℕ) → w.words.bell_at n ≤ heap_pages plan)
 
 -- a slot with a value is one of its page's class, and the value is no longer than the class allows
 abbrev pub ValuesFit : Plan → World → Type 0
-ValuesFit plan w = (x : Spot) → ((fields_of (w.words.state_at x.page x.slot)).present ||
+ValuesFit plan w = (x : SlotRef) → ((fields_of (w.words.state_at x.page x.slot)).present ||
     (fields_of (w.words.state_at x.page x.slot)).marked) ≡ true
     → (0 < w.words.class_at x.page) × (w.words.class_at x.page ≤ class_count) × (x.page < heap_pages plan)
     × (x.slot < slots (w.words.class_at x.page - 1)) × (w.words.length_at x.page x.slot ≤ width

@@ -8,7 +8,7 @@ use Rattle.sh_shape.specs.declared.places.Place.TheVariants.{Class, State, Lengt
 use Rattle.sh_shape.specs.Classes.{class_count, width, slots}
 use Rattle.sh_shape.specs.Shape.{Numbers, IsShape, Fits}
 use Rattle.sh_shape.specs.Places.{IsPlace, number, words_of, all_pages}
-use Rattle.sh_slots.specs.declared.hand.Spot.{Spot}
+use Rattle.sh_slots.specs.declared.hand.SlotRef.{SlotRef}
 use Rattle.sh_slots.specs.declared.reply.Reply.TheVariants.{Got}
 use Rattle.sh_step.specs.Operations.{operate}
 use Rattle.sh_step.specs.Parts.{ListGrows}
@@ -45,11 +45,11 @@ word_at shape list place = get_or list (number shape place) 0
 
 -- The value in a slot's words. `SlotHasValue` says that there is one: the slot is one of its page's class, and the
 -- value is no longer than the class allows
-abbrev pub value_in : Numbers → List ℕ → Spot → List ℕ
+abbrev pub value_in : Numbers → List ℕ → SlotRef → List ℕ
 value_in shape list x = words_from (λ i. word_at shape list (Payload x.page i))
     (x.slot * width (word_at shape list (Class x.page) - 1)) (word_at shape list (Length x.page x.slot))
 
-pub record SlotHasValue (shape : Numbers) (list : List ℕ) (x : Spot) : Type 0 where
+pub record SlotHasValue (shape : Numbers) (list : List ℕ) (x : SlotRef) : Type 0 where
   pub page : x.page < all_pages shape
   pub has_class : 0 < word_at shape list (Class x.page)
   pub is_class : word_at shape list (Class x.page) ≤ class_count

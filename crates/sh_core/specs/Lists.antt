@@ -5,13 +5,13 @@ use Rattle.sh_step.specs.declared.action.Action.{Action}
 use Rattle.sh_step.specs.declared.action.Action.TheVariants.{Take, Follow, Put, PutSlot, Arm, Ring, TakeBell}
 use Rattle.sh_step.specs.declared.action.Action.TheVariants.{FollowBell}
 use Rattle.sh_slots.specs.declared.hand.Hand.TheVariants.{ToPut, Filling, Ringing}
-use Rattle.sh_slots.specs.declared.hand.Spot.{Spot}
+use Rattle.sh_slots.specs.declared.hand.SlotRef.{SlotRef}
 use Rattle.sh_core.specs.declared.accounts.Accounts.{Accounts}
 use Rattle.sh_core.specs.Words.{put, read}
 use Rattle.sh_word.specs.Fields.{Fields, fields_of}
 use Rattle.sh_step.specs.Plans.{Plan, page_of, slot_of, home}
 use Rattle.sh_shape.specs.Classes.{slots}
-use Rattle.sh_slots.specs.Slots.{same_spot, spots}
+use Rattle.sh_slots.specs.Slots.{same_slot, slot_refs}
 use Rattle.sh_step.specs.Collections.{total, if1}
 use Rattle.sh_step.specs.declared.body.Body.{Body}
 use Rattle.sh_step.specs.Moves.{row}
@@ -25,7 +25,7 @@ pub record PutLists : Type 0 where
   pub bells : ℕ → List ℕ
   pub bell_chain : ℕ → List ℕ
 
-abbrev pub pushed : PutLists → Spot → PutLists
+abbrev pub pushed : PutLists → SlotRef → PutLists
 pushed l x = record l { stack = put l.stack x.page (x.slot ∷ l.stack x.page) }
 
 abbrev pub taken : PutLists → ℕ → PutLists
@@ -74,20 +74,20 @@ abbrev pub lists_of : Plan → List Event → PutLists
 lists_of plan es = lists_from plan (open_world plan) no_lists es
 
 -- how often `mine` has the slot; `in_hand` is 1 if the hand has it to put or to fill
-abbrev pub mine_at : Spot → Body → ℕ
-mine_at x p = total (λ y. if1 (same_spot x y)) p.mine
+abbrev pub mine_at : SlotRef → Body → ℕ
+mine_at x p = total (λ y. if1 (same_slot x y)) p.mine
 
-abbrev pub in_hand : Spot → Body → ℕ
-in_hand x p = elim (p.hand) [ ToPut y ↦ if1 (same_spot x y) | Filling y v n ↦ if1 (same_spot x y) | _ ↦ 0 ]
+abbrev pub in_hand : SlotRef → Body → ℕ
+in_hand x p = elim (p.hand) [ ToPut y ↦ if1 (same_slot x y) | Filling y v n ↦ if1 (same_slot x y) | _ ↦ 0 ]
 
 abbrev pub times : ℕ → List ℕ → ℕ
 times s xs = total (λ y. if1 (y == s)) xs
 
 -- the sum of f over the first n slots of page q
-abbrev pub among : ℕ → (Spot → ℕ) → ℕ → ℕ
-among q f n = total f (spots q 0 n)
+abbrev pub among : ℕ → (SlotRef → ℕ) → ℕ → ℕ
+among q f n = total f (slot_refs q 0 n)
 
-abbrev pub state_of : World → Spot → Fields
+abbrev pub state_of : World → SlotRef → Fields
 state_of w x = fields_of (w.words.state_at x.page x.slot)
 
 -- the class that a class word names, and the number of slots of a page with that class word

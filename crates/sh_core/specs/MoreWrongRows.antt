@@ -4,7 +4,7 @@ use Rattle.std.specs.Bool.{then_some}
 use Rattle.sh_shape.specs.declared.places.Place.TheVariants.{Head, Link}
 use Rattle.sh_slots.specs.declared.hand.Hand.TheVariants.{Leaving, Finishing, RingTying, Ringing, Filling}
 use Rattle.sh_slots.specs.declared.reply.Reply.TheVariants as reply
-use Rattle.sh_slots.specs.Slots.{spot_of, name_at, after_drop, marked_word, reusable_word, retired_word}
+use Rattle.sh_slots.specs.Slots.{slot_ref_of, name_at, after_drop, marked_word, reusable_word, retired_word}
 use Rattle.sh_step.specs.declared.action.Action.TheVariants.{EnterGet, EnterRemove, Drop, DropHold, Finish, FillSlot}
 use Rattle.sh_step.specs.declared.action.Action.TheVariants.{Publish, ReadClass, ReadLength, Adopt, Leave, Ring, RingTie}
 use Rattle.sh_step.specs.declared.operation.Operation.TheVariants.{Swap, Store, CompareExchange, Load}
@@ -65,7 +65,7 @@ publishes_next plan p x = row plan p x
 -- a hold remains although it was released
 unfoldable pub keeps_hold : Table
 keeps_hold plan p (DropHold k) = named plan k (λ x. then_some (idle p && has (λ j. j == k) p.holds)
-    (record (drop_key p k x) { part = λ n. hand p (after_drop (spot_of x) n) }))
+    (record (drop_key p k x) { part = λ n. hand p (after_drop (slot_ref_of x) n) }))
 keeps_hold plan p x = row plan p x
 
 -- a slot is filled that is not the pass's to fill

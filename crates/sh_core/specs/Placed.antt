@@ -1,17 +1,17 @@
 -- What is kept of words and of owners' notes, besides the slots.
 use Rattle.std.specs.Prelude.{ℕ, ◌-◌, ◌/◌, ◌≡◌, ◌<◌, ◌≤◌, ◌==◌, ◌&&◌, ◌||◌, true, false, List, Option, Some, None}
 use Rattle.std.specs.Prelude.{slice_get}
-use Rattle.sh_slots.specs.declared.hand.Spot.{Spot}
+use Rattle.sh_slots.specs.declared.hand.SlotRef.{SlotRef}
 use Rattle.sh_core.specs.Words.{Words}
 use Rattle.sh_word.specs.Fields.{fields_of}
 use Rattle.sh_step.specs.Plans.{Plan, heap_pages}
 use Rattle.sh_shape.specs.Classes.{class_count, width}
-use Rattle.sh_slots.specs.Slots.{same_spot}
+use Rattle.sh_slots.specs.Slots.{same_slot}
 use Rattle.sh_step.specs.Collections.{total, if1, noted}
 use Rattle.sh_step.specs.declared.body.Body.{Body}
 use Rattle.sh_step.specs.Rows.{owned_by}
 use Rattle.sh_core.specs.Lists.{PutLists, times}
-use Rattle.sh_core.specs.Stacks.{Chains, spot, tying, ties_of, cursor_at, ring_tying, ring_ties, bell_cursor_at}
+use Rattle.sh_core.specs.Stacks.{Chains, slot_ref, tying, ties_of, cursor_at, ring_tying, ring_ties, bell_cursor_at}
 use Rattle.sh_core.specs.Stacks.{bell_link, bell_head}
 use Rattle.sh_core.specs.Bells.{Owned, Duty}
 use Rattle.sh_core.specs.Worlds.{World}
@@ -26,9 +26,9 @@ pub record Bounds (plan : Plan) (class : ℕ → ℕ) (state length : ℕ → �
       → length q s ≤ width (class q - 1)
 
 -- what an owner notes is about its own shard, and true
-pub record OwnNotes (plan : Plan) (class : ℕ → ℕ) (owned : Option ℕ) (classes : List (ℕ × ℕ)) (mine : List Spot)
+pub record OwnNotes (plan : Plan) (class : ℕ → ℕ) (owned : Option ℕ) (classes : List (ℕ × ℕ)) (mine : List SlotRef)
     (cursors : List (ℕ × ℕ)) (armed : List ℕ) (bell_cursor : Option ℕ) : Type 0 where
-  pub mines : (x : Spot) → owned_by plan owned x.page ≡ false → total (λ y. if1 (same_spot x y)) mine ≡ 0
+  pub mines : (x : SlotRef) → owned_by plan owned x.page ≡ false → total (λ y. if1 (same_slot x y)) mine ≡ 0
   pub points : (q s : ℕ) → owned_by plan owned q ≡ false → total (λ (c : ℕ × ℕ). if1 ((c.0 == q) && (c.1 == s))) cursors
       ≡ 0
   pub arms : (q : ℕ) → owned_by plan owned q ≡ false → times q armed ≡ 0
@@ -42,7 +42,7 @@ OwnNotesOf plan class p = OwnNotes plan class p.owned p.classes p.mine p.cursors
 -- what is kept of lists, bells, duties, owners
 pub record ListsAgree (plan : Plan) (class head page_link bell owner : ℕ → ℕ) (link : ℕ → ℕ → ℕ) (ps : List Body)
     (l : PutLists) : Type 0 where
-  pub stacks : Chains (λ q. head q / 2) link (λ q s. total (tying (spot q s)) ps) (λ q s. total (ties_of (spot q s)) ps)
+  pub stacks : Chains (λ q. head q / 2) link (λ q s. total (tying (slot_ref q s)) ps) (λ q s. total (ties_of (slot_ref q s)) ps)
       (λ q s. total (cursor_at q s) ps) l.stack l.chain
   pub bells : Chains (bell_head plan bell) (bell_link plan page_link) (λ n q. total (ring_tying plan n q) ps)
       (λ n q. total (ring_ties plan n q) ps) (λ n q. total (bell_cursor_at n q) ps) l.bells l.bell_chain

@@ -4,7 +4,7 @@ use Rattle.std.specs.Prelude.{ℕ, zero, suc, ◌+◌, ◌-◌, ◌/◌, ◌≡�
 use Rattle.std.specs.Prelude.{length}
 use Rattle.std.specs.Prelude.{◌++◌, Option, Some, None, option_map, slice_get, replicate}
 use Rattle.sh_slots.specs.declared.hand.Hand.TheVariants.{Idle}
-use Rattle.sh_slots.specs.declared.hand.Spot.{Spot}
+use Rattle.sh_slots.specs.declared.hand.SlotRef.{SlotRef}
 use Rattle.sh_shape.specs.Classes.{slots}
 use Rattle.sh_key.specs.Layout.{Layout, IsLayout}
 use Rattle.sh_shape.specs.Shape.{Numbers, IsShape, Fits}
@@ -41,7 +41,7 @@ pub record WordsLead (w : World) (l : PutLists) : Type 0 where
   pub cursor : (q s : ℕ) → total (cursor_at q s) w.parts ≡ first_is (l.chain q) s
 
 -- the slot is one of its page's class, and empty
-pub record IsEmptySlot (w : World) (x : Spot) : Type 0 where
+pub record IsEmptySlot (w : World) (x : SlotRef) : Type 0 where
   pub class : ℕ
   pub classed : w.words.class_at x.page ≡ class + 1
   pub below : x.slot < slots class
@@ -49,12 +49,12 @@ pub record IsEmptySlot (w : World) (x : Spot) : Type 0 where
 
 -- each empty slot is in one of these, and there once: the `mine` of a pass's part, or its page's stack or chain list
 abbrev pub NoneLost : World → PutLists → Type 0
-NoneLost w l = (x : Spot) → IsEmptySlot w x
+NoneLost w l = (x : SlotRef) → IsEmptySlot w x
     → mine w x + times x.slot (l.stack x.page) + times x.slot (l.chain x.page) ≡ 1
 
 -- each empty slot of a shard without an owner is in its page's stack list, once
 abbrev pub LeftIsOnStacks : Plan → World → PutLists → Type 0
-LeftIsOnStacks plan w l = (x : Spot) → IsEmptySlot w x → w.words.owner_at (home plan x.page) ≡ 0
+LeftIsOnStacks plan w l = (x : SlotRef) → IsEmptySlot w x → w.words.owner_at (home plan x.page) ≡ 0
     → times x.slot (l.stack x.page) ≡ 1
 
 pub record LosesNothing (plan : Plan) (w : World) (l : PutLists) : Type 0 where
@@ -80,7 +80,7 @@ pub record NothingQueued (w : World) (l : PutLists) (q : ℕ) : Type 0 where
   pub stack : l.stack q ≡ []
   pub chain : l.chain q ≡ []
   pub queued : (accounts w l q).queued ≡ 0
-  pub mine : (x : Spot) → x.page ≡ q → IsEmptySlot w x → mine w x ≡ 1
+  pub mine : (x : SlotRef) → x.page ≡ q → IsEmptySlot w x → mine w x ≡ 1
 
 -- If no pass has begun anything, a pass that may take a page's stack collects all of it. It does one follow for each
 -- slot of the stack list, and each follow meets a written link

@@ -2,8 +2,8 @@
 use Rattle.std.specs.Prelude.{IsSome, ℕ, ◌+◌, ◌-◌, ◌*◌, ◌/◌, ◌%◌, ◌≡◌, ◌≢◌, ◌<◌, ◌≤◌, true, false, nat_lt, not, ◌&&◌}
 use Rattle.std.specs.Prelude.{◌||◌, List, [], Some, None, All, length, slice_get, slice_index}
 use Rattle.sh_step.specs.declared.action.Event.{Event}
-use Rattle.sh_slots.specs.declared.hand.Spot.{Spot}
-use Rattle.sh_slots.specs.declared.hand.Name.{Name}
+use Rattle.sh_slots.specs.declared.hand.SlotRef.{SlotRef}
+use Rattle.sh_slots.specs.declared.hand.KeyRef.{KeyRef}
 use Rattle.sh_word.specs.Fields.{Fields}
 use Rattle.sh_key.specs.Layout.{Layout, IsLayout}
 use Rattle.sh_shape.specs.Shape.{Numbers, IsShape, Fits}
@@ -17,18 +17,18 @@ use Rattle.sh_slots.specs.declared.hand.Hand.TheVariants.{Idle, Filling}
 use Rattle.sh_slots.specs.Slots.{name_at}
 use Rattle.sh_step.specs.Plans.{plan_of, Plan, heap_pages, home}
 use Rattle.sh_shape.specs.Classes.{class_count, slots, width}
-use Rattle.sh_slots.specs.Slots.{spot_of}
+use Rattle.sh_slots.specs.Slots.{slot_ref_of}
 use Rattle.sh_step.specs.Collections.{total, if1, noted}
 use Rattle.sh_step.specs.declared.body.Body.{Body}
 use Rattle.sh_core.specs.Worlds.{World, run, value_at}
 use Rattle.sh_core.specs.Lists.{PutLists, accounts, lists_of, slots_under, times, mine_at, in_hand, state_of}
 use Rattle.sh_core.specs.LinkWords.{EachLinked}
-use Rattle.sh_core.specs.Tallies.{at_spot, current, visits, finishing}
+use Rattle.sh_core.specs.Tallies.{at_slot, current, visits, finishing}
 use Rattle.sh_history.specs.declared.entry.Entry.{Entry}
 use Rattle.sh_history.specs.History.{Legal, value_of, is_removed, got_count, released_count, got_count_by}
 use Rattle.sh_history.specs.History.{released_count_by}
 use Rattle.sh_history.specs.Log.{pass_of}
-use Rattle.sh_core.specs.Stacks.{Chains, spot, tying, ties_of, cursor_at, ring_tying, ring_ties, bell_cursor_at}
+use Rattle.sh_core.specs.Stacks.{Chains, slot_ref, tying, ties_of, cursor_at, ring_tying, ring_ties, bell_cursor_at}
 use Rattle.sh_core.specs.Stacks.{bell_link, bell_head}
 use Rattle.sh_core.specs.Bells.{rings, armed_at}
 
@@ -42,29 +42,29 @@ marked st = if1 (st.present && st.marked)
 abbrev pub retired : Fields → ℕ
 retired st = if1 (not st.present && st.marked)
 
-abbrev pub mine : World → Spot → ℕ
+abbrev pub mine : World → SlotRef → ℕ
 mine w x = total (mine_at x) w.parts
 
-abbrev pub in_hands : World → Spot → ℕ
+abbrev pub in_hands : World → SlotRef → ℕ
 in_hands w x = total (in_hand x) w.parts
 
-abbrev pub queued_at : PutLists → Spot → ℕ
+abbrev pub queued_at : PutLists → SlotRef → ℕ
 queued_at l x = times x.slot (l.stack x.page) + times x.slot (l.chain x.page)
 
 -- how often the six kinds count a slot, in all
-abbrev pub kind_count : World → PutLists → Spot → ℕ
+abbrev pub kind_count : World → PutLists → SlotRef → ℕ
 kind_count w l x = live (state_of w x) + marked (state_of w x) + retired (state_of w x) + mine w x + in_hands w x +
     queued_at l x
 
 -- a slot of its page's class has one kind, and only one; another has none
 abbrev pub OneKind : World → PutLists → Type 0
-OneKind w l = (x : Spot) (c : ℕ) → w.words.class_at x.page ≡ c + 1
+OneKind w l = (x : SlotRef) (c : ℕ) → w.words.class_at x.page ≡ c + 1
     → (x.slot < slots c → kind_count w l x ≡ 1) × (slots c ≤ x.slot → kind_count w l x ≡ 0)
 
--- the same as one equation for every spot: 1 below the slots of the page's class, otherwise 0; a blank page has no
+-- the same as one equation for every slot: 1 below the slots of the page's class, otherwise 0; a blank page has no
 -- slots
 abbrev pub KindsAddUp : World → PutLists → Type 0
-KindsAddUp w l = (x : Spot) → kind_count w l x ≡ if1 (nat_lt x.slot (slots_under (w.words.class_at x.page)))
+KindsAddUp w l = (x : SlotRef) → kind_count w l x ≡ if1 (nat_lt x.slot (slots_under (w.words.class_at x.page)))
 
 -- the accounts of a page add up to the slots of its class, and those of a blank page to 0
 abbrev pub Filled : World → PutLists → Type 0
@@ -79,12 +79,12 @@ ClassesAreKnown plan w = (q : ℕ) →
 -- while a pass holds k, k names a slot of the heap, which is present in k's generation, and its words are the value
 -- that k was issued with
 pub record KeyStands (plan : Plan) (w : World) (k : ℕ) : Type 0 where
-  pub name : Name
+  pub name : KeyRef
   pub unpacks : plan.keys.unpack k ≡ Some name
   pub page : name.page < heap_pages plan
   pub slot : name.slot < slot_places
-  pub present : (state_of w (spot_of name)).present ≡ true
-  pub generation : (state_of w (spot_of name)).generation ≡ name.generation
+  pub present : (state_of w (slot_ref_of name)).present ≡ true
+  pub generation : (state_of w (slot_ref_of name)).generation ≡ name.generation
   pub value : value_of w.log k ≡ Some (value_at w.words name.page name.slot)
 
 abbrev pub HeldStands : Plan → World → Type 0
@@ -92,7 +92,7 @@ HeldStands plan w = (a : ℕ) (p : Body) (k : ℕ) → slice_get w.parts a ≡ S
 
 -- a payload word that a pass may read of a key is one of the key's value, in its page
 abbrev pub ReadsWithin : Plan → World → Type 0
-ReadsWithin plan w = (a : ℕ) (p : Body) (k : ℕ) (n : Name) (c m i : ℕ) → slice_get w.parts a ≡ Some p
+ReadsWithin plan w = (a : ℕ) (p : Body) (k : ℕ) (n : KeyRef) (c m i : ℕ) → slice_get w.parts a ≡ Some p
     → plan.keys.unpack k ≡ Some n → noted k p.class_words ≡ Some c → noted k p.lengths ≡ Some m → i < m →
     (c ≡ w.words.class_at n.page) × (m ≡ w.words.length_at n.page n.slot)
     × (n.slot * width (c - 1) + i < payload_words)
@@ -101,7 +101,7 @@ ReadsWithin plan w = (a : ℕ) (p : Body) (k : ℕ) (n : Name) (c m i : ℕ) →
 -- length of its value, and words of the value
 pub record KeyNotes (plan : Plan) (w : World) (p : Body) : Type 0 where
   pub class_words : (k c : ℕ) → noted k p.class_words ≡ Some c → (0 < times k p.holds)
-      × ((n : Name) → plan.keys.unpack k ≡ Some n → w.words.class_at n.page ≡ c)
+      × ((n : KeyRef) → plan.keys.unpack k ≡ Some n → w.words.class_at n.page ≡ c)
   pub lengths : (k m : ℕ) → noted k p.lengths ≡ Some m → (0 < times k p.holds)
       × ((v : List ℕ) → value_of w.log k ≡ Some v → length v ≡ m)
   pub words : (j k i n : ℕ) → slice_get p.contents j ≡ Some (k, i, n) → (0 < times k p.holds)
@@ -111,29 +111,29 @@ abbrev pub NotesAreTrue : Plan → World → Type 0
 NotesAreTrue plan w = (a : ℕ) (p : Body) → slice_get w.parts a ≡ Some p → KeyNotes plan w p
 
 -- a slot's count is the number of holds on its present key and of passes that remove or leave there
-abbrev pub holds_now : Plan → Spot → Fields → Body → ℕ
-holds_now plan x st p = total (λ k. if1 (at_spot x (plan.keys.unpack k) && current st (plan.keys.unpack k))) p.holds
+abbrev pub holds_now : Plan → SlotRef → Fields → Body → ℕ
+holds_now plan x st p = total (λ k. if1 (at_slot x (plan.keys.unpack k) && current st (plan.keys.unpack k))) p.holds
 
 abbrev pub Counted : Plan → World → Type 0
-Counted plan w = (x : Spot) → (state_of w x).count ≡ total (holds_now plan x (state_of w x)) w.parts + total
+Counted plan w = (x : SlotRef) → (state_of w x).count ≡ total (holds_now plan x (state_of w x)) w.parts + total
     (visits plan x) w.parts
 
 -- holds on the present key are at most guard_max, and each pass may be on the slot once more for a moment
 abbrev pub CountIsFew : Plan → World → Type 0
-CountIsFew plan w = (x : Spot) → (state_of w x).count ≤ plan.keys.guard_max + length w.parts
+CountIsFew plan w = (x : SlotRef) → (state_of w x).count ≤ plan.keys.guard_max + length w.parts
 
 -- each generation of a slot below its present one was issued and removed
 abbrev pub PastIsRemoved : Plan → World → Type 0
-PastIsRemoved plan w = (k : ℕ) (n : Name) → plan.keys.unpack k ≡ Some n
-    → n.generation < (state_of w (spot_of n)).generation → IsSome (value_of w.log k) × (is_removed w.log k ≡ true)
+PastIsRemoved plan w = (k : ℕ) (n : KeyRef) → plan.keys.unpack k ≡ Some n
+    → n.generation < (state_of w (slot_ref_of n)).generation → IsSome (value_of w.log k) × (is_removed w.log k ≡ true)
 
 -- so a slot issues at most gen_max keys
 abbrev pub GenerationsEnd : Plan → World → Type 0
-GenerationsEnd plan w = (x : Spot) → (0 < (state_of w x).generation) × ((state_of w x).generation ≤ plan.keys.gen_max)
+GenerationsEnd plan w = (x : SlotRef) → (0 < (state_of w x).generation) × ((state_of w x).generation ≤ plan.keys.gen_max)
 
 -- if it is retired, its generation is the last one
 abbrev pub RetiredIsLast : Plan → World → Type 0
-RetiredIsLast plan w = (x : Spot) → (state_of w x).present ≡ false → (state_of w x).marked ≡ true
+RetiredIsLast plan w = (x : SlotRef) → (state_of w x).present ≡ false → (state_of w x).marked ≡ true
     → (state_of w x).generation ≡ plan.keys.gen_max
 
 -- What the log says of a key of generation g, at a slot in the state st whose words hold `now`. The key of the present
@@ -146,8 +146,8 @@ pub record KeyTold (log : List Entry) (k g : ℕ) (st : Fields) (now : List ℕ)
   pub later : st.generation < g → (value_of log k ≡ None) × (is_removed log k ≡ false)
 
 abbrev pub KeysAreTold : Plan → World → Type 0
-KeysAreTold plan w = (k : ℕ) (n : Name) → plan.keys.unpack k ≡ Some n
-    → KeyTold w.log k n.generation (state_of w (spot_of n)) (value_at w.words n.page n.slot)
+KeysAreTold plan w = (k : ℕ) (n : KeyRef) → plan.keys.unpack k ≡ Some n
+    → KeyTold w.log k n.generation (state_of w (slot_ref_of n)) (value_at w.words n.page n.slot)
 
 -- the Got entries of a key number its Released entries and its holds, for each pass and for all passes together
 pub record HoldsAreTold (w : World) : Type 0 where
@@ -161,7 +161,7 @@ EntriesAreOurs plan w = All (λ e. pass_of e < plan.passes) w.log
 
 -- a marked slot with count 0 has a pass that finishes it
 abbrev pub Finished : Plan → World → Type 0
-Finished plan w = (x : Spot) → (state_of w x).present ≡ true → (state_of w x).marked ≡ true → (state_of w x).count ≡ 0
+Finished plan w = (x : SlotRef) → (state_of w x).present ≡ true → (state_of w x).marked ≡ true → (state_of w x).count ≡ 0
     → 0 < total (finishing x (state_of w x).generation) w.parts
 
 -- an armed page has exactly one of these: its flag, a pass that must ring, a place on the bell or on the bell chain;
@@ -182,7 +182,7 @@ pub record OneOwner (w : World) : Type 0 where
 -- a shard without an owner has no cursor, no armed page and no slot in a pass's `mine`
 abbrev pub LeftEmpty : Plan → World → Type 0
 LeftEmpty plan w = (n : ℕ) → w.words.owner_at n ≡ 0
-    → ((x : Spot) → home plan x.page ≡ n → mine w x ≡ 0)
+    → ((x : SlotRef) → home plan x.page ≡ n → mine w x ≡ 0)
     × ((q s : ℕ) → home plan q ≡ n → total (cursor_at q s) w.parts ≡ 0)
     × ((q : ℕ) → home plan q ≡ n → total (armed_at q) w.parts ≡ 0)
 
@@ -195,8 +195,8 @@ ShardlessHaveNothing w = (a : ℕ) (p : Body) → slice_get w.parts a ≡ Some p
 -- rest. A head names the first of its stack, and a cursor is at the first of its chain
 abbrev pub Linked : Plan → World → PutLists → Type 0
 Linked plan w l =
-    Chains (λ q. w.words.head_at q / 2) w.words.link_at (λ q s. total (tying (spot q s)) w.parts)
-    (λ q s. total (ties_of (spot q s)) w.parts) (λ q s. total (cursor_at q s) w.parts) l.stack l.chain
+    Chains (λ q. w.words.head_at q / 2) w.words.link_at (λ q s. total (tying (slot_ref q s)) w.parts)
+    (λ q s. total (ties_of (slot_ref q s)) w.parts) (λ q s. total (cursor_at q s) w.parts) l.stack l.chain
     × Chains (bell_head plan w.words.bell_at) (bell_link plan w.words.page_link_at)
     (λ n q. total (ring_tying plan n q) w.parts) (λ n q. total (ring_ties plan n q) w.parts)
     (λ n q. total (bell_cursor_at n q) w.parts) l.bells l.bell_chain
@@ -207,12 +207,12 @@ Linked plan w l =
 pub record OwnStands (plan : Plan) (w : World) (p : Body) : Type 0 where
   pub few_holds : length p.holds ≤ 16
   pub owned : (n : ℕ) → p.owned ≡ Some n → n < plan.shards
-  pub mine : (x : Spot) → 0 < mine_at x p
+  pub mine : (x : SlotRef) → 0 < mine_at x p
       → (mine_at x p ≡ 1) × (own plan p x.page ≡ true) × (x.page < heap_pages plan)
       × (x.slot < slots_under (w.words.class_at x.page))
   pub cursors : (q s : ℕ) → noted q p.cursors ≡ Some s
       → (own plan p q ≡ true) × (q < heap_pages plan) × (s < slots_under (w.words.class_at q))
-      × (mine_at (spot q s) p ≡ 0)
+      × (mine_at (slot_ref q s) p ≡ 0)
   pub one_cursor : (q : ℕ) → noted q (unpoint q p.cursors) ≡ None
   pub armed : (q : ℕ) → 0 < times q p.armed → (times q p.armed ≡ 1) × (own plan p q ≡ true) × (q < heap_pages plan)
   pub unarmed : (q : ℕ) → own plan p q ≡ true → times q p.armed ≡ 0 → w.words.head_at q % 2 ≡ 0
@@ -224,7 +224,7 @@ OwnPartsStand plan w = (a : ℕ) (p : Body) → slice_get w.parts a ≡ Some p �
 
 -- a slot that is being filled is one of the heap, and the key that it will be published under is one of the layout
 abbrev pub FillsAreKeys : Plan → World → Type 0
-FillsAreKeys plan w = (a : ℕ) (p : Body) (x : Spot) (v : List ℕ) (i : ℕ) → slice_get w.parts a ≡ Some p → p.hand
+FillsAreKeys plan w = (a : ℕ) (p : Body) (x : SlotRef) (v : List ℕ) (i : ℕ) → slice_get w.parts a ≡ Some p → p.hand
     ≡ Filling x v i → plan.keys.unpack (plan.keys.pack (name_at x (state_of w x).generation))
     ≡ Some (name_at x (state_of w x).generation)
 

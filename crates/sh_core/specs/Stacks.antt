@@ -1,15 +1,15 @@
 -- How the words hold the stacks and chains: of slots on pages, and of pages on bells.
 use Rattle.std.specs.Prelude.{ℕ, ◌+◌, ◌≡◌, ◌==◌, cond, not, ◌&&◌, List, [], ◌∷◌, Option, Some, None}
 use Rattle.sh_slots.specs.declared.hand.Hand.TheVariants.{Tying, RingTying}
-use Rattle.sh_slots.specs.declared.hand.Spot.{Spot}
+use Rattle.sh_slots.specs.declared.hand.SlotRef.{SlotRef}
 use Rattle.sh_step.specs.Plans.{Plan, home, over_heap}
-use Rattle.sh_slots.specs.Slots.{same_spot}
+use Rattle.sh_slots.specs.Slots.{same_slot}
 use Rattle.sh_step.specs.Collections.{total, if1}
 use Rattle.sh_step.specs.declared.body.Body.{Body}
 use Rattle.sh_core.specs.Lists.{times}
 
-abbrev pub spot : ℕ → ℕ → Spot
-spot q s = record { page = q; slot = s }
+abbrev pub slot_ref : ℕ → ℕ → SlotRef
+slot_ref q s = record { page = q; slot = s }
 
 -- the link word of the item above this list; `top` is the head word's number for it
 abbrev pub link_to : List ℕ → ℕ
@@ -40,11 +40,11 @@ pub record Chains (head : ℕ → ℕ) (link owed tied cursor : ℕ → ℕ → 
   pub cursors : (q s : ℕ) → cursor q s ≡ first_is (chain q) s
 
 -- the link that a pass still has to store at x, or 0
-abbrev pub tying : Spot → Body → ℕ
-tying x p = elim (p.hand) [ Tying y l r ↦ cond (same_spot x y) l 0 | _ ↦ 0 ]
+abbrev pub tying : SlotRef → Body → ℕ
+tying x p = elim (p.hand) [ Tying y l r ↦ cond (same_slot x y) l 0 | _ ↦ 0 ]
 
-abbrev pub ties_of : Spot → Body → ℕ
-ties_of x p = elim (p.hand) [ Tying y l r ↦ if1 (same_spot x y) | _ ↦ 0 ]
+abbrev pub ties_of : SlotRef → Body → ℕ
+ties_of x p = elim (p.hand) [ Tying y l r ↦ if1 (same_slot x y) | _ ↦ 0 ]
 
 abbrev pub cursor_at : ℕ → ℕ → Body → ℕ
 cursor_at q s p = total (λ c. if1 ((c.0 == q) && (c.1 == s))) p.cursors

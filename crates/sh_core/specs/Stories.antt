@@ -61,7 +61,7 @@ pub record Story (st : Fields) (g : ℕ) (vs : List (List ℕ)) (gone : ℕ) (no
   pub later : st.generation < g → (vs ≡ []) × (gone ≡ 0)
 
 abbrev pub KeysAgree : Plan → Words → List Entry → Type 0
-KeysAgree plan w log = (k : ℕ) (n : Rattle.sh_slots.specs.declared.hand.Name.Name) → plan.keys.unpack k ≡ Some n
+KeysAgree plan w log = (k : ℕ) (n : Rattle.sh_slots.specs.declared.hand.KeyRef.KeyRef) → plan.keys.unpack k ≡ Some n
     → Story (fields_of (w.state_at n.page n.slot)) n.generation (values k log) (removals k log)
     (value_at w n.page n.slot)
 

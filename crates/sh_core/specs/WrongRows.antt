@@ -4,9 +4,9 @@ use Rattle.std.specs.Bool.{then_some}
 use Rattle.sh_shape.specs.declared.places.Place.TheVariants.{State, Link, Head}
 use Rattle.sh_shape.specs.Classes.{class_count, slots}
 use Rattle.sh_slots.specs.declared.hand.Hand.TheVariants.{Idle, Removing, Leaving, Finishing, ToPut, Tying, Ringing}
-use Rattle.sh_slots.specs.declared.hand.Spot.{Spot}
+use Rattle.sh_slots.specs.declared.hand.SlotRef.{SlotRef}
 use Rattle.sh_slots.specs.declared.reply.Reply.TheVariants as reply
-use Rattle.sh_slots.specs.Slots.{same_spot, spots, spot_of, live_at, after_drop, marked_word, reusable_word}
+use Rattle.sh_slots.specs.Slots.{same_slot, slot_refs, slot_ref_of, live_at, after_drop, marked_word, reusable_word}
 use Rattle.sh_slots.specs.Slots.{retired_word, after_enter_remove}
 use Rattle.sh_step.specs.declared.action.Action.TheVariants.{EnterGet, EnterRemove, Mark, Drop, DropHold, Finish}
 use Rattle.sh_step.specs.declared.action.Action.TheVariants.{SetClass, Follow, Put, Tie, Leave, Ring}
@@ -29,7 +29,7 @@ use Rattle.sh_core.specs.Variants.{Table}
 unfoldable pub crowds_at_once : Table
 crowds_at_once plan p (EnterGet k) = named plan k (λ x. then_some (idle p && nat_lt (length p.holds) 16)
     (record (enter_get plan p k x) {
-      part = λ n. hand p (Leaving (spot_of x));
+      part = λ n. hand p (Leaving (slot_ref_of x));
       reply = λ n. Some (cond (live_at x.generation n) (reply.Crowded k) (reply.Gone k));
     }))
 crowds_at_once plan p x = row plan p x
@@ -38,7 +38,7 @@ crowds_at_once plan p x = row plan p x
 unfoldable pub ignores_room : Table
 ignores_room plan p (EnterGet k) = named plan k (λ x. then_some (idle p && nat_lt (length p.holds) 16)
     (record (enter_get plan p k x) {
-      part = λ n. cond (live_at x.generation n) (record p { holds = k ∷ p.holds }) (hand p (Leaving (spot_of x)));
+      part = λ n. cond (live_at x.generation n) (record p { holds = k ∷ p.holds }) (hand p (Leaving (slot_ref_of x)));
       reply = λ n. Some (cond (live_at x.generation n) (reply.Got k) (reply.Gone k));
     }))
 ignores_room plan p x = row plan p x
@@ -88,17 +88,17 @@ unfoldable pub knows_after_hold : Table
 knows_after_hold plan p (DropHold k) = named plan k (λ x. then_some (idle p && has (λ j. j == k) p.holds)
     (record (drop_key p k x) {
       part = λ n. hand (record p { holds = without (λ j. j == k) p.holds })
-          (after_drop (spot_of x) n);
+          (after_drop (slot_ref_of x) n);
     }))
 knows_after_hold plan p x = row plan p x
 
 -- ---- the end of a generation
 
 -- the slot is empty, and the pass has it
-abbrev pub has_empty : Plan → Body → Spot → Body
+abbrev pub has_empty : Plan → Body → SlotRef → Body
 has_empty plan p x = cond (own plan p x.page) (hand (record p { mine = x ∷ p.mine }) Idle) (hand p (ToPut x))
 
-abbrev pub finish_by : Plan → Body → Spot → Operation → (ℕ → Bool) → Row
+abbrev pub finish_by : Plan → Body → SlotRef → Operation → (ℕ → Bool) → Row
 finish_by plan p x operation ends = record {
   place = State x.page x.slot;
   operation = operation;
@@ -145,7 +145,7 @@ never_retires plan p Finish = elim (p.hand) [
 ]
 never_retires plan p x = row plan p x
 
-abbrev pub finish_again : Plan → Body → Spot → ℕ → Row
+abbrev pub finish_again : Plan → Body → SlotRef → ℕ → Row
 finish_again plan p x g = record (finish plan p x g) {
   part = λ n. cond (n == marked_word g) ((finish plan p x g).part n) p;
 }
@@ -165,7 +165,7 @@ keeps_flag plan p Put = elim (p.hand) [
 ]
 keeps_flag plan p x = row plan p x
 
-abbrev pub tie_first : Body → Spot → Row
+abbrev pub tie_first : Body → SlotRef → Row
 tie_first p x = record {
   place = Link x.page x.slot;
   operation = Store 1;
@@ -173,7 +173,7 @@ tie_first p x = record {
   reply = silent;
 }
 
-abbrev pub put_last : Body → Spot → Row
+abbrev pub put_last : Body → SlotRef → Row
 put_last p x = record {
   place = Head x.page;
   operation = Swap (head_word (top_word x.slot));
@@ -222,7 +222,7 @@ follows_twice plan p (Follow y) = paged plan y (λ q. elim (noted q p.cursors)
     [ Some s ↦ then_some (idle p && own plan p q) (follow_twice p q s) | None ↦ None ])
 follows_twice plan p x = row plan p x
 
-abbrev pub tie_and_stop : Body → Spot → ℕ → Row
+abbrev pub tie_and_stop : Body → SlotRef → ℕ → Row
 tie_and_stop p x l = record {
   place = Link x.page x.slot;
   operation = Store l;
@@ -262,7 +262,7 @@ leaves_bell plan p x = row plan p x
 
 -- all slots except the last one are asked for
 abbrev pub most_mine : Body → ℕ → ℕ → Bool
-most_mine p q n = every (λ x. has (same_spot x) p.mine) (spots q 0 (slots (n - 1) - 1))
+most_mine p q n = every (λ x. has (same_slot x) p.mine) (slot_refs q 0 (slots (n - 1) - 1))
 
 unfoldable pub forgets_last_slot : Table
 forgets_last_slot plan p (SetClass y c) = paged plan y (λ q. elim (noted q p.classes) [

@@ -7,7 +7,7 @@ ghost use Rattle.sh_core.specs.Kept.{word_at, SlotHasValue, value_in, KeepsValue
 
 use sh_history::Entry;
 use sh_shape::{Place, Shape, classes};
-use sh_slots::{Reply, Spot};
+use sh_slots::{Reply, SlotRef};
 use sh_value::Value;
 
 /// The word at a place.
@@ -21,15 +21,15 @@ pub fn word_at(shape: &Shape, words: &[u64], place: Place) -> u64
 
 // The value in a slot.
 #[tactic(auto, using(crate::proofs::Words::KeptValues::value_rows))]
-fn value_in(shape: &Shape, words: &[u64], spot: Spot) -> Value
+fn value_in(shape: &Shape, words: &[u64], slot_ref: SlotRef) -> Value
     requires count { length words.now ≡ words_of shape.now }
-    requires value { SlotHasValue shape.now words.now spot }
-    ensures { result ≡ value_in shape.now words.now spot }
+    requires value { SlotHasValue shape.now words.now slot_ref }
+    ensures { result ≡ value_in shape.now words.now slot_ref }
 {
-    let class = word_at(shape, words, Place::Class(spot.page)) - 1;
-    let length = word_at(shape, words, Place::Length(spot.page, spot.slot));
-    let first = spot.slot * u64::from(classes::width(class as u32));
-    let start = shape.index(Place::Payload(spot.page, first));
+    let class = word_at(shape, words, Place::Class(slot_ref.page)) - 1;
+    let length = word_at(shape, words, Place::Length(slot_ref.page, slot_ref.slot));
+    let first = slot_ref.slot * u64::from(classes::width(class as u32));
+    let start = shape.index(Place::Payload(slot_ref.page, first));
     match Value::new(&words[start..start + length as usize]) {
         Ok(value) => value,
         Err(_) => unreachable!(),
@@ -43,7 +43,7 @@ fn value_kept(shape: &Shape, words: &[u64], place: Place) -> Value
     ensures { result ≡ value_kept shape.now words.now place }
 {
     match place {
-        Place::State(page, slot) => value_in(shape, words, Spot { page, slot }),
+        Place::State(page, slot) => value_in(shape, words, SlotRef { page, slot }),
         _ => unreachable!(),
     }
 }

@@ -27,7 +27,7 @@ use Rattle.sh_gather.specs.Walks.{IsWholeStack}
 use Rattle.sh_gather.specs.Gathering.{IsGathered, AreWholeAccounts}
 use Rattle.sh_gather.proofs.Histories.{same_live, same_marked, same_retired}
 use Rattle.sh_gather.proofs.PageKeys.{AllRest}
-use Rattle.sh_gather.proofs.PageNumbers.{IsPage, accounts_are, fills, live_count, marked_count, retired_count}
+use Rattle.sh_gather.proofs.PageNumbers.{AreAccounts, accounts_are, fills, live_count, marked_count, retired_count}
 
 -- what the core's theorem says of every run, and the laws of plans
 abbrev pub Core : Type 0
@@ -110,7 +110,7 @@ module _ (layout : Layout) (v : View) (core : Core) (gathered : IsGathered v) (k
 
   -- ---- so a page's accounts are these
   module _ (q : ℕ) (there : q < all_pages v.shape) (a : Accounts)
-      (page : (es : List Event) (h : LeadsHere layout v es) → IsPage plan (run plan es) (lists_of plan es) laws
+      (page : (es : List Event) (h : LeadsHere layout v es) → AreAccounts plan (run plan es) (lists_of plan es) laws
       (refined es) (rests es h) q a)
       (walked : (slots : List ℕ) × IsWholeStack v q slots × (a.queued ≡ length slots)) where
     pub are_whole : AreWholeAccounts layout v q a

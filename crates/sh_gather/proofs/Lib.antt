@@ -6,3 +6,5 @@ pub mod Walking
 pub mod KeyLists
 pub mod Meeting
 pub mod LiveKeys
+mod PageTotals
+mod NextKeyLaws

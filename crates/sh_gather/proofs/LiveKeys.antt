@@ -9,13 +9,13 @@ use Rattle.sh_history.specs.declared.entry.Entry.{Entry}
 use Rattle.sh_key.specs.Layout.{Layout}
 use Rattle.sh_shape.specs.declared.places.Place.TheVariants.{State}
 use Rattle.sh_shape.specs.Places.{all_pages}
-use Rattle.sh_slots.specs.declared.hand.Name.{Name}
+use Rattle.sh_slots.specs.declared.hand.KeyRef.{KeyRef}
 use Rattle.sh_slots.specs.Slots.{name_at}
 use Rattle.sh_step.specs.Collections.{if1}
 use Rattle.sh_step.specs.Plans.{Plan, plan_of, Lawful}
 use Rattle.sh_word.specs.Fields.{Fields, fields_of}
 use Rattle.sh_core.specs.Lists.{PutLists, lists_of, state_of}
-use Rattle.sh_core.specs.Stacks.{spot}
+use Rattle.sh_core.specs.Stacks.{slot_ref}
 use Rattle.sh_core.specs.Worlds.{World, run}
 use Rattle.sh_table.specs.declared.view.View.{View}
 use Rattle.sh_table.specs.Whole.{IsWhole, Known, noting}
@@ -67,23 +67,23 @@ module _ (layout : Layout) (v : View) (q s word : ℕ) (core : Core) (gathered :
   law : Lawful the_plan
   law = laws layout u core gathered known
 
-  here : state_of w (spot q s) ≡ seen
+  here : state_of w (slot_ref q s) ≡ seen
   here = ap fields_of (leads_before layout v (State q s) word first.0 first.1).1
 
-  generations : (0 < (state_of w (spot q s)).generation) × ((state_of w (spot q s)).generation ≤ the_plan.keys.gen_max)
+  generations : (0 < (state_of w (slot_ref q s)).generation) × ((state_of w (slot_ref q s)).generation ≤ the_plan.keys.gen_max)
   generations = range the_plan w l law (refined layout u core gathered known first.0)
-      (rests layout u core gathered known first.0 first.1) (spot q s) page slot
+      (rests layout u core gathered known first.0 first.1) (slot_ref q s) page slot
 
   pub fits : (0 < seen.generation) × (seen.generation ≤ the_plan.keys.gen_max)
   fits = subst (λ (f : Fields). (0 < f.generation) × (f.generation ≤ the_plan.keys.gen_max)) here generations
 
   -- a key of the slot, by its generation
   abbrev key_in : ℕ → ℕ
-  key_in g = the_plan.keys.pack (name_at (spot q s) g)
+  key_in g = the_plan.keys.pack (name_at (slot_ref q s) g)
 
-  keyed : (k : ℕ) (n : Name) → the_plan.keys.unpack k ≡ Some n → n.page ≡ q → n.slot ≡ s → k ≡ key_in n.generation
+  keyed : (k : ℕ) (n : KeyRef) → the_plan.keys.unpack k ≡ Some n → n.page ≡ q → n.slot ≡ s → k ≡ key_in n.generation
   keyed k n e is_page is_slot =
-      let same : n ≡ name_at (spot q s) n.generation = λ i. record
+      let same : n ≡ name_at (slot_ref q s) n.generation = λ i. record
       { page = is_page i; slot = is_slot i; generation = n.generation } in
       law.keys k n e ∙ ap the_plan.keys.pack same
 
@@ -94,23 +94,23 @@ module _ (layout : Layout) (v : View) (q s word : ℕ) (core : Core) (gathered :
   now : is_live_key w.log (key_in seen.generation) ≡ (seen.present && not seen.marked)
   now =
       let at = live_now the_plan w l law (refined layout u core gathered known first.0)
-      (rests layout u core gathered known first.0 first.1) (spot q s) page slot in
+      (rests layout u core gathered known first.0 first.1) (slot_ref q s) page slot in
       same_if1 _ _ (subst
       (λ (f : Fields). if1 (is_live_key w.log (key_in f.generation)) ≡ if1 (f.present && not f.marked)) here at)
 
-  other : (k : ℕ) (n : Name) → the_plan.keys.unpack k ≡ Some n → n.page ≡ q → n.slot ≡ s
+  other : (k : ℕ) (n : KeyRef) → the_plan.keys.unpack k ≡ Some n → n.page ≡ q → n.slot ≡ s
       → n.generation ≢ seen.generation → is_live_key w.log k ≡ false
   other k n e is_page is_slot ne =
       let top = last_generation layout v.shape.shards (8 * v.shape.segments) k n e in
-      let apart : n.generation ≢ (state_of w (spot q s)).generation = subst
+      let apart : n.generation ≢ (state_of w (slot_ref q s)).generation = subst
       (λ (f : Fields). n.generation ≢ f.generation) (sym here) ne in
       let at = live_other the_plan w l law (refined layout u core gathered known first.0)
-      (rests layout u core gathered known first.0 first.1) (spot q s) page slot n.generation (law.begins k n e) top
+      (rests layout u core gathered known first.0 first.1) (slot_ref q s) page slot n.generation (law.begins k n e) top
       apart in none_is (is_live_key w.log k)
       (ap (λ (j : ℕ). if1 (is_live_key w.log j)) (keyed k n e is_page is_slot) ∙ at)
 
   -- if the word says so, no key of the slot is live
-  pub none_there : (seen.present && not seen.marked) ≡ false → (history : List Entry) (k : ℕ) (n : Name)
+  pub none_there : (seen.present && not seen.marked) ≡ false → (history : List Entry) (k : ℕ) (n : KeyRef)
       → IsHistory layout u history → the_plan.keys.unpack k ≡ Some n → n.page ≡ q → n.slot ≡ s
       → is_live_key history k ≡ false
   none_there off history k n h e is_page is_slot = agree history h k ∙ dite (ℕ_discrete n.generation seen.generation)
@@ -120,20 +120,20 @@ module _ (layout : Layout) (v : View) (q s word : ℕ) (core : Core) (gathered :
 
   -- otherwise one is live, and it is the only one
   pub one_there : (seen.present && not seen.marked) ≡ true → (history : List Entry) → IsHistory layout u history
-      → is_live_key history (the_plan.keys.pack (name_at (spot q s) seen.generation)) ≡ true
+      → is_live_key history (the_plan.keys.pack (name_at (slot_ref q s) seen.generation)) ≡ true
   one_there on history h = agree history h (key_in seen.generation) ∙ (now ∙ on)
 
-  pub one_alone : (history : List Entry) (k : ℕ) (n : Name) → IsHistory layout u history
+  pub one_alone : (history : List Entry) (k : ℕ) (n : KeyRef) → IsHistory layout u history
       → the_plan.keys.unpack k ≡ Some n → n.page ≡ q → n.slot ≡ s → is_live_key history k ≡ true
-      → k ≡ the_plan.keys.pack (name_at (spot q s) seen.generation)
+      → k ≡ the_plan.keys.pack (name_at (slot_ref q s) seen.generation)
   one_alone history k n h e is_page is_slot live = dite (ℕ_discrete n.generation seen.generation)
       (λ (same : n.generation ≡ seen.generation). keyed k n e is_page is_slot ∙ ap key_in same)
       (λ (ne : n.generation ≢ seen.generation). absurd (let z : true ≡ false = sym live ∙ (agree history h k
       ∙ other k n e is_page is_slot ne) in cc))
 
-  pub its_name : the_plan.keys.unpack (the_plan.keys.pack (name_at (spot q s) seen.generation))
-      ≡ Some (name_at (spot q s) seen.generation)
-  its_name = law.names (name_at (spot q s) seen.generation) fits.0 fits.1 page slot
+  pub its_name : the_plan.keys.unpack (the_plan.keys.pack (name_at (slot_ref q s) seen.generation))
+      ≡ Some (name_at (slot_ref q s) seen.generation)
+  its_name = law.names (name_at (slot_ref q s) seen.generation) fits.0 fits.1 page slot
 
   pub can_be : CanBe layout u
   can_be = first
@@ -201,15 +201,15 @@ module _ (layout : Layout) (v u : View) (place word : ℕ) (core : Core) (look :
       m.name h m.unpacks m.page m.slot)
 
   pub live_at : ((fields_of word).present && not (fields_of word).marked) ≡ true → (k : ℕ)
-      → k ≡ (plan_of layout v.shape).keys.pack (name_at (spot (place / 48) (place % 48)) (fields_of word).generation)
+      → k ≡ (plan_of layout v.shape).keys.pack (name_at (slot_ref (place / 48) (place % 48)) (fields_of word).generation)
       → IsLiveAt layout u place k
   live_at on k is =
       let x : View = noting v (State (place / 48) (place % 48)) word in
       let own : ℕ = (plan_of layout v.shape).keys.pack
-      (name_at (spot (place / 48) (place % 48)) (fields_of word).generation) in
+      (name_at (slot_ref (place / 48) (place % 48)) (fields_of word).generation) in
       let at : IsLiveAt layout x place own = record {
         names = record {
-          name = name_at (spot (place / 48) (place % 48)) (fields_of word).generation;
+          name = name_at (slot_ref (place / 48) (place % 48)) (fields_of word).generation;
           unpacks = its_name layout v (place / 48) (place % 48) word core both.0 both.1 page slot;
           page = refl;
           slot = refl;
@@ -222,8 +222,8 @@ module _ (layout : Layout) (v u : View) (place word : ℕ) (core : Core) (look :
       subst (λ (z : View × ℕ). IsLiveAt layout z.0 place z.1) (λ i. (sym look.noted i, sym is i)) at
 
   pub packs : (plan_of layout v.shape).keys.unpack ((plan_of layout v.shape).keys.pack
-      (name_at (spot (place / 48) (place % 48)) (fields_of word).generation))
-      ≡ Some (name_at (spot (place / 48) (place % 48)) (fields_of word).generation)
+      (name_at (slot_ref (place / 48) (place % 48)) (fields_of word).generation))
+      ≡ Some (name_at (slot_ref (place / 48) (place % 48)) (fields_of word).generation)
   packs = its_name layout v (place / 48) (place % 48) word core both.0 both.1 page slot
 
 -- the same for the shape and the numbers that the code computes

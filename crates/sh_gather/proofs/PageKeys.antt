@@ -8,17 +8,17 @@ use native.Mathlib.Decide.{ℕ_discrete}
 use Rattle.sh_history.specs.History.{value_of, is_removed, holds_on}
 use Rattle.sh_word.specs.Fields.{Fields}
 use Rattle.sh_slots.specs.declared.hand.Hand.TheVariants.{Idle}
-use Rattle.sh_slots.specs.declared.hand.Name.{Name}
-use Rattle.sh_slots.specs.declared.hand.Spot.{Spot}
-use Rattle.sh_slots.specs.Slots.{same_spot, spot_of, name_at}
+use Rattle.sh_slots.specs.declared.hand.KeyRef.{KeyRef}
+use Rattle.sh_slots.specs.declared.hand.SlotRef.{SlotRef}
+use Rattle.sh_slots.specs.Slots.{same_slot, slot_ref_of, name_at}
 use Rattle.sh_step.specs.declared.body.Body.{Body}
 use Rattle.sh_step.specs.Collections.{total, if1}
 use Rattle.sh_step.specs.Plans.{Plan, Lawful, heap_pages}
 use Rattle.sh_core.specs.Lists.{PutLists, times, state_of}
 use Rattle.sh_core.specs.Refines.{Refines, KeyTold, holds_now}
-use Rattle.sh_core.specs.Tallies.{visits, finishing, at_spot, current}
+use Rattle.sh_core.specs.Tallies.{visits, finishing, at_slot, current}
 use Rattle.sh_core.specs.Worlds.{World, value_at}
-use Rattle.sh_core.proofs.Slots.Slots.{same_spot-true}
+use Rattle.sh_core.proofs.Slots.Slots.{same_slot-true}
 use Rattle.sh_core.proofs.Sums.Totals.{total_le}
 use Rattle.sh_gather.specs.PageKeys.{keys_of_slot, is_last_key, is_live_key, is_marked_key, is_retired_key}
 
@@ -34,7 +34,7 @@ total_zero f (p ∷ ps) h = let here = h 0 p refl in let rest = total_zero f ps 
 
 -- ---- sums over the keys of a slot, if all but one generation give 0
 
-module _ (plan : Plan) (x : Spot) (f : ℕ → ℕ) (g v : ℕ) (here : f (plan.keys.pack (name_at x g)) ≡ v)
+module _ (plan : Plan) (x : SlotRef) (f : ℕ → ℕ) (g v : ℕ) (here : f (plan.keys.pack (name_at x g)) ≡ v)
     (other : (h : ℕ) → 0 < h → h ≤ plan.keys.gen_max → h ≢ g → f (plan.keys.pack (name_at x h)) ≡ 0) where
   before_it : (m : ℕ) → m ≤ plan.keys.gen_max → m < g → total f (keys_of_slot plan x m) ≡ 0
   unfolding total keys_of_slot
@@ -83,7 +83,7 @@ more_is a b e ne = grind (arith, nat_tests)
 -- ---- what the log says of one slot's keys
 
 module _ (plan : Plan) (w : World) (l : PutLists) (laws : Lawful plan) (core : Refines plan w l) (rest : AllRest w)
-    (x : Spot) (page : x.page < heap_pages plan) (slot : x.slot < 48) where
+    (x : SlotRef) (page : x.page < heap_pages plan) (slot : x.slot < 48) where
   abbrev st : Fields
   st = state_of w x
 
@@ -103,9 +103,9 @@ module _ (plan : Plan) (w : World) (l : PutLists) (laws : Lawful plan) (core : R
       let s = core.held a p (key g) at held in
       let n : s.name ≡ name_at x g = let z : Some s.name ≡ Some (name_at x g) = sym s.unpacks ∙ unpacks g some le
       in cc in
-      let here : (state_of w (spot_of s.name)) ≡ st = ap (λ (m : Name). state_of w (spot_of m)) n in
+      let here : (state_of w (slot_ref_of s.name)) ≡ st = ap (λ (m : KeyRef). state_of w (slot_ref_of m)) n in
       let present : st.present ≡ true = ap (λ (f : Fields). f.present) (sym here) ∙ s.present in
-      let generation : g ≡ st.generation = ap (λ (m : Name). m.generation) (sym n)
+      let generation : g ≡ st.generation = ap (λ (m : KeyRef). m.generation) (sym n)
       ∙ (sym s.generation ∙ ap (λ (f : Fields). f.generation) here) in
       ap (λ (b : Bool). b && (g == st.generation)) present ∙ same_is g st.generation generation
 
@@ -125,15 +125,15 @@ module _ (plan : Plan) (w : World) (l : PutLists) (laws : Lawful plan) (core : R
   some_held : (g : ℕ) → 0 < g → g ≤ plan.keys.gen_max → g ≡ st.generation → st.present ≡ true → st.marked ≡ true
       → 0 < holds_on w.log (key g)
   some_held g some le now p m = go (st.count == 0) refl where
-    on_key : (j : ℕ) → if1 (at_spot x (plan.keys.unpack j) && current st (plan.keys.unpack j)) ≤ if1 (j == key g)
+    on_key : (j : ℕ) → if1 (at_slot x (plan.keys.unpack j) && current st (plan.keys.unpack j)) ≤ if1 (j == key g)
     on_key j = named (plan.keys.unpack j) refl where
-      named : (o : Option Name) → plan.keys.unpack j ≡ o → if1 (at_spot x o && current st o) ≤ if1 (j == key g)
+      named : (o : Option KeyRef) → plan.keys.unpack j ≡ o → if1 (at_slot x o && current st o) ≤ if1 (j == key g)
       named None e = omega arith
-      named (Some z) e = by (same_spot x (spot_of z)) st.present (z.generation == st.generation) refl refl where
-        by : (b c d : Bool) → same_spot x (spot_of z) ≡ b → (z.generation == st.generation) ≡ d
+      named (Some z) e = by (same_slot x (slot_ref_of z)) st.present (z.generation == st.generation) refl refl where
+        by : (b c d : Bool) → same_slot x (slot_ref_of z) ≡ b → (z.generation == st.generation) ≡ d
             → if1 (b && (c && d)) ≤ if1 (j == key g)
         by true true true h i =
-            let s : x ≡ spot_of z = same_spot-true (spot_of z) x h in
+            let s : x ≡ slot_ref_of z = same_slot-true (slot_ref_of z) x h in
             let n : z.generation ≡ g = eqb-true z.generation st.generation i ∙ sym now in
             let y : name_at x g ≡ z = λ k. record { page = (s k).page; slot = (s k).slot; generation = sym n k } in
             let k : j ≡ key g = laws.keys j z e ∙ ap plan.keys.pack (sym y) in
@@ -143,7 +143,7 @@ module _ (plan : Plan) (w : World) (l : PutLists) (laws : Lawful plan) (core : R
         by false c d h i = omega arith
 
     each : (u : Body) → holds_now plan x st u ≤ times (key g) u.holds
-    each u = total_le (λ j. if1 (at_spot x (plan.keys.unpack j) && current st (plan.keys.unpack j)))
+    each u = total_le (λ j. if1 (at_slot x (plan.keys.unpack j) && current st (plan.keys.unpack j)))
         (λ j. if1 (j == key g)) on_key u.holds
 
     go : (b : Bool) → (st.count == 0) ≡ b → 0 < holds_on w.log (key g)
@@ -242,7 +242,7 @@ module _ (plan : Plan) (w : World) (l : PutLists) (laws : Lawful plan) (core : R
 
   -- retired
   last_is : (g : ℕ) → 0 < g → g ≤ plan.keys.gen_max → is_last_key plan (key g) ≡ (g == plan.keys.gen_max)
-  last_is g some le = ap (λ (o : Option Name). elim o as (λ _. Bool)
+  last_is g some le = ap (λ (o : Option KeyRef). elim o as (λ _. Bool)
       [ Some n ↦ n.generation == plan.keys.gen_max | None ↦ false ]) (unpacks g some le)
 
   no_third : (b c : Bool) → if1 (b && c && false) ≡ 0

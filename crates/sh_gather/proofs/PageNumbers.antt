@@ -7,14 +7,14 @@ use Rattle.std.proofs.lemmas.Bool.Decides.{nat_tests}
 use mathlib.Core.Logic.{dite}
 use native.Mathlib.Decide.{ℕ_discrete}
 use Rattle.sh_shape.specs.Classes.{slots, class_count}
-use Rattle.sh_slots.specs.declared.hand.Spot.{Spot}
-use Rattle.sh_slots.specs.Slots.{spots, same_spot}
+use Rattle.sh_slots.specs.declared.hand.SlotRef.{SlotRef}
+use Rattle.sh_slots.specs.Slots.{slot_refs, same_slot}
 use Rattle.sh_step.specs.Collections.{total, if1}
 use Rattle.sh_step.specs.Plans.{Plan, Lawful, heap_pages}
 use Rattle.sh_core.specs.declared.accounts.Accounts.{Accounts}
 use Rattle.sh_core.specs.Lists.{PutLists, accounts, class_named, slots_under, times, state_of, mine_at, in_hand, among}
 use Rattle.sh_core.specs.Refines.{Refines, live, marked, retired, kind_count}
-use Rattle.sh_core.specs.Stacks.{Chained, link_to, top, first_is, spot, tying, cursor_at}
+use Rattle.sh_core.specs.Stacks.{Chained, link_to, top, first_is, slot_ref, tying, cursor_at}
 use Rattle.sh_core.specs.Worlds.{World}
 use Rattle.sh_core.proofs.Sums.ClassSlots.{under_class, under_few}
 use Rattle.sh_core.proofs.Sums.Totals.{total_append, total_plus}
@@ -24,19 +24,19 @@ use Rattle.sh_gather.specs.PageKeys.{keys_of_slot, keys_of_slots, page_keys, is_
 use Rattle.sh_gather.proofs.Histories.{count_is}
 use Rattle.sh_gather.proofs.PageKeys.{AllRest, total_zero, live_is, marked_is, retired_is}
 
-pub keys_total : (plan : Plan) (f : ℕ → ℕ) (g : Spot → ℕ) (q s n : ℕ)
-    → ((t : ℕ) → s ≤ t → t < s + n → total f (keys_of_slot plan (spot q t) plan.keys.gen_max) ≡ g (spot q t))
-    → total f (keys_of_slots plan (spots q s n)) ≡ total g (spots q s n)
-unfolding total keys_of_slots spots
+pub keys_total : (plan : Plan) (f : ℕ → ℕ) (g : SlotRef → ℕ) (q s n : ℕ)
+    → ((t : ℕ) → s ≤ t → t < s + n → total f (keys_of_slot plan (slot_ref q t) plan.keys.gen_max) ≡ g (slot_ref q t))
+    → total f (keys_of_slots plan (slot_refs q s n)) ≡ total g (slot_refs q s n)
+unfolding total keys_of_slots slot_refs
 keys_total plan f g q s zero h = refl
 keys_total plan f g q s (suc n) h =
     let here = h s (omega arith) (omega arith) in
     let rest = keys_total plan f g q (s + 1) n (λ t a b. h t (omega arith) (omega arith)) in
-    let both = total_append f (keys_of_slot plan (spot q s) plan.keys.gen_max) (keys_of_slots plan (spots q (s + 1) n))
+    let both = total_append f (keys_of_slot plan (slot_ref q s) plan.keys.gen_max) (keys_of_slots plan (slot_refs q (s + 1) n))
     in omega arith
 
 -- slots that add 0 need not be counted
-cut_by : (q : ℕ) (f : Spot → ℕ) (n m : ℕ) → ((t : ℕ) → n ≤ t → f (spot q t) ≡ 0) → among q f (n + m) ≡ among q f n
+cut_by : (q : ℕ) (f : SlotRef → ℕ) (n m : ℕ) → ((t : ℕ) → n ≤ t → f (slot_ref q t) ≡ 0) → among q f (n + m) ≡ among q f n
 cut_by q f n zero h = let e : n + 0 ≡ n = omega arith in ap (among q f) e
 cut_by q f n (suc m) h =
     let e : n + suc m ≡ n + m + 1 = omega arith in
@@ -44,17 +44,17 @@ cut_by q f n (suc m) h =
     let none = h (n + m) (omega arith) in
     let rest = cut_by q f n m h in rw e (omega arith)
 
-cut : (q : ℕ) (f : Spot → ℕ) (n k : ℕ) → n ≤ k → ((t : ℕ) → n ≤ t → f (spot q t) ≡ 0) → among q f k ≡ among q f n
+cut : (q : ℕ) (f : SlotRef → ℕ) (n k : ℕ) → n ≤ k → ((t : ℕ) → n ≤ t → f (slot_ref q t) ≡ 0) → among q f k ≡ among q f n
 cut q f n k le h = let e : k ≡ n + (k - n) = omega arith in ap (among q f) e ∙ cut_by q f n (k - n) h
 
-zero_among : (q : ℕ) (f : Spot → ℕ) → among q f 0 ≡ 0
-unfolding total spots
+zero_among : (q : ℕ) (f : SlotRef → ℕ) → among q f 0 ≡ 0
+unfolding total slot_refs
 zero_among q f = refl
 
-none_among : (q : ℕ) (f : Spot → ℕ) (n : ℕ) → ((t : ℕ) → f (spot q t) ≡ 0) → among q f n ≡ 0
+none_among : (q : ℕ) (f : SlotRef → ℕ) (n : ℕ) → ((t : ℕ) → f (slot_ref q t) ≡ 0) → among q f n ≡ 0
 none_among q f n h = cut q f 0 n (omega arith) (λ t le. h t) ∙ zero_among q f
 
-few_among : (q : ℕ) (f : Spot → ℕ) (n : ℕ) → ((t : ℕ) → f (spot q t) ≤ 1) → among q f n ≤ n
+few_among : (q : ℕ) (f : SlotRef → ℕ) (n : ℕ) → ((t : ℕ) → f (slot_ref q t) ≤ 1) → among q f n ≤ n
 few_among q f zero h = let z = zero_among q f in omega arith
 few_among q f (suc n) h = let e : n + 1 ≡ suc n = omega arith in let more = among_more q f n in let here = h n
     in let rest = few_among q f n h in let P : ℕ → Type 0 = λ m. among q f m ≤ m in subst P e (omega arith)
@@ -70,7 +70,7 @@ unfolding total
 times_sum q n [] h = none_among q (λ x. 0) n (λ t. refl)
 times_sum q n (s ∷ xs) h =
     let rest = times_sum q n xs (λ t le. let z = h t le in omega arith) in
-    let plus = total_plus (λ (x : Spot). if1 (s == x.slot)) (λ (x : Spot). times x.slot xs) (spots q 0 n) in
+    let plus = total_plus (λ (x : SlotRef). if1 (s == x.slot)) (λ (x : SlotRef). times x.slot xs) (slot_refs q 0 n) in
     let low : s < n = below (nat_lt s n) refl in
     let one = single s n low in omega arith where
       below : (b : Bool) → nat_lt s n ≡ b → s < n
@@ -112,14 +112,14 @@ empty_total f xs e = ap (total f) e
 
 module _ (plan : Plan) (w : World) (l : PutLists) (laws : Lawful plan) (core : Refines plan w l) (rest : AllRest w)
     (q : ℕ) where
-  none_mine : (x : Spot) → total (mine_at x) w.parts ≡ 0
-  none_mine x = total_zero (mine_at x) w.parts (λ a p e. empty_total (λ y. if1 (same_spot x y)) p.mine
+  none_mine : (x : SlotRef) → total (mine_at x) w.parts ≡ 0
+  none_mine x = total_zero (mine_at x) w.parts (λ a p e. empty_total (λ y. if1 (same_slot x y)) p.mine
       (core.shardless a p e (rest a p e).1).0)
 
-  none_in_hand : (x : Spot) → total (in_hand x) w.parts ≡ 0
+  none_in_hand : (x : SlotRef) → total (in_hand x) w.parts ≡ 0
   none_in_hand x = total_zero (in_hand x) w.parts (λ a p e. rw (rest a p e).0 refl)
 
-  none_tying : (x : Spot) → total (tying x) w.parts ≡ 0
+  none_tying : (x : SlotRef) → total (tying x) w.parts ≡ 0
   none_tying x = total_zero (tying x) w.parts (λ a p e. rw (rest a p e).0 refl)
 
   none_at_cursor : (s : ℕ) → total (cursor_at q s) w.parts ≡ 0
@@ -131,15 +131,15 @@ module _ (plan : Plan) (w : World) (l : PutLists) (laws : Lawful plan) (core : R
   no_chain = no_first (l.chain q) (λ s. let c = core.linked.0.cursors q s in let z = none_at_cursor s in omega arith)
 
   -- what holds of a slot past the class
-  past : (t : ℕ) → slots_under (w.words.class_at q) ≤ t → (live (state_of w (spot q t)) ≡ 0)
-      × (marked (state_of w (spot q t)) ≡ 0) × (retired (state_of w (spot q t)) ≡ 0) × (times t (l.stack q) ≡ 0)
+  past : (t : ℕ) → slots_under (w.words.class_at q) ≤ t → (live (state_of w (slot_ref q t)) ≡ 0)
+      × (marked (state_of w (slot_ref q t)) ≡ 0) × (retired (state_of w (slot_ref q t)) ≡ 0) × (times t (l.stack q) ≡ 0)
   past t le =
       let is : nat_lt t (slots_under (w.words.class_at q)) ≡ false = grind (arith, nat_tests) in
-      let none : kind_count w l (spot q t) ≡ 0 = core.kinds (spot q t) ∙ ap if1 is
+      let none : kind_count w l (slot_ref q t) ≡ 0 = core.kinds (slot_ref q t) ∙ ap if1 is
       in (omega arith, omega arith, omega arith, omega arith)
 
   once : (t : ℕ) → times t (l.stack q) ≤ 1
-  once t = let k = core.kinds (spot q t) in let few = if1_few (nat_lt t (slots_under (w.words.class_at q)))
+  once t = let k = core.kinds (slot_ref q t) in let few = if1_few (nat_lt t (slots_under (w.words.class_at q)))
       in omega arith
 
   -- the queued slots are those of the stack
@@ -148,19 +148,19 @@ module _ (plan : Plan) (w : World) (l : PutLists) (laws : Lawful plan) (core : R
   unfolding total
   queued_is =
       let n : ℕ = slots_under (w.words.class_at q) in
-      let plus = total_plus (λ (x : Spot). times x.slot (l.stack q)) (λ (x : Spot). times x.slot (l.chain q))
-      (spots q 0 n) in
+      let plus = total_plus (λ (x : SlotRef). times x.slot (l.stack q)) (λ (x : SlotRef). times x.slot (l.chain q))
+      (slot_refs q 0 n) in
       let stack = times_sum q n (l.stack q) (λ t le. (past t le).3) in
-      let chain = none_among q (λ (x : Spot). times x.slot (l.chain q)) n (λ t. ap (times t) no_chain) in omega arith
+      let chain = none_among q (λ (x : SlotRef). times x.slot (l.chain q)) n (λ t. ap (times t) no_chain) in omega arith
 
   stack_few : length (l.stack q) ≤ slots_under (w.words.class_at q)
   stack_few =
       let n : ℕ = slots_under (w.words.class_at q) in
       let stack = times_sum q n (l.stack q) (λ t le. (past t le).3) in
-      let few = few_among q (λ (x : Spot). times x.slot (l.stack q)) n once in omega arith
+      let few = few_among q (λ (x : SlotRef). times x.slot (l.stack q)) n once in omega arith
 
   -- the page's accounts
-  pub record IsPage (a : Accounts) : Type 0 where
+  pub record AreAccounts (a : Accounts) : Type 0 where
     pub class : a.class ≡ class_named (w.words.class_at q)
     pub live : a.live ≡ among q (λ x. if1 ((state_of w x).present && not (state_of w x).marked))
         (slots_under (w.words.class_at q))
@@ -172,14 +172,14 @@ module _ (plan : Plan) (w : World) (l : PutLists) (laws : Lawful plan) (core : R
     pub hand : a.hand ≡ 0
     pub queued : a.queued ≡ length (l.stack q)
 
-  pub accounts_are : (a : Accounts) → IsPage a → a ≡ accounts w l q
+  pub accounts_are : (a : Accounts) → AreAccounts a → a ≡ accounts w l q
   unfolding accounts
   accounts_are a h =
       let n : ℕ = slots_under (w.words.class_at q) in
       let mine : a.mine ≡ among q (λ x. total (mine_at x) w.parts) n = h.mine
-      ∙ sym (none_among q (λ x. total (mine_at x) w.parts) n (λ t. none_mine (spot q t))) in
+      ∙ sym (none_among q (λ x. total (mine_at x) w.parts) n (λ t. none_mine (slot_ref q t))) in
       let hand : a.hand ≡ among q (λ x. total (in_hand x) w.parts) n = h.hand
-      ∙ sym (none_among q (λ x. total (in_hand x) w.parts) n (λ t. none_in_hand (spot q t))) in
+      ∙ sym (none_among q (λ x. total (in_hand x) w.parts) n (λ t. none_in_hand (slot_ref q t))) in
       let queued : a.queued ≡ among q (λ x. times x.slot (l.stack q) + times x.slot (l.chain q)) n = h.queued
       ∙ sym queued_is in
       λ i. record {
@@ -194,9 +194,9 @@ module _ (plan : Plan) (w : World) (l : PutLists) (laws : Lawful plan) (core : R
 
   -- ---- by the log
   module _ (page : q < heap_pages plan) where
-    by_kind : (test : ℕ → Bool) (g : Spot → ℕ) → ((t : ℕ) → t < 48
-        → total (λ k. if1 (test k)) (keys_of_slot plan (spot q t) plan.keys.gen_max) ≡ g (spot q t))
-        → ((t : ℕ) → slots_under (w.words.class_at q) ≤ t → g (spot q t) ≡ 0)
+    by_kind : (test : ℕ → Bool) (g : SlotRef → ℕ) → ((t : ℕ) → t < 48
+        → total (λ k. if1 (test k)) (keys_of_slot plan (slot_ref q t) plan.keys.gen_max) ≡ g (slot_ref q t))
+        → ((t : ℕ) → slots_under (w.words.class_at q) ≤ t → g (slot_ref q t) ≡ 0)
         → among q g (slots_under (w.words.class_at q)) ≡ count_by test (page_keys plan q)
     by_kind test g h none = sym (count_is test (page_keys plan q) ∙
         (keys_total plan (λ k. if1 (test k)) g q 0 48 (λ t a b. h t (omega arith))
@@ -205,17 +205,17 @@ module _ (plan : Plan) (w : World) (l : PutLists) (laws : Lawful plan) (core : R
     pub live_count : among q (λ x. if1 ((state_of w x).present && not (state_of w x).marked))
         (slots_under (w.words.class_at q)) ≡ count_by (is_live_key w.log) (page_keys plan q)
     live_count = by_kind (is_live_key w.log) (λ x. if1 ((state_of w x).present && not (state_of w x).marked))
-        (λ t low. live_is plan w l laws core rest (spot q t) page low) (λ t le. (past t le).0)
+        (λ t low. live_is plan w l laws core rest (slot_ref q t) page low) (λ t le. (past t le).0)
 
     pub marked_count : among q (λ x. if1 ((state_of w x).present && (state_of w x).marked))
         (slots_under (w.words.class_at q)) ≡ count_by (is_marked_key w.log) (page_keys plan q)
     marked_count = by_kind (is_marked_key w.log) (λ x. if1 ((state_of w x).present && (state_of w x).marked))
-        (λ t low. marked_is plan w l laws core rest (spot q t) page low) (λ t le. (past t le).1)
+        (λ t low. marked_is plan w l laws core rest (slot_ref q t) page low) (λ t le. (past t le).1)
 
     pub retired_count : among q (λ x. if1 (not (state_of w x).present && (state_of w x).marked))
         (slots_under (w.words.class_at q)) ≡ count_by (is_retired_key plan w.log) (page_keys plan q)
     retired_count = by_kind (is_retired_key plan w.log) (λ x. if1 (not (state_of w x).present && (state_of w x).marked))
-        (λ t low. retired_is plan w l laws core rest (spot q t) page low) (λ t le. (past t le).2)
+        (λ t low. retired_is plan w l laws core rest (slot_ref q t) page low) (λ t le. (past t le).2)
 
   -- ---- the walk: a number names the first of what is left of the stack
   abbrev pub Walked : ℕ → ℕ → Type 0
@@ -263,10 +263,10 @@ module _ (plan : Plan) (w : World) (l : PutLists) (laws : Lawful plan) (core : R
     go (s ∷ xs) e =
         let i : t ≡ s + 1 = h.1 ∙ ap top e in
         let j : t - 1 ≡ s = omega arith in
-        let chain = subst (Chained (w.words.link_at q) (λ s. total (tying (spot q s)) w.parts)) e
-        (chained_drop (w.words.link_at q) (λ s. total (tying (spot q s)) w.parts) n (l.stack q)
+        let chain = subst (Chained (w.words.link_at q) (λ s. total (tying (slot_ref q s)) w.parts)) e
+        (chained_drop (w.words.link_at q) (λ s. total (tying (slot_ref q s)) w.parts) n (l.stack q)
         (core.linked.0.stacks q)) in
-        let none = none_tying (spot q s) in
+        let none = none_tying (slot_ref q s) in
         let c = chain.0 in
         let k = link_top xs in
         let link : w.words.link_at q s ≡ top xs + 1 = omega arith in
@@ -312,7 +312,7 @@ module _ (plan : Plan) (w : World) (l : PutLists) (laws : Lawful plan) (core : R
 
 module _ (plan : Plan) (w : World) (l : PutLists) (core : Refines plan w l) (q : ℕ) where
   blank_is : w.words.class_at q ≡ 0 → accounts w l q ≡ no_slots None
-  unfolding accounts total spots
+  unfolding accounts total slot_refs
   blank_is e = rw e refl
 
   class_is : (c : ℕ) → w.words.class_at q ≡ suc c → (accounts w l q).class ≡ Some c

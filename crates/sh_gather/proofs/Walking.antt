@@ -10,8 +10,8 @@ use Rattle.sh_shape.specs.declared.places.Place.{Place}
 use Rattle.sh_shape.specs.declared.places.Place.TheVariants.{Class, Head, State, Link}
 use Rattle.sh_shape.specs.Places.{all_pages}
 use Rattle.sh_shape.specs.Shape.{Numbers}
-use Rattle.sh_slots.specs.declared.hand.Spot.{Spot}
-use Rattle.sh_slots.specs.Slots.{spots}
+use Rattle.sh_slots.specs.declared.hand.SlotRef.{SlotRef}
+use Rattle.sh_slots.specs.Slots.{slot_refs}
 use Rattle.sh_step.specs.declared.action.Event.{Event}
 use Rattle.sh_step.specs.Collections.{total, if1}
 use Rattle.sh_step.specs.Plans.{Plan, plan_of}
@@ -86,8 +86,8 @@ notes_keep layout v w history h k =
 
 -- ---- the states
 
-counted_none : (q : ℕ) (f : Spot → ℕ) → 0 ≡ among q f 0
-unfolding total spots
+counted_none : (q : ℕ) (f : SlotRef → ℕ) → 0 ≡ among q f 0
+unfolding total slot_refs
 counted_none q f = refl
 
 pub count_first : (layout : Layout) (v : View) (q : ℕ) (c : Option ℕ)

@@ -3,3 +3,6 @@ pub mod Histories
 pub mod Walks
 pub mod Gathering
 pub mod LiveKeys
+pub mod PageLists
+pub mod Sums
+pub mod NextKeys

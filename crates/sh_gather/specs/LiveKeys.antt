@@ -5,7 +5,7 @@ use Rattle.sh_history.specs.declared.entry.Entry.{Entry}
 use Rattle.sh_key.specs.Layout.{Layout}
 use Rattle.sh_shape.specs.Places.{all_pages, slot_places}
 use Rattle.sh_shape.specs.Shape.{Numbers}
-use Rattle.sh_slots.specs.declared.hand.Name.{Name}
+use Rattle.sh_slots.specs.declared.hand.KeyRef.{KeyRef}
 use Rattle.sh_step.specs.Plans.{Plan, plan_of}
 use Rattle.sh_table.specs.declared.view.View.{View}
 use Rattle.sh_gather.specs.Histories.{CanBe, IsHistory}
@@ -17,7 +17,7 @@ all_places shape = all_pages shape * slot_places
 
 -- the key names the slot at this place
 pub record NamesPlace (plan : Plan) (place k : ℕ) : Type 0 where
-  pub name : Name
+  pub name : KeyRef
   pub unpacks : plan.keys.unpack k ≡ Some name
   pub page : name.page ≡ place / slot_places
   pub slot : name.slot ≡ place % slot_places

@@ -7,24 +7,24 @@ use Rattle.sh_history.specs.History.{value_of, is_removed, holds_on}
 use Rattle.sh_key.specs.Layout.{Layout, IsLayout}
 use Rattle.sh_shape.specs.Shape.{Numbers, IsShape, Fits}
 use Rattle.sh_shape.specs.Places.{slot_places}
-use Rattle.sh_slots.specs.declared.hand.Name.{Name}
-use Rattle.sh_slots.specs.declared.hand.Spot.{Spot}
-use Rattle.sh_slots.specs.Slots.{name_at, spots}
+use Rattle.sh_slots.specs.declared.hand.KeyRef.{KeyRef}
+use Rattle.sh_slots.specs.declared.hand.SlotRef.{SlotRef}
+use Rattle.sh_slots.specs.Slots.{name_at, slot_refs}
 use Rattle.sh_step.specs.Plans.{Plan, heap_pages, plan_of}
 use Rattle.sh_core.specs.Lists.{times}
 
 -- the keys of a slot, one of each generation up to this one
-unfoldable pub keys_of_slot : Plan → Spot → ℕ → List ℕ
+unfoldable pub keys_of_slot : Plan → SlotRef → ℕ → List ℕ
 keys_of_slot plan x zero = []
 keys_of_slot plan x (suc g) = plan.keys.pack (name_at x (suc g)) ∷ keys_of_slot plan x g
 
-unfoldable pub keys_of_slots : Plan → List Spot → List ℕ
+unfoldable pub keys_of_slots : Plan → List SlotRef → List ℕ
 keys_of_slots plan [] = []
 keys_of_slots plan (x ∷ xs) = keys_of_slot plan x plan.keys.gen_max ++ keys_of_slots plan xs
 
 -- the keys of page q: one of each generation, for each slot that it has a place for
 abbrev pub page_keys : Plan → ℕ → List ℕ
-page_keys plan q = keys_of_slots plan (spots q 0 slot_places)
+page_keys plan q = keys_of_slots plan (slot_refs q 0 slot_places)
 
 -- its generation is the last that a slot has
 abbrev pub is_last_key : Plan → ℕ → Bool
@@ -42,8 +42,8 @@ is_retired_key plan history k = is_removed history k && is_last_key plan k && (h
 -- each key that names a slot of page q is listed once among the page's keys, and each listed key is such a key
 abbrev pub PageKeysOnce : Plan → Type 0
 PageKeysOnce plan = (q k : ℕ) → q < heap_pages plan →
-    ((n : Name) → plan.keys.unpack k ≡ Some n → n.page ≡ q → n.slot < slot_places → times k (page_keys plan q) ≡ 1)
-    × (0 < times k (page_keys plan q) → (n : Name) × (plan.keys.unpack k ≡ Some n) × (n.page ≡ q)
+    ((n : KeyRef) → plan.keys.unpack k ≡ Some n → n.page ≡ q → n.slot < slot_places → times k (page_keys plan q) ≡ 1)
+    × (0 < times k (page_keys plan q) → (n : KeyRef) × (plan.keys.unpack k ≡ Some n) × (n.page ≡ q)
     × (n.slot < slot_places))
 
 abbrev pub PageKeysAreAll : Type 0

@@ -8,7 +8,7 @@ use crate::view::Whole;
 use sh_key::KeyLayout;
 use sh_pass::KeepsHeap;
 use sh_shape::{Place, SLOT_PLACES};
-use sh_slots::Name;
+use sh_slots::KeyRef;
 use sh_step::operands::key_of_name;
 use sh_word::State;
 
@@ -35,7 +35,7 @@ impl<L: KeyLayout, H: KeepsHeap<L>> Whole<L, H> {
         if !state.present {
             return None;
         }
-        let name = Name {
+        let name = KeyRef {
             page,
             slot,
             generation: state.generation,

@@ -1,5 +1,5 @@
-//! Passes that meet: what one of them can report for all, and the heap as a whole once one can report for every pass,
-//! with the accounts of its pages.
+//! Passes that meet. Once two passes are joined, one of them can report for both. A pass that can report for all passes
+//! of its heap has the heap as a whole: the accounts of its pages, their sums, and its live keys.
 #![tactic(auto)]
 
 mod accounts;
@@ -7,9 +7,15 @@ mod borrowing;
 pub mod gathering;
 mod keys;
 pub mod laws;
+pub mod next_keys;
+pub mod pages;
+pub mod totals;
 pub mod view;
 
 pub use borrowing::Whole;
 pub use gathering::{gather, join, whole};
 pub use laws::{notes_keep_histories, page_keys_are_all};
+pub use next_keys::next_key;
+pub use pages::{PageAccounts, all_accounts, page_accounts};
 pub use sh_core::Accounts;
+pub use totals::{Totals, total};

@@ -11,9 +11,9 @@ use Rattle.sh_shape.specs.Shape.{Numbers}
 use Rattle.sh_slots.specs.declared.hand.Hand.{Hand}
 use Rattle.sh_slots.specs.declared.hand.Hand.TheVariants.{Idle, Removing, Leaving, Finishing, ToPut, Tying, Ringing}
 use Rattle.sh_slots.specs.declared.hand.Hand.TheVariants.{RingTying}
-use Rattle.sh_slots.specs.declared.hand.Name.{Name}
-use Rattle.sh_slots.specs.declared.hand.Spot.{Spot}
-use Rattle.sh_slots.specs.Slots.{same_spot}
+use Rattle.sh_slots.specs.declared.hand.KeyRef.{KeyRef}
+use Rattle.sh_slots.specs.declared.hand.SlotRef.{SlotRef}
+use Rattle.sh_slots.specs.Slots.{same_slot}
 use Rattle.sh_step.specs.declared.action.Action.{Action}
 use Rattle.sh_step.specs.declared.action.Action.TheVariants as action
 use Rattle.sh_step.specs.declared.action.SlotName.{SlotName}
@@ -67,23 +67,23 @@ module _ (layout : Layout) (v : View) where
   refused : (x : Action) → move_of (plan_of layout v.shape) body x ≡ None → Acts layout x v false v
   refused x none = refused_row x (row_of_made (plan_of layout v.shape) body x None (sym none))
 
-  pub not_leaving : (h : Hand) → body.hand ≡ h → ((x : Spot) → h ≡ Leaving x → ⊥) → Acts layout action.Drop v false v
+  pub not_leaving : (h : Hand) → body.hand ≡ h → ((x : SlotRef) → h ≡ Leaving x → ⊥) → Acts layout action.Drop v false v
   unfolding move_of
   not_leaving (Leaving x) is never = absurd (never x refl)
   not_leaving h is never = refused action.Drop (rw is refl)
 
-  pub not_finishing : (h : Hand) → body.hand ≡ h → ((x : Spot) (g : ℕ) → h ≡ Finishing x g → ⊥)
+  pub not_finishing : (h : Hand) → body.hand ≡ h → ((x : SlotRef) (g : ℕ) → h ≡ Finishing x g → ⊥)
       → Acts layout action.Finish v false v
   unfolding move_of
   not_finishing (Finishing x g) is never = absurd (never x g refl)
   not_finishing h is never = refused action.Finish (rw is refl)
 
-  pub not_to_put : (h : Hand) → body.hand ≡ h → ((x : Spot) → h ≡ ToPut x → ⊥) → Acts layout action.Put v false v
+  pub not_to_put : (h : Hand) → body.hand ≡ h → ((x : SlotRef) → h ≡ ToPut x → ⊥) → Acts layout action.Put v false v
   unfolding move_of
   not_to_put (ToPut x) is never = absurd (never x refl)
   not_to_put h is never = refused action.Put (rw is refl)
 
-  pub not_tying : (h : Hand) → body.hand ≡ h → ((x : Spot) (l : ℕ) (r : Bool) → h ≡ Tying x l r → ⊥)
+  pub not_tying : (h : Hand) → body.hand ≡ h → ((x : SlotRef) (l : ℕ) (r : Bool) → h ≡ Tying x l r → ⊥)
       → Acts layout action.Tie v false v
   unfolding move_of
   not_tying (Tying x l r) is never = absurd (never x l r refl)
@@ -106,11 +106,11 @@ module _ (layout : Layout) (v : View) where
   not_removing h is never = refused action.Mark (rw is refl)
 
   -- an action on a key whose condition is an idle hand and one thing more
-  unless : (x : Action) (k : ℕ) (more : Bool) (made : Name → Move)
+  unless : (x : Action) (k : ℕ) (more : Bool) (made : KeyRef → Move)
       → move_of (plan_of layout v.shape) body x ≡ named (plan_of layout v.shape) k
       (λ y. then_some (idle body && more) (made y))
       → (body.hand ≡ Idle → more ≡ true → ⊥) → Acts layout x v false v
-  unless x k more made is fails = refused x (is ∙ none_behind (λ (y : Name). then_some (idle body && more) (made y))
+  unless x k more made is fails = refused x (is ∙ none_behind (λ (y : KeyRef). then_some (idle body && more) (made y))
       (place_named (plan_of layout v.shape) k) (λ y. none_unless (idle body && more) (made y)
       (λ e. let d = and2 (idle body) more e in fails (idle_is body d.0) d.1)))
 
@@ -123,7 +123,7 @@ module _ (layout : Layout) (v : View) where
       → Acts layout (action.EnterRemove k) v false v
   unfolding move_of
   not_idle_to_remove k h is never = refused (action.EnterRemove k)
-      (none_behind (λ (y : Name). then_some (idle body) (move.EnterRemove k y)) (place_named (plan_of layout v.shape) k)
+      (none_behind (λ (y : KeyRef). then_some (idle body) (move.EnterRemove k y)) (place_named (plan_of layout v.shape) k)
       (λ y. none_unless (idle body) (move.EnterRemove k y) (λ e. never (sym is ∙ idle_is body e))))
 
   pub not_idle_to_drop : (k : ℕ) (h : Hand) → body.hand ≡ h → (h ≡ Idle → ⊥) → Acts layout (action.DropHold k) v false v
@@ -148,10 +148,10 @@ module _ (layout : Layout) (v : View) where
   unfolding move_of
   not_own_slot y left =
       let plan : Plan = plan_of layout v.shape in
-      let may : Spot → Bool = λ x. idle body && own plan body x.page && has (same_spot x) body.mine in
-      refused (action.PutSlot y) (none_behind (λ (x : Spot). then_some (may x) (move.PutSlot x)) (slot_named plan y)
+      let may : SlotRef → Bool = λ x. idle body && own plan body x.page && has (same_slot x) body.mine in
+      refused (action.PutSlot y) (none_behind (λ (x : SlotRef). then_some (may x) (move.PutSlot x)) (slot_named plan y)
       (λ x. none_unless (may x) (move.PutSlot x) (λ e.
-      let owns = owns_is plan body x.page (and3 (idle body) (own plan body x.page) (has (same_spot x) body.mine) e).1 in
+      let owns = owns_is plan body x.page (and3 (idle body) (own plan body x.page) (has (same_slot x) body.mine) e).1 in
       let z : ⊥ = cc in z)))
 
   -- no other action is of these kinds and has a condition that a pass without a shard meets
@@ -203,6 +203,6 @@ busy_still {t = t} {held = held} x m h' p d is = busy_with x m held h' (hand t.m
 
 -- ---- keys, as the code computes them
 
-pub named_here : (layout : Layout) (s r : Numbers) (k : ℕ) (o a : Option Name) → s ≡ r → o
+pub named_here : (layout : Layout) (s r : Numbers) (k : ℕ) (o a : Option KeyRef) → s ≡ r → o
     ≡ place_named (plan_of layout s) k → o ≡ a → place_named (plan_of layout r) k ≡ a
 named_here layout s r k o a same is test = ap (λ z. place_named (plan_of layout z) k) (sym same) ∙ (sym is ∙ test)

@@ -7,7 +7,7 @@ use Rattle.sh_shape.specs.Places.{pages_of}
 use Rattle.sh_shape.specs.Shape.{Numbers}
 use Rattle.sh_step.specs.Moves.{has_place, place_named}
 use Rattle.sh_step.specs.Plans.{plan_of}
-use Rattle.sh_slots.specs.declared.hand.Name.{Name}
+use Rattle.sh_slots.specs.declared.hand.KeyRef.{KeyRef}
 use Rattle.sh_step.proofs.NameLaws.{no_key, no_place, a_place}
 use Rattle.sh_pass.specs.Placing.{IsPlacedBy}
 use Rattle.sh_step.proofs.Truths.{and3}
@@ -26,14 +26,14 @@ parts_are_below layout s k p named is =
     (ltb-true p.shard s.shards all.0, ltb-true p.page (pages_of s) all.1)
 
 -- the place of a key depends on the number of pages of a shard
-pub placed_by_pages : (layout : Layout) (s : Numbers) (k : ℕ) (x : Name) → place_named (plan_of layout s) k ≡ Some x
+pub placed_by_pages : (layout : Layout) (s : Numbers) (k : ℕ) (x : KeyRef) → place_named (plan_of layout s) k ≡ Some x
     → IsPlacedBy layout (pages_of s) k x
 placed_by_pages layout s k x at other pages there = go (unpacked layout k) refl where
   go : (o : Option Parts) → unpacked layout k ≡ o → place_named (plan_of layout other) k ≡ Some x
   go None e = absurd (there (no_key layout other k e))
   go (Some p) e =
       let here = parts_have_place layout s k p (λ none. let no : ⊥ = cc in no) e in
-      let N : ℕ → Option Name = λ n. Some (record {
+      let N : ℕ → Option KeyRef = λ n. Some (record {
         page = p.shard * n + p.page;
         slot = p.slot;
         generation = p.generation;

@@ -6,8 +6,8 @@ use Rattle.sh_history.specs.declared.log.LogEntry.{LogEntry}
 use Rattle.sh_key.specs.Layout.{Layout}
 use Rattle.sh_shape.specs.Shape.{Numbers}
 use Rattle.sh_slots.specs.declared.hand.Hand.TheVariants.{Idle}
-use Rattle.sh_slots.specs.declared.hand.Spot.{Spot}
-use Rattle.sh_slots.specs.Slots.{same_spot}
+use Rattle.sh_slots.specs.declared.hand.SlotRef.{SlotRef}
+use Rattle.sh_slots.specs.Slots.{same_slot}
 use Rattle.sh_step.specs.declared.action.Action.{Action}
 use Rattle.sh_step.specs.declared.action.Action.TheVariants as action
 use Rattle.sh_step.specs.declared.action.PageName.{PageName}
@@ -99,7 +99,7 @@ module _ (layout : Layout) (v w : Caller) (same : SameTale v.view w.view) (alone
         same.shape ∙ alone (meets_bell plan n) (no_follow_bell plan n)) i;
   }
 
-  page_left : (q : ℕ) (g : SeenPage) → ((s : ℕ) → has (same_spot (record { page = q; slot = s })) (own_body w).mine
+  page_left : (q : ℕ) (g : SeenPage) → ((s : ℕ) → has (same_slot (record { page = q; slot = s })) (own_body w).mine
       ≡ g.mine s) → noted q (own_body w).cursors ≡ g.cursor → has (λ y. y == q) (own_body w).armed ≡ g.armed
       → noted q (own_body w).classes ≡ g.class
       → (seen_page v q).takes ≡ g.takes → (seen_page v q).met ≡ g.met → seen_page w q ≡ g
@@ -112,19 +112,19 @@ module _ (layout : Layout) (v w : Caller) (same : SameTale v.view w.view) (alone
     met = (alone (meets_page q) (no_follow q) ∙ met) i;
   }
 
-  slot : (r : Option Spot) → SameOwn (with_slot (own_body v) r) (own_body w) → (own_body v).hand ≡ Idle
+  slot : (r : Option SlotRef) → SameOwn (with_slot (own_body v) r) (own_body w) → (own_body v).hand ≡ Idle
       → IsOfShard plan (own_body v) r → OwnerStands plan (own_body w) → SlotCame r v w
   slot None own idle home stands = λ q. page_left q (seen_page v q)
-      (λ s. ap (has (same_spot (record { page = q; slot = s }))) own.mine) (ap (noted q) own.cursors)
+      (λ s. ap (has (same_slot (record { page = q; slot = s }))) own.mine) (ap (noted q) own.cursors)
       (ap (has (λ y. y == q)) own.armed) (ap (noted q) own.classes) refl refl
   slot (Some x) own idle at stands =
       let p : Body = own_body v in
       let mine : (own_body w).mine ≡ x ∷ p.mine = own.mine in
-      let here : same_spot x x ≡ true = rw (self x.page, self x.slot) refl in
-      let m = stands.mine x (ap (has (same_spot x)) mine ∙ has_front (same_spot x) x p.mine here) in
-      let before : has (same_spot x) p.mine ≡ false =
-      ap (has (same_spot x)) (sym (without_front (same_spot x) x p.mine here))
-      ∙ (ap (λ ys. has (same_spot x) (without (same_spot x) ys)) (sym mine) ∙ stands.mine_once x) in
+      let here : same_slot x x ≡ true = rw (self x.page, self x.slot) refl in
+      let m = stands.mine x (ap (has (same_slot x)) mine ∙ has_front (same_slot x) x p.mine here) in
+      let before : has (same_slot x) p.mine ≡ false =
+      ap (has (same_slot x)) (sym (without_front (same_slot x) x p.mine here))
+      ∙ (ap (λ ys. has (same_slot x) (without (same_slot x) ys)) (sym mine) ∙ stands.mine_once x) in
       let some : 0 < plan.pages = shards_have_pages plan.shards plan.pages x.page m.1 in
       let y : PageName = record { shard = home plan x.page; page = local plan x.page } in (
         y,
@@ -134,16 +134,16 @@ module _ (layout : Layout) (v w : Caller) (same : SameTale v.view w.view) (alone
         before,
         record {
           here = page_left x.page (page_with (seen_page v x.page) x.slot)
-              (λ s. ap (has (same_spot (record { page = x.page; slot = s }))) mine ∙ one_more x.page x.slot s p.mine)
+              (λ s. ap (has (same_slot (record { page = x.page; slot = s }))) mine ∙ one_more x.page x.slot s p.mine)
               (ap (noted x.page) own.cursors) (ap (has (λ z. z == x.page)) own.armed) (ap (noted x.page) own.classes)
               refl refl;
-          others = λ q ne. page_left q (seen_page v q) (λ s. ap (has (same_spot (record { page = q; slot = s }))) mine
+          others = λ q ne. page_left q (seen_page v q) (λ s. ap (has (same_slot (record { page = q; slot = s }))) mine
               ∙ one_more_else x.page q x.slot s p.mine ne) (ap (noted q) own.cursors) (ap (has (λ z. z == q)) own.armed)
               (ap (noted q) own.classes) refl refl;
         },
       )
 
-  pub leaves : (r : Option Spot) → SameOwn (with_slot (own_body v) r) (own_body w) → (own_body v).hand ≡ Idle
+  pub leaves : (r : Option SlotRef) → SameOwn (with_slot (own_body v) r) (own_body w) → (own_body v).hand ≡ Idle
       → (own_body w).hand ≡ Idle → IsOfShard plan (own_body v) r → ViewStands layout w.view → CallLeaves layout r v w
   leaves r own idle over at stands = record {
     idle = over;
@@ -157,7 +157,7 @@ module _ (layout : Layout) (v w : Caller) (same : SameTale v.view w.view) (alone
   }
 
 -- steps that left this body
-pub leaves_grown : {b : Body} {es : List LogEntry} {most : ℕ} (layout : Layout) (v w : Caller) (r : Option Spot)
+pub leaves_grown : {b : Body} {es : List LogEntry} {most : ℕ} (layout : Layout) (v w : Caller) (r : Option SlotRef)
     → Grows b es most v.view w.view → SameOwn (with_slot (own_body v) r) b → b.hand ≡ Idle → (own_body v).hand ≡ Idle
     → IsOfShard (plan_of layout v.view.shape) (own_body v) r → ViewStands layout w.view → CallLeaves layout r v w
 leaves_grown layout v w r g own over idle at stands = leaves layout v w g.same g.calls r

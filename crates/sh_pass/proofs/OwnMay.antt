@@ -5,8 +5,8 @@ use Rattle.std.proofs.lemmas.Nat.{div-mul-add}
 use Rattle.sh_key.specs.Layout.{Layout}
 use Rattle.sh_shape.specs.Classes.{width, slots}
 use Rattle.sh_slots.specs.declared.hand.Hand.TheVariants.{Idle, Filling, Tying}
-use Rattle.sh_slots.specs.declared.hand.Spot.{Spot}
-use Rattle.sh_slots.specs.Slots.{same_spot, spots}
+use Rattle.sh_slots.specs.declared.hand.SlotRef.{SlotRef}
+use Rattle.sh_slots.specs.Slots.{same_slot, slot_refs}
 use Rattle.sh_step.specs.declared.action.Action.{Action}
 use Rattle.sh_step.specs.declared.action.Action.TheVariants as action
 use Rattle.sh_step.specs.declared.action.PageName.{PageName}
@@ -21,17 +21,17 @@ use Rattle.sh_step.proofs.PageLaws.{page_within, name_of_page}
 use Rattle.sh_step.proofs.RowLaws.{row_of_may}
 use Rattle.sh_table.specs.Steps.{MayDo}
 use Rattle.sh_pass.specs.Passes.{Caller}
-use Rattle.sh_pass.specs.Owners.{MayTouch, MayGive, own_body, heap_page, heap_spot, slot_in, seen_page}
+use Rattle.sh_pass.specs.Owners.{MayTouch, MayGive, own_body, heap_page, heap_slot, slot_in, seen_page}
 
 pub home_is : (plan : Plan) (n p : ℕ) → p < plan.pages → home plan (n * plan.pages + p) ≡ n
 unfolding home
 home_is plan n p h = div-mul-add n plan.pages p h
 
-every_of : (f : Spot → Bool) (q s n : ℕ) → ((t : ℕ) → s ≤ t → t < s + n → f (record { page = q; slot = t }) ≡ true)
-    → every f (spots q s n) ≡ true
-unfolding every spots
+every_of : (f : SlotRef → Bool) (q s n : ℕ) → ((t : ℕ) → s ≤ t → t < s + n → f (record { page = q; slot = t }) ≡ true)
+    → every f (slot_refs q s n) ≡ true
+unfolding every slot_refs
 every_of f q s zero h = refl
-every_of f q s (suc n) h = ap (λ b. b && every f (spots q (s + 1) n)) (h s (omega arith) (omega arith))
+every_of f q s (suc n) h = ap (λ b. b && every f (slot_refs q (s + 1) n)) (h s (omega arith) (omega arith))
     ∙ every_of f q (s + 1) n (λ t above below. h t (omega arith) (omega arith))
 
 pub owns_it : (layout : Layout) (v : Caller) (x : PageName) → MayTouch v x
@@ -47,16 +47,16 @@ module _ (layout : Layout) (v : Caller) where
   may_do : (m : Move) → May heap_plan (own_body v) m → MayDo layout v.view (action_of heap_plan m) m
   may_do m may = row_of_may heap_plan (own_body v) m may
 
-  pub may_tie_owned : (x : Spot) (l : ℕ) (ring : Bool) → (own_body v).hand ≡ Tying x l ring
+  pub may_tie_owned : (x : SlotRef) (l : ℕ) (ring : Bool) → (own_body v).hand ≡ Tying x l ring
       → MayDo layout v.view action.Tie (move.Tie x l ring)
   may_tie_owned x l ring is = may_do (move.Tie x l ring) is
 
-  pub may_fill : (x : Spot) (value : List ℕ) (i class_word : ℕ) → (own_body v).hand ≡ Filling x value i
+  pub may_fill : (x : SlotRef) (value : List ℕ) (i class_word : ℕ) → (own_body v).hand ≡ Filling x value i
       → i < length value → class_word_noted (own_body v) x.page ≡ class_word
       → MayDo layout v.view action.Fill (move.Fill x value i class_word)
   may_fill x value i class_word is less class = may_do (move.Fill x value i class_word) (is, less, class)
 
-  pub may_publish : (x : Spot) (value : List ℕ) → (own_body v).hand ≡ Filling x value (length value)
+  pub may_publish : (x : SlotRef) (value : List ℕ) → (own_body v).hand ≡ Filling x value (length value)
       → MayDo layout v.view action.Publish (move.Publish x value)
   may_publish x value is = may_do (move.Publish x value) (length value, is, omega arith)
 
@@ -124,21 +124,21 @@ module _ (layout : Layout) (v : Caller) (x : PageName) (m : MayTouch v x) (few :
   may_set_class class small (inl blank) = by_name (λ y. action.SetClass y class) (move.SetClass touched class)
       (may_do layout v (move.SetClass touched class) (0, m.idle, inside, owns, blank, inl refl, small))
   may_set_class class small (inr t) =
-      let f : Spot → Bool = λ y. has (same_spot y) (own_body v).mine in
+      let f : SlotRef → Bool = λ y. has (same_slot y) (own_body v).mine in
       let one : suc t.0 - 1 ≡ t.0 = omega arith in
-      let all : all_mine (own_body v) touched (suc t.0) ≡ true = ap (λ c. every f (spots touched 0 (slots c))) one
+      let all : all_mine (own_body v) touched (suc t.0) ≡ true = ap (λ c. every f (slot_refs touched 0 (slots c))) one
       ∙ every_of f touched 0 (slots t.0) (λ s low high. t.2 s (omega arith)) in
       by_name (λ y. action.SetClass y class) (move.SetClass touched class)
       (may_do layout v (move.SetClass touched class) (suc t.0, m.idle, inside, owns, t.1, inr all, small))
 
-  pub may_fill_slot : (s : ℕ) (value : List ℕ) → s < 48 → has (same_spot (heap_spot v x s)) (own_body v).mine ≡ true
+  pub may_fill_slot : (s : ℕ) (value : List ℕ) → s < 48 → has (same_slot (heap_slot v x s)) (own_body v).mine ≡ true
       → 0 < class_word_noted (own_body v) touched → length value ≤ width (class_word_noted (own_body v) touched - 1)
-      → MayDo layout v.view (action.FillSlot (slot_in x s) value) (move.FillSlot (heap_spot v x s) value)
+      → MayDo layout v.view (action.FillSlot (slot_in x s) value) (move.FillSlot (heap_slot v x s) value)
   may_fill_slot s value low mine class fits = by_name (λ y. action.FillSlot (slot_in y s) value)
-      (move.FillSlot (heap_spot v x s) value)
-      (may_do layout v (move.FillSlot (heap_spot v x s) value) (m.idle, (inside, low), owns, mine, class, fits))
+      (move.FillSlot (heap_slot v x s) value)
+      (may_do layout v (move.FillSlot (heap_slot v x s) value) (m.idle, (inside, low), owns, mine, class, fits))
 
-  pub may_put_slot : (s : ℕ) → s < 48 → has (same_spot (heap_spot v x s)) (own_body v).mine ≡ true
-      → MayDo layout v.view (action.PutSlot (slot_in x s)) (move.PutSlot (heap_spot v x s))
-  may_put_slot s low mine = by_name (λ y. action.PutSlot (slot_in y s)) (move.PutSlot (heap_spot v x s))
-      (may_do layout v (move.PutSlot (heap_spot v x s)) (m.idle, (inside, low), owns, mine))
+  pub may_put_slot : (s : ℕ) → s < 48 → has (same_slot (heap_slot v x s)) (own_body v).mine ≡ true
+      → MayDo layout v.view (action.PutSlot (slot_in x s)) (move.PutSlot (heap_slot v x s))
+  may_put_slot s low mine = by_name (λ y. action.PutSlot (slot_in y s)) (move.PutSlot (heap_slot v x s))
+      (may_do layout v (move.PutSlot (heap_slot v x s)) (m.idle, (inside, low), owns, mine))

@@ -6,8 +6,8 @@ use Rattle.std.specs.Prelude.{nat_lt, nat_le, not}
 use Rattle.std.proofs.lemmas.Bool.{and_parts, and_right}
 use Rattle.std.proofs.lemmas.Bool.Decides.{nat_tests}
 use Rattle.std.proofs.Math.Bool.{and-false, and-true, or-false}
-use Rattle.sh_slots.specs.declared.hand.Spot.{Spot}
-use Rattle.sh_slots.specs.Slots.{same_spot, spots}
+use Rattle.sh_slots.specs.declared.hand.SlotRef.{SlotRef}
+use Rattle.sh_slots.specs.Slots.{same_slot, slot_refs}
 use Rattle.sh_step.specs.Collections.{has, noted, without, off}
 use Rattle.sh_step.specs.Rows.{point, unpoint}
 use Rattle.sh_step.proofs.ListLaws.{has_in_both}
@@ -65,73 +65,73 @@ pub armed_else : (q r : ℕ) (xs : List ℕ) → r ≢ q → has (λ x. x == r) 
 unfolding has
 armed_else q r xs ne = ap (λ b. b || has (λ x. x == r) xs) (ne_eqb q r (λ e. ne (sym e)))
 
-abbrev at : ℕ → ℕ → Spot
+abbrev at : ℕ → ℕ → SlotRef
 at q s = record { page = q; slot = s }
 
-pub one_more : (q s t : ℕ) (xs : List Spot) → has (same_spot (at q t)) (at q s ∷ xs)
-    ≡ ((t == s) || has (same_spot (at q t)) xs)
+pub one_more : (q s t : ℕ) (xs : List SlotRef) → has (same_slot (at q t)) (at q s ∷ xs)
+    ≡ ((t == s) || has (same_slot (at q t)) xs)
 unfolding has
-one_more q s t xs = ap (λ b. (b && (t == s)) || has (same_spot (at q t)) xs) (self q)
+one_more q s t xs = ap (λ b. (b && (t == s)) || has (same_slot (at q t)) xs) (self q)
 
-pub one_more_else : (q r s t : ℕ) (xs : List Spot) → r ≢ q → has (same_spot (at r t)) (at q s ∷ xs)
-    ≡ has (same_spot (at r t)) xs
+pub one_more_else : (q r s t : ℕ) (xs : List SlotRef) → r ≢ q → has (same_slot (at r t)) (at q s ∷ xs)
+    ≡ has (same_slot (at r t)) xs
 unfolding has
-one_more_else q r s t xs ne = ap (λ b. (b && (t == s)) || has (same_spot (at r t)) xs) (ne_eqb r q ne)
+one_more_else q r s t xs ne = ap (λ b. (b && (t == s)) || has (same_slot (at r t)) xs) (ne_eqb r q ne)
 
-pub one_less_else : (q r s t : ℕ) (xs : List Spot) → r ≢ q → has (same_spot (at r t)) (without (same_spot (at q s)) xs)
-    ≡ has (same_spot (at r t)) xs
-one_less_else q r s t xs ne = has_without_else (same_spot (at q s)) (same_spot (at r t)) xs (λ x e.
+pub one_less_else : (q r s t : ℕ) (xs : List SlotRef) → r ≢ q → has (same_slot (at r t)) (without (same_slot (at q s)) xs)
+    ≡ has (same_slot (at r t)) xs
+one_less_else q r s t xs ne = has_without_else (same_slot (at q s)) (same_slot (at r t)) xs (λ x e.
     let k = and_parts (q == x.page) (s == x.slot) e in
     let z : q ≡ x.page = (let k0 = k.0 in grind (arith, nat_tests)) in
     ap (λ b. b && (t == x.slot)) (ne_eqb r x.page (λ j. ne (j ∙ sym z))))
 
-pub one_less : (q s t : ℕ) (xs : List Spot) → has (same_spot (at q s)) (without (same_spot (at q s)) xs) ≡ false
-    → has (same_spot (at q t)) (without (same_spot (at q s)) xs) ≡ (has (same_spot (at q t)) xs && not (t == s))
+pub one_less : (q s t : ℕ) (xs : List SlotRef) → has (same_slot (at q s)) (without (same_slot (at q s)) xs) ≡ false
+    → has (same_slot (at q t)) (without (same_slot (at q s)) xs) ≡ (has (same_slot (at q t)) xs && not (t == s))
 one_less q s t xs once = go (t == s) refl where
-  go : (b : Bool) → (t == s) ≡ b → has (same_spot (at q t)) (without (same_spot (at q s)) xs)
-      ≡ (has (same_spot (at q t)) xs && not b)
+  go : (b : Bool) → (t == s) ≡ b → has (same_slot (at q t)) (without (same_slot (at q s)) xs)
+      ≡ (has (same_slot (at q t)) xs && not b)
   go true e = let z : t ≡ s = eqb-true t s e in subst
-      (λ j. has (same_spot (at q j)) (without (same_spot (at q s)) xs) ≡ false) (sym z) once
-      ∙ sym (and-false (has (same_spot (at q t)) xs))
-  go false e = has_without_else (same_spot (at q s)) (same_spot (at q t)) xs (λ x f.
+      (λ j. has (same_slot (at q j)) (without (same_slot (at q s)) xs) ≡ false) (sym z) once
+      ∙ sym (and-false (has (same_slot (at q t)) xs))
+  go false e = has_without_else (same_slot (at q s)) (same_slot (at q t)) xs (λ x f.
       let k = and_parts (q == x.page) (s == x.slot) f in
       let z : s ≡ x.slot = eqb-true s x.slot k.1 in
       and_right (q == x.page) (t == x.slot) (ap (λ i. t == i) (sym z) ∙ e))
-      ∙ sym (and-true (has (same_spot (at q t)) xs))
+      ∙ sym (and-true (has (same_slot (at q t)) xs))
 
 -- ---- all slots of a page
 
-none_off : (q t : ℕ) (xs : List Spot) → has (same_spot (at q t)) (off (λ x. x.page == q) xs) ≡ false
+none_off : (q t : ℕ) (xs : List SlotRef) → has (same_slot (at q t)) (off (λ x. x.page == q) xs) ≡ false
 unfolding has off
 none_off q t [] = refl
 none_off q t (x ∷ xs) = go (x.page == q) refl (none_off q t xs) where
-  go : (b : Bool) → (x.page == q) ≡ b → has (same_spot (at q t)) (off (λ x. x.page == q) xs) ≡ false
-      → has (same_spot (at q t)) (cond b (off (λ x. x.page == q) xs) (x ∷ off (λ x. x.page == q) xs)) ≡ false
+  go : (b : Bool) → (x.page == q) ≡ b → has (same_slot (at q t)) (off (λ x. x.page == q) xs) ≡ false
+      → has (same_slot (at q t)) (cond b (off (λ x. x.page == q) xs) (x ∷ off (λ x. x.page == q) xs)) ≡ false
   go true e rest = rest
-  go false e rest = ap (λ b. (b && (t == x.slot)) || has (same_spot (at q t)) (off (λ x. x.page == q) xs))
+  go false e rest = ap (λ b. (b && (t == x.slot)) || has (same_slot (at q t)) (off (λ x. x.page == q) xs))
       (ne_eqb q x.page (λ k. let z : true ≡ false = (sym (self q) ∙ ap (λ i. i == q) k) ∙ e in cc)) ∙ rest
 
-off_else : (q r t : ℕ) (xs : List Spot) → r ≢ q → has (same_spot (at r t)) (off (λ x. x.page == q) xs)
-    ≡ has (same_spot (at r t)) xs
+off_else : (q r t : ℕ) (xs : List SlotRef) → r ≢ q → has (same_slot (at r t)) (off (λ x. x.page == q) xs)
+    ≡ has (same_slot (at r t)) xs
 unfolding has off
 off_else q r t [] ne = refl
 off_else q r t (x ∷ xs) ne = go (x.page == q) refl (off_else q r t xs ne) where
-  go : (b : Bool) → (x.page == q) ≡ b → has (same_spot (at r t)) (off (λ x. x.page == q) xs)
-      ≡ has (same_spot (at r t)) xs → has (same_spot (at r t))
+  go : (b : Bool) → (x.page == q) ≡ b → has (same_slot (at r t)) (off (λ x. x.page == q) xs)
+      ≡ has (same_slot (at r t)) xs → has (same_slot (at r t))
       (cond b (off (λ x. x.page == q) xs) (x ∷ off (λ x. x.page == q) xs))
-      ≡ (((r == x.page) && (t == x.slot)) || has (same_spot (at r t)) xs)
-  go true e rest = rest ∙ ap (λ b. (b && (t == x.slot)) || has (same_spot (at r t)) xs)
+      ≡ (((r == x.page) && (t == x.slot)) || has (same_slot (at r t)) xs)
+  go true e rest = rest ∙ ap (λ b. (b && (t == x.slot)) || has (same_slot (at r t)) xs)
       (sym (ne_eqb r x.page (λ k. ne (let z : x.page ≡ q = grind (arith, nat_tests) in k ∙ z))))
   go false e rest = ap (λ b. ((r == x.page) && (t == x.slot)) || b) rest
 
-spots_have : (q t s n : ℕ) → has (same_spot (at q t)) (spots q s n) ≡ (nat_le s t && nat_lt t (s + n))
-unfolding has spots
-spots_have q t s zero = go (nat_le s t) refl where
+slots_have : (q t s n : ℕ) → has (same_slot (at q t)) (slot_refs q s n) ≡ (nat_le s t && nat_lt t (s + n))
+unfolding has slot_refs
+slots_have q t s zero = go (nat_le s t) refl where
   go : (b : Bool) → nat_le s t ≡ b → false ≡ (b && nat_lt t (s + 0))
   go true e = let z : nat_lt t (s + 0) ≡ false = grind (arith, nat_tests) in sym z
   go false e = refl
-spots_have q t s (suc n) = ap (λ b. (b && (t == s)) || has (same_spot (at q t)) (spots q (s + 1) n)) (self q)
-    ∙ (ap (λ b. (t == s) || b) (spots_have q t (s + 1) n) ∙ go (t == s) refl) where
+slots_have q t s (suc n) = ap (λ b. (b && (t == s)) || has (same_slot (at q t)) (slot_refs q (s + 1) n)) (self q)
+    ∙ (ap (λ b. (t == s) || b) (slots_have q t (s + 1) n) ∙ go (t == s) refl) where
       two : (b : Bool) → nat_le (s + 1) t ≡ b → (t == s) ≡ false → (b && nat_lt t (s + 1 + n))
           ≡ (nat_le s t && nat_lt t (s + suc n))
       two true e f =
@@ -150,26 +150,26 @@ spots_have q t s (suc n) = ap (λ b. (b && (t == s)) || has (same_spot (at q t))
           rw (x, y) refl
       go false e = two (nat_le (s + 1) t) refl e
 
-spots_else : (q r t s n : ℕ) → r ≢ q → has (same_spot (at r t)) (spots q s n) ≡ false
-unfolding has spots
-spots_else q r t s zero ne = refl
-spots_else q r t s (suc n) ne = ap (λ b. (b && (t == s)) || has (same_spot (at r t)) (spots q (s + 1) n))
-    (ne_eqb r q ne) ∙ spots_else q r t (s + 1) n ne
+slots_else : (q r t s n : ℕ) → r ≢ q → has (same_slot (at r t)) (slot_refs q s n) ≡ false
+unfolding has slot_refs
+slots_else q r t s zero ne = refl
+slots_else q r t s (suc n) ne = ap (λ b. (b && (t == s)) || has (same_slot (at r t)) (slot_refs q (s + 1) n))
+    (ne_eqb r q ne) ∙ slots_else q r t (s + 1) n ne
 
-pub all_given : (q t n : ℕ) (xs : List Spot) → has (same_spot (at q t)) (spots q 0 n ++ off (λ x. x.page == q) xs)
+pub all_given : (q t n : ℕ) (xs : List SlotRef) → has (same_slot (at q t)) (slot_refs q 0 n ++ off (λ x. x.page == q) xs)
     ≡ nat_lt t n
 all_given q t n xs =
     let x : nat_le 0 t ≡ true = grind (arith, nat_tests) in
     let y : 0 + n ≡ n = omega arith in
-    has_in_both (same_spot (at q t)) (spots q 0 n) (off (λ x. x.page == q) xs)
-    ∙ (ap (λ b. has (same_spot (at q t)) (spots q 0 n) || b) (none_off q t xs)
-    ∙ (or-false (has (same_spot (at q t)) (spots q 0 n)) ∙
-    (spots_have q t 0 n ∙ (ap (λ b. b && nat_lt t (0 + n)) x ∙ ap (nat_lt t) y))))
+    has_in_both (same_slot (at q t)) (slot_refs q 0 n) (off (λ x. x.page == q) xs)
+    ∙ (ap (λ b. has (same_slot (at q t)) (slot_refs q 0 n) || b) (none_off q t xs)
+    ∙ (or-false (has (same_slot (at q t)) (slot_refs q 0 n)) ∙
+    (slots_have q t 0 n ∙ (ap (λ b. b && nat_lt t (0 + n)) x ∙ ap (nat_lt t) y))))
 
-pub given_else : (q r t n : ℕ) (xs : List Spot) → r ≢ q → has (same_spot (at r t))
-    (spots q 0 n ++ off (λ x. x.page == q) xs) ≡ has (same_spot (at r t)) xs
-given_else q r t n xs ne = has_in_both (same_spot (at r t)) (spots q 0 n) (off (λ x. x.page == q) xs)
-    ∙ (ap (λ b. b || has (same_spot (at r t)) (off (λ x. x.page == q) xs)) (spots_else q r t 0 n ne)
+pub given_else : (q r t n : ℕ) (xs : List SlotRef) → r ≢ q → has (same_slot (at r t))
+    (slot_refs q 0 n ++ off (λ x. x.page == q) xs) ≡ has (same_slot (at r t)) xs
+given_else q r t n xs ne = has_in_both (same_slot (at r t)) (slot_refs q 0 n) (off (λ x. x.page == q) xs)
+    ∙ (ap (λ b. b || has (same_slot (at r t)) (off (λ x. x.page == q) xs)) (slots_else q r t 0 n ne)
     ∙ off_else q r t xs ne)
 
 pub noted_else : (q r n : ℕ) (xs : List (ℕ × ℕ)) → r ≢ q → noted r ((q, n) ∷ xs) ≡ noted r xs
@@ -178,7 +178,7 @@ noted_else q r n xs ne = ap (λ b. cond b (Some n) (noted r xs)) (ne_eqb q r (λ
 
 -- ---- lists that note nothing
 
-pub none_mine : (xs : List Spot) → ((x : Spot) → has (same_spot x) xs ≡ false) → xs ≡ []
+pub none_mine : (xs : List SlotRef) → ((x : SlotRef) → has (same_slot x) xs ≡ false) → xs ≡ []
 unfolding has
 none_mine [] h = refl
 none_mine (x ∷ xs) h = absurd (true≢false (sym (rw (self x.page, self x.slot) refl) ∙ h x))

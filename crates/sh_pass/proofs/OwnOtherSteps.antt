@@ -8,7 +8,7 @@ use Rattle.sh_history.specs.declared.entry.Entry.TheVariants as entry
 use Rattle.sh_history.specs.declared.log.LogEntry.TheVariants.{Known}
 use Rattle.sh_key.specs.Layout.{Layout}
 use Rattle.sh_slots.specs.declared.hand.Hand.TheVariants.{Idle, Filling, Ringing}
-use Rattle.sh_slots.specs.declared.hand.Spot.{Spot}
+use Rattle.sh_slots.specs.declared.hand.SlotRef.{SlotRef}
 use Rattle.sh_step.specs.declared.action.Action.{Action}
 use Rattle.sh_step.specs.declared.action.Action.TheVariants as action
 use Rattle.sh_step.specs.declared.body.Body.{Body}
@@ -26,7 +26,7 @@ use Rattle.sh_pass.proofs.OwnNotes.{self}
 use Rattle.sh_pass.proofs.OwnSteps.{body_is, still, more, same_tale, log_is, acts, bells_same, page_after, pages_same}
 
 module _ (layout : Layout) (v w : Caller) where
-  pub fill_does : (x : Spot) (value : List ℕ) (i class_word : ℕ) → OwnerDid layout action.Fill
+  pub fill_does : (x : SlotRef) (value : List ℕ) (i class_word : ℕ) → OwnerDid layout action.Fill
       (move.Fill x value i class_word) 0 v w → OwnerActs (Filling x value (i + 1)) [] 1 v w × SameBells layout v w
       × SamePages v w × NonePut v w
   fill_does x value i class_word d =
@@ -39,7 +39,7 @@ module _ (layout : Layout) (v w : Caller) where
         still layout action.Fill m 0 v w d b refl puts_slot refl,
       )
 
-  pub publish_does : (x : Spot) (value : List ℕ) (n : ℕ) → OwnerDid layout action.Publish (move.Publish x value) n v w
+  pub publish_does : (x : SlotRef) (value : List ℕ) (n : ℕ) → OwnerDid layout action.Publish (move.Publish x value) n v w
       → OwnerActs Idle (Known (entry.Insert v.view.pass (published layout v x n) value) ∷ []) 1 v w
       × SameBells layout v w × SamePages v w × NonePut v w
   publish_does x value n d =
@@ -52,7 +52,7 @@ module _ (layout : Layout) (v w : Caller) where
         still layout action.Publish m n v w d b refl puts_slot refl,
       )
 
-  pub tie_does : (x : Spot) (l : ℕ) (ring : Bool) → OwnerDid layout action.Tie (move.Tie x l ring) 0 v w
+  pub tie_does : (x : SlotRef) (l : ℕ) (ring : Bool) → OwnerDid layout action.Tie (move.Tie x l ring) 0 v w
       → OwnerActs (cond ring (Ringing x.page) Idle) [] 1 v w × SameBells layout v w × SamePages v w × NonePut v w
   tie_does x l ring d =
       let p : Body = own_body v in

@@ -6,7 +6,7 @@ use Rattle.sh_bell.specs.Bell.{is_armed, top_of}
 use Rattle.sh_key.specs.Layout.{Layout}
 use Rattle.sh_shape.specs.Classes.{slots}
 use Rattle.sh_slots.specs.declared.hand.Hand.TheVariants.{Idle, Filling, Tying}
-use Rattle.sh_slots.specs.Slots.{same_spot, spots}
+use Rattle.sh_slots.specs.Slots.{same_slot, slot_refs}
 use Rattle.sh_stack.specs.Stack.{link_item, link_over}
 use Rattle.sh_step.specs.declared.action.Action.{Action}
 use Rattle.sh_step.specs.declared.action.Action.TheVariants as action
@@ -24,7 +24,7 @@ use Rattle.sh_table.specs.Steps.{row_by}
 use Rattle.sh_table.specs.Tales.{OwnerStands}
 use Rattle.sh_pass.specs.Passes.{Caller}
 use Rattle.sh_pass.specs.Owners.{OwnerDid, OwnerActs, OnPage, SameBells, NonePut, NoneArmed, own_body, seen_page}
-use Rattle.sh_pass.specs.Owners.{heap_page, heap_spot, slot_in, page_taken, page_armed, page_followed, page_without}
+use Rattle.sh_pass.specs.Owners.{heap_page, heap_slot, slot_in, page_taken, page_armed, page_followed, page_without}
 use Rattle.sh_pass.specs.Owners.{page_given, page_noted}
 use Rattle.sh_pass.proofs.OwnNotes.{self, noted_point, noted_point_else, noted_unpoint_else, disarmed, disarmed_else}
 use Rattle.sh_pass.proofs.OwnNotes.{armed_else, one_more, one_more_else, one_less, one_less_else, all_given, given_else}
@@ -68,7 +68,7 @@ module _ (layout : Layout) (v w : Caller) (x : PageName) (own : OwnerStands (pla
         let m : Move = move.SetClass q c in
         let b : Body = record p {
           classes = (q, c + 1) ∷ p.classes;
-          mine = spots q 0 (slots c)
+          mine = slot_refs q 0 (slots c)
               ++ off (λ y. y.page == q) p.mine;
         } in (
           acts layout a m 0 v w d b refl Idle [] refl refl idle refl refl,
@@ -206,22 +206,22 @@ module _ (layout : Layout) (v w : Caller) (x : PageName) (own : OwnerStands (pla
       go false e = follow_some s n e idle d
 
     pub fill_slot_does : (s : ℕ) (value : List ℕ) → OwnerDid layout (action.FillSlot (slot_in x s) value)
-        (move.FillSlot (heap_spot v x s) value) 0 v w → OwnerActs (Filling (heap_spot v x s) value 0) [] 1 v w
+        (move.FillSlot (heap_slot v x s) value) 0 v w → OwnerActs (Filling (heap_slot v x s) value 0) [] 1 v w
         × SameBells layout v w × OnPage q (page_without (seen_page v q) s) v w × NonePut v w
     fill_slot_does s value d =
         let p : Body = own_body v in
         let a : Action = action.FillSlot (slot_in x s) value in
-        let m : Move = move.FillSlot (heap_spot v x s) value in
+        let m : Move = move.FillSlot (heap_slot v x s) value in
         let b : Body = record p {
-          mine = without (same_spot (heap_spot v x s)) p.mine;
-          hand = Filling (heap_spot v x s)
+          mine = without (same_slot (heap_slot v x s)) p.mine;
+          hand = Filling (heap_slot v x s)
               value 0;
         } in (
-          acts layout a m 0 v w d b refl (Filling (heap_spot v x s) value 0) [] refl refl refl refl refl,
+          acts layout a m 0 v w d b refl (Filling (heap_slot v x s) value 0) [] refl refl refl refl refl,
           bells_same layout a m 0 v w d b refl refl (λ k. refl) (λ k. refl),
           record {
             here = page_after layout a m 0 v w d b refl q (page_without (seen_page v q) s)
-                (λ t. one_less q s t p.mine (own.mine_once (heap_spot v x s))) refl refl refl
+                (λ t. one_less q s t p.mine (own.mine_once (heap_slot v x s))) refl refl refl
                 (still layout a m 0 v w d b refl (takes_page q) refl)
                 (still layout a m 0 v w d b refl (meets_page q) refl);
             others = λ r ne. page_after layout a m 0 v w d b refl r (seen_page v r)
@@ -232,24 +232,24 @@ module _ (layout : Layout) (v w : Caller) (x : PageName) (own : OwnerStands (pla
           still layout a m 0 v w d b refl puts_slot refl,
         )
 
-    pub put_does : (s n : ℕ) → OwnerDid layout (action.PutSlot (slot_in x s)) (move.PutSlot (heap_spot v x s)) n v w
-        → OwnerActs (Tying (heap_spot v x s) (link_over (top_of n)) (is_armed n)) [] 1 v w × SameBells layout v w
+    pub put_does : (s n : ℕ) → OwnerDid layout (action.PutSlot (slot_in x s)) (move.PutSlot (heap_slot v x s)) n v w
+        → OwnerActs (Tying (heap_slot v x s) (link_over (top_of n)) (is_armed n)) [] 1 v w × SameBells layout v w
         × OnPage q (page_without (seen_page v q) s) v w
     put_does s n d =
         let p : Body = own_body v in
         let a : Action = action.PutSlot (slot_in x s) in
-        let m : Move = move.PutSlot (heap_spot v x s) in
+        let m : Move = move.PutSlot (heap_slot v x s) in
         let b : Body = record p {
-          mine = without (same_spot (heap_spot v x s)) p.mine;
-          hand = Tying (heap_spot v x s)
+          mine = without (same_slot (heap_slot v x s)) p.mine;
+          hand = Tying (heap_slot v x s)
               (link_over (top_of n)) (is_armed n);
         } in (
-          acts layout a m n v w d b refl (Tying (heap_spot v x s) (link_over (top_of n)) (is_armed n)) [] refl refl refl
+          acts layout a m n v w d b refl (Tying (heap_slot v x s) (link_over (top_of n)) (is_armed n)) [] refl refl refl
               refl refl,
           bells_same layout a m n v w d b refl refl (λ k. refl) (λ k. refl),
           record {
             here = page_after layout a m n v w d b refl q (page_without (seen_page v q) s)
-                (λ t. one_less q s t p.mine (own.mine_once (heap_spot v x s))) refl refl refl
+                (λ t. one_less q s t p.mine (own.mine_once (heap_slot v x s))) refl refl refl
                 (still layout a m n v w d b refl (takes_page q) refl)
                 (still layout a m n v w d b refl (meets_page q) refl);
             others = λ r ne. page_after layout a m n v w d b refl r (seen_page v r)

@@ -8,8 +8,8 @@ use Rattle.sh_shape.specs.Shape.{Numbers}
 use Rattle.sh_shape.specs.Places.{IsPlace}
 use Rattle.sh_shape.specs.declared.places.Place.TheVariants.{State}
 use Rattle.sh_slots.specs.declared.hand.Hand.{Hand}
-use Rattle.sh_slots.specs.declared.hand.Name.{Name}
-use Rattle.sh_slots.specs.declared.hand.Spot.{Spot}
+use Rattle.sh_slots.specs.declared.hand.KeyRef.{KeyRef}
+use Rattle.sh_slots.specs.declared.hand.SlotRef.{SlotRef}
 use Rattle.sh_slots.specs.Slots.{published_name}
 use Rattle.sh_step.specs.declared.action.Action.TheVariants as action
 use Rattle.sh_step.specs.declared.action.PageName.{PageName}
@@ -19,7 +19,7 @@ use Rattle.sh_step.specs.Plans.{Plan, plan_of, heap_pages, home}
 use Rattle.sh_step.proofs.Truths.{lt_true}
 use Rattle.sh_pass.specs.Passes.{Caller}
 use Rattle.sh_pass.specs.Owners.{MayTouch, OwnerDid, OwnerActs, Aside, OnPage, SamePages, SeenPage, IsKeyIn, IsKeyOn}
-use Rattle.sh_pass.specs.Owners.{heap_page, heap_spot}
+use Rattle.sh_pass.specs.Owners.{heap_page, heap_slot}
 use Rattle.sh_pass.proofs.OwnMay.{home_is}
 use Rattle.sh_pass.proofs.ReadLaws.{later_same}
 
@@ -45,32 +45,32 @@ pub page_on : {q : ℕ} {g : SeenPage} {v w u : Caller} → OnPage q g v w → S
 page_on {q = q} a s = record { here = s q ∙ a.here; others = λ r ne. s r ∙ a.others r ne }
 
 -- what was published names its slot
-pub issued : (layout : Layout) (shape : Numbers) (v w : Caller) (x : Spot) (value : List ℕ) (n : ℕ) (y : Name)
+pub issued : (layout : Layout) (shape : Numbers) (v w : Caller) (x : SlotRef) (value : List ℕ) (n : ℕ) (y : KeyRef)
     → OwnerDid layout action.Publish (move.Publish x value) n v w → shape ≡ v.view.shape → y ≡ published_name x n
     → (plan_of layout shape).keys.unpack ((plan_of layout shape).keys.pack y) ≡ Some y
 issued layout shape v w x value n y d same is =
-    let P : Numbers → Name → Type 0 = λ s z. (plan_of layout s).keys.unpack ((plan_of layout s).keys.pack z) ≡ Some z in
+    let P : Numbers → KeyRef → Type 0 = λ s z. (plan_of layout s).keys.unpack ((plan_of layout s).keys.pack z) ≡ Some z in
     subst (λ s. P s y) (sym same) (subst (P v.view.shape) (sym is)
     ((d.fits refl).issues ((plan_of layout v.view.shape).keys.pack (published_name x n)) value x.page x.slot refl
     refl))
 
 -- and its key names a slot of the page
 pub key_on : (layout : Layout) (v u w : Caller) (x : PageName) (slot : ℕ) (value : List ℕ) (n : ℕ) (shape : Numbers)
-    (k : ℕ) (y : Name) → OwnerDid layout action.Publish (move.Publish (heap_spot v x slot) value) n u w
+    (k : ℕ) (y : KeyRef) → OwnerDid layout action.Publish (move.Publish (heap_slot v x slot) value) n u w
     → u.view.shape ≡ v.view.shape → shape ≡ u.view.shape
-    → y ≡ published_name (heap_spot v x slot) n → k ≡ (plan_of layout shape).keys.pack y
+    → y ≡ published_name (heap_slot v x slot) n → k ≡ (plan_of layout shape).keys.pack y
     → IsKeyOn layout v (heap_page v x) k
 key_on layout v u w x slot value n shape k y d before same is key =
     let plan : Plan = plan_of layout v.view.shape in
-    let named : Name = published_name (heap_spot v x slot) n in
+    let named : KeyRef = published_name (heap_slot v x slot) n in
     let told : plan.keys.unpack (plan.keys.pack named) ≡ Some named = issued layout v.view.shape u w
-    (heap_spot v x slot) value n named d (sym before) refl in
+    (heap_slot v x slot) value n named d (sym before) refl in
     let one : k ≡ plan.keys.pack named = key ∙ (λ i. (plan_of layout ((same ∙ before) i)).keys.pack (is i)) in
     let place = subst (λ (s : Numbers). IsPlace s (State (heap_page v x) slot)) before (d.fits refl).place in
     let a : nat_lt (heap_page v x) (heap_pages plan) ≡ true = lt_true (heap_page v x) (heap_pages plan) place.0 in
     let b : nat_lt slot 48 ≡ true = lt_true slot 48 place.1 in (
       named,
-      ap (place_named plan) one ∙ (ap (λ (o : Option Name). elim o as (λ _. Option Name)
+      ap (place_named plan) one ∙ (ap (λ (o : Option KeyRef). elim o as (λ _. Option KeyRef)
           [ Some z ↦ cond (nat_lt z.page (heap_pages plan) && nat_lt z.slot 48) (Some z) None | None ↦ None ]) told
           ∙ rw (a, b) refl),
       refl,

@@ -6,7 +6,7 @@ use Rattle.std.specs.Prelude.{count_by}
 use Rattle.sh_history.specs.declared.log.LogEntry.{LogEntry}
 use Rattle.sh_key.specs.Layout.{Layout}
 use Rattle.sh_slots.specs.declared.hand.Hand.{Hand}
-use Rattle.sh_slots.specs.Slots.{same_spot}
+use Rattle.sh_slots.specs.Slots.{same_slot}
 use Rattle.sh_step.specs.declared.action.Action.{Action}
 use Rattle.sh_step.specs.declared.body.Body.{Body}
 use Rattle.sh_step.specs.declared.footstep.Footstep.{Footstep}
@@ -94,11 +94,11 @@ module _ (layout : Layout) (x : Action) (m : Move) (n : ℕ) (v w : Caller) (d :
   }
 
   pub page_after : (r : ℕ) (g : SeenPage)
-      → ((s : ℕ) → has (same_spot (record { page = r; slot = s })) b.mine ≡ g.mine s) → noted r b.cursors ≡ g.cursor
+      → ((s : ℕ) → has (same_slot (record { page = r; slot = s })) b.mine ≡ g.mine s) → noted r b.cursors ≡ g.cursor
       → has (λ y. y == r) b.armed ≡ g.armed → noted r b.classes ≡ g.class
       → takes r w.view.own.trail ≡ g.takes → met r w.view.own.trail ≡ g.met → seen_page w r ≡ g
   page_after r g mine cursor armed class takes met i = record {
-    mine = λ s. (ap (λ (p : Body). has (same_spot (record { page = r; slot = s })) p.mine) body_is ∙ mine s) i;
+    mine = λ s. (ap (λ (p : Body). has (same_slot (record { page = r; slot = s })) p.mine) body_is ∙ mine s) i;
     cursor = (ap (λ (p : Body). noted r p.cursors) body_is ∙ cursor) i;
     armed = (ap (λ (p : Body). has (λ y. y == r) p.armed) body_is ∙ armed) i;
     class = (ap (λ (p : Body). noted r p.classes) body_is ∙ class) i;
@@ -111,6 +111,6 @@ module _ (layout : Layout) (x : Action) (m : Move) (n : ℕ) (v w : Caller) (d :
       → b.classes ≡ (own_body v).classes → ((r : ℕ) → takes_page r t ≡ false) → ((r : ℕ) → meets_page r t ≡ false)
       → SamePages v w
   pages_same mine cursors armed classes none never r = page_after r (seen_page v r)
-      (λ s. ap (has (same_spot (record { page = r; slot = s }))) mine) (ap (noted r) cursors)
+      (λ s. ap (has (same_slot (record { page = r; slot = s }))) mine) (ap (noted r) cursors)
       (ap (has (λ y. y == r)) armed) (ap (noted r) classes) (still (takes_page r) (none r))
       (still (meets_page r) (never r))

@@ -10,7 +10,7 @@ use Rattle.sh_key.specs.Layout.{Layout, IsInRange, packed}
 use Rattle.sh_shape.specs.Shape.{Numbers, IsShape}
 use Rattle.sh_shape.specs.Places.{all_pages, page_number, pages_of}
 use Rattle.sh_shape.proofs.PlaceLaws.{few_pages}
-use Rattle.sh_slots.specs.declared.hand.Name.{Name}
+use Rattle.sh_slots.specs.declared.hand.KeyRef.{KeyRef}
 use Rattle.sh_step.specs.Plans.{plan_of, home, keys_of, parts_of}
 use Rattle.sh_step.proofs.KeyLaws.{parts_in_range}
 use Rattle.sh_step.specs.Rows.{owned_by}
@@ -92,14 +92,14 @@ is_owned layout shape o shard page first pages s owned below wide many start =
     ∙ ap (λ p. owned_by (plan_of layout shape) p page) (sym owned))
 
 -- the parts of the key of a slot of a shard's page
-pub parts_on : (pages shard page : ℕ) (x : Name) → x.page ≡ shard * pages + page → page < pages
+pub parts_on : (pages shard page : ℕ) (x : KeyRef) → x.page ≡ shard * pages + page → page < pages
     → parts_of pages x ≡ record { generation = x.generation; shard = shard; page = page; slot = x.slot }
 parts_on pages shard page x at below =
     let home : x.page / pages ≡ shard = ap (λ n. n / pages) at ∙ div-mul-add shard pages page below in
     let local : x.page % pages ≡ page = ap (λ n. n % pages) at ∙ mod-mul-add shard pages page below in
     λ i. record { generation = x.generation; shard = home i; page = local i; slot = x.slot }
 
-pub on_page_in_range : (layout : Layout) (shape : Numbers) (shard page : ℕ) (x : Name)
+pub on_page_in_range : (layout : Layout) (shape : Numbers) (shard page : ℕ) (x : KeyRef)
     → x.page ≡ page_number shape shard page → page < pages_of shape
     → (plan_of layout shape).keys.unpack ((plan_of layout shape).keys.pack x) ≡ Some x
     → IsInRange layout (record { generation = x.generation; shard = shard; page = page; slot = x.slot })
@@ -107,7 +107,7 @@ on_page_in_range layout shape shard page x at below names =
     subst (IsInRange layout) (parts_on (pages_of shape) shard page x at below)
     (parts_in_range layout shape.shards (pages_of shape) ((plan_of layout shape).keys.pack x) x names)
 
-pub packed_on_page : (layout : Layout) (shape : Numbers) (shard page : ℕ) (x : Name)
+pub packed_on_page : (layout : Layout) (shape : Numbers) (shard page : ℕ) (x : KeyRef)
     → x.page ≡ page_number shape shard page → page < pages_of shape
     → packed layout (record { generation = x.generation; shard = shard; page = page; slot = x.slot })
     ≡ (plan_of layout shape).keys.pack x

@@ -9,9 +9,9 @@ use Rattle.sh_shape.specs.Classes.{slots}
 use Rattle.sh_shape.specs.Places.{pages_of, page_number, slot_places}
 use Rattle.sh_slots.specs.declared.hand.Hand.{Hand}
 use Rattle.sh_slots.specs.declared.hand.Hand.TheVariants.{Idle}
-use Rattle.sh_slots.specs.declared.hand.Name.{Name}
-use Rattle.sh_slots.specs.declared.hand.Spot.{Spot}
-use Rattle.sh_slots.specs.Slots.{same_spot, published_name, spot_of}
+use Rattle.sh_slots.specs.declared.hand.KeyRef.{KeyRef}
+use Rattle.sh_slots.specs.declared.hand.SlotRef.{SlotRef}
+use Rattle.sh_slots.specs.Slots.{same_slot, published_name, slot_ref_of}
 use Rattle.sh_stack.specs.Stack.{top_item, link_item}
 use Rattle.sh_step.specs.declared.action.Action.{Action}
 use Rattle.sh_step.specs.declared.action.PageName.{PageName}
@@ -40,8 +40,8 @@ abbrev pub heap_page : Caller → PageName → ℕ
 heap_page v x = page_number v.view.shape x.shard x.page
 
 -- slot s of the page
-abbrev pub heap_spot : Caller → PageName → ℕ → Spot
-heap_spot v x s = record { page = heap_page v x; slot = s }
+abbrev pub heap_slot : Caller → PageName → ℕ → SlotRef
+heap_slot v x s = record { page = heap_page v x; slot = s }
 
 abbrev pub slot_in : PageName → ℕ → SlotName
 slot_in x s = record { shard = x.shard; page = x.page; slot = s }
@@ -75,7 +75,7 @@ pub record SeenPage : Type 0 where
 -- page q of the heap as the pass sees it
 abbrev pub seen_page : Caller → ℕ → SeenPage
 seen_page v q = record {
-  mine = λ s. has (same_spot (record { page = q; slot = s })) (own_body v).mine;
+  mine = λ s. has (same_slot (record { page = q; slot = s })) (own_body v).mine;
   cursor = noted q (own_body v).cursors;
   armed = has (λ r. r == q) (own_body v).armed;
   class = noted q (own_body v).classes;
@@ -239,40 +239,40 @@ pub record Left (v w : Caller) : Type 0 where
   pub steps : length w.view.own.trail ≡ length v.view.own.trail + 1
 
 -- the key under which the slot's value is published, if its state was found to be n
-abbrev pub published : Layout → Caller → Spot → ℕ → ℕ
+abbrev pub published : Layout → Caller → SlotRef → ℕ → ℕ
 published layout v x n = (plan_of layout v.view.shape).keys.pack (published_name x n)
 
 -- the key names a slot of shard n
 abbrev pub IsKeyIn : Layout → Caller → (n key : ℕ) → Type 0
-IsKeyIn layout v n key = (x : Name) × (place_named (plan_of layout v.view.shape) key ≡ Some x)
+IsKeyIn layout v n key = (x : KeyRef) × (place_named (plan_of layout v.view.shape) key ≡ Some x)
     × (home (plan_of layout v.view.shape) x.page ≡ n)
 
 -- the key names a slot of page q of the heap
 abbrev pub IsKeyOn : Layout → Caller → (q key : ℕ) → Type 0
-IsKeyOn layout v q key = (x : Name) × (place_named (plan_of layout v.view.shape) key ≡ Some x) × (x.page ≡ q)
+IsKeyOn layout v q key = (x : KeyRef) × (place_named (plan_of layout v.view.shape) key ≡ Some x) × (x.page ≡ q)
 
 -- the key names this slot
-abbrev pub IsKeyOfSpot : Plan → Spot → (key : ℕ) → Type 0
-IsKeyOfSpot plan spot key = (x : Name) × (place_named plan key ≡ Some x) × (spot_of x ≡ spot)
+abbrev pub IsKeyOfSlot : Plan → SlotRef → (key : ℕ) → Type 0
+IsKeyOfSlot plan slot_ref key = (x : KeyRef) × (place_named plan key ≡ Some x) × (slot_ref_of x ≡ slot_ref)
 
 -- the same in the heap of the pass
-abbrev pub IsKeyAt : Layout → Caller → Spot → (key : ℕ) → Type 0
-IsKeyAt layout v spot key = IsKeyOfSpot (plan_of layout v.view.shape) spot key
+abbrev pub IsKeyAt : Layout → Caller → SlotRef → (key : ℕ) → Type 0
+IsKeyAt layout v slot_ref key = IsKeyOfSlot (plan_of layout v.view.shape) slot_ref key
 
 -- ---- calls
 
 -- this slot, of a page of its shard, became its own; or none did and its pages are as before
-abbrev pub SlotCame : Option Spot → Caller → Caller → Type 0
+abbrev pub SlotCame : Option SlotRef → Caller → Caller → Type 0
 SlotCame None v w = SamePages v w
 SlotCame (Some x) v w = (y : PageName) × MayTouch v y × (x.page ≡ heap_page v y) × (x.slot < slot_places)
     × ((seen_page v x.page).mine x.slot ≡ false) × OnPage x.page (page_with (seen_page v x.page) x.slot) v w
 
 -- A call is over, and this slot became its own, or none did. Shard, bells and tale are as before, and nothing was armed
-pub record CallLeaves (layout : Layout) (came : Option Spot) (v w : Caller) : Type 0 where
+pub record CallLeaves (layout : Layout) (gained : Option SlotRef) (v w : Caller) : Type 0 where
   pub idle : (own_body w).hand ≡ Idle
   pub same : SameTale v.view w.view
   pub owned : (own_body w).owned ≡ (own_body v).owned
   pub bells : SameBells layout v w
   pub arm : NoneArmed v w
   pub alone : CallsAlone v.view w.view
-  pub slot : SlotCame came v w
+  pub slot : SlotCame gained v w

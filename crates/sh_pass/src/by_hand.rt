@@ -12,13 +12,13 @@ use sh_slots::{GetAnswer, Hand, after_drop, after_enter_remove, answer_to_get, i
 use sh_stack::link_over;
 use sh_step::Action;
 use sh_step::operands::{gen_max, guard_max, place_of_key};
-use sh_table::{HeapTable, Token};
+use sh_table::{HeapTable, PassSeat};
 use sh_value::HOLDS_MAX;
 
 /// What is kept of a pass that is driven step by step.
 #[derive(Drop)]
 pub(crate) struct BusyState {
-    pub(crate) seat: Token,
+    pub(crate) seat: PassSeat,
     // The keys that it holds, in any order.
     pub(crate) held: ArrayVec<u64, HOLDS_MAX>,
     // A bit for each pass that its tale names.
@@ -46,8 +46,8 @@ impl BusyState {
         let found = table.enter_get(&mut self.seat, key, name);
         match answer_to_get(name.generation, guard_max::<L>(), found) {
             GetAnswer::Got => self.held.push(key),
-            GetAnswer::Crowded => self.hand = Hand::Leaving(name.spot()),
-            GetAnswer::Gone => self.hand = Hand::Leaving(name.spot()),
+            GetAnswer::Crowded => self.hand = Hand::Leaving(name.slot_ref()),
+            GetAnswer::Gone => self.hand = Hand::Leaving(name.slot_ref()),
         }
         true
     }
@@ -82,7 +82,7 @@ impl BusyState {
             return false;
         };
         table.mark(&mut self.seat, key, name);
-        self.hand = Hand::Leaving(name.spot());
+        self.hand = Hand::Leaving(name.slot_ref());
         true
     }
 
@@ -92,11 +92,11 @@ impl BusyState {
         ensures busy { IsBusy L.layout table.now self.new.seat self.new.held.items self.new.named self.new.hand }
         ensures acts { Acts L.layout action.Drop self.old.seat.me.0 result self.new.seat.me.0 }
     {
-        let Hand::Leaving(spot) = self.hand else {
+        let Hand::Leaving(slot_ref) = self.hand else {
             return false;
         };
-        let found = table.drop_count(&mut self.seat, spot);
-        self.hand = after_drop(spot, found);
+        let found = table.drop_count(&mut self.seat, slot_ref);
+        self.hand = after_drop(slot_ref, found);
         true
     }
 
@@ -117,7 +117,7 @@ impl BusyState {
         };
         let found = table.drop_hold(&mut self.seat, key, name);
         self.held.remove(at);
-        self.hand = after_drop(name.spot(), found);
+        self.hand = after_drop(name.slot_ref(), found);
         true
     }
 
@@ -127,12 +127,12 @@ impl BusyState {
         ensures busy { IsBusy L.layout table.now self.new.seat self.new.held.items self.new.named self.new.hand }
         ensures acts { Acts L.layout action.Finish self.old.seat.me.0 result self.new.seat.me.0 }
     {
-        let Hand::Finishing(spot, generation) = self.hand else {
+        let Hand::Finishing(slot_ref, generation) = self.hand else {
             return false;
         };
-        let found = table.finish(&mut self.seat, spot, generation);
+        let found = table.finish(&mut self.seat, slot_ref, generation);
         self.hand = if is_reusable_after(generation, gen_max::<L>(), found) {
-            Hand::ToPut(spot)
+            Hand::ToPut(slot_ref)
         } else {
             Hand::Idle
         };
@@ -145,11 +145,11 @@ impl BusyState {
         ensures busy { IsBusy L.layout table.now self.new.seat self.new.held.items self.new.named self.new.hand }
         ensures acts { Acts L.layout action.Put self.old.seat.me.0 result self.new.seat.me.0 }
     {
-        let Hand::ToPut(spot) = self.hand else {
+        let Hand::ToPut(slot_ref) = self.hand else {
             return false;
         };
-        let head = table.put(&mut self.seat, spot);
-        self.hand = Hand::Tying(spot, link_over(top_of(head)), is_armed(head));
+        let head = table.put(&mut self.seat, slot_ref);
+        self.hand = Hand::Tying(slot_ref, link_over(top_of(head)), is_armed(head));
         true
     }
 
@@ -159,12 +159,12 @@ impl BusyState {
         ensures busy { IsBusy L.layout table.now self.new.seat self.new.held.items self.new.named self.new.hand }
         ensures acts { Acts L.layout action.Tie self.old.seat.me.0 result self.new.seat.me.0 }
     {
-        let Hand::Tying(spot, link, armed) = self.hand else {
+        let Hand::Tying(slot_ref, link, armed) = self.hand else {
             return false;
         };
-        table.tie(&mut self.seat, spot, link, armed);
+        table.tie(&mut self.seat, slot_ref, link, armed);
         self.hand = if armed {
-            Hand::Ringing(spot.page)
+            Hand::Ringing(slot_ref.page)
         } else {
             Hand::Idle
         };

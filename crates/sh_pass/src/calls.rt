@@ -8,25 +8,25 @@ ghost use Rattle.sh_pass.specs.Owners.{CallLeaves};
 
 use crate::entering::{get_at, release_at, remove_at};
 use crate::guard::Guard;
-use crate::held_keys::{is_held, let_go};
+use crate::held_keys::{is_held, remove_one};
 use crate::holding::Holding;
 use crate::reading::read_at;
 use arrayvec::ArrayVec;
 use sh_key::KeyLayout;
-use sh_slots::{GetAnswer, Spot};
+use sh_slots::{GetAnswer, SlotRef};
 use sh_step::operands::place_of_key;
-use sh_table::{HeapTable, Token};
+use sh_table::{HeapTable, PassSeat};
 use sh_value::{HOLDS_MAX, Hold, Refusal, Value};
 
 /// Takes a hold on a key, and returns it with the key's place.
 #[inline(always)]
 pub(crate) fn get_guard_of<L: KeyLayout>(
     table: &HeapTable<L>,
-    seat: &mut Token,
+    seat: &mut PassSeat,
     held: &mut ArrayVec<u64, HOLDS_MAX>,
     key: u64,
     owned: Option<u64>,
-) -> (Result<Guard<L>, Refusal>, Option<Spot>)
+) -> (Result<Guard<L>, Refusal>, Option<SlotRef>)
     requires seat { IsSeat L.layout table.now seat.old }
     requires idle { seat.old.me.0.own.body.hand ≡ Idle }
     requires owned { seat.old.me.0.own.body.owned ≡ owned }
@@ -57,11 +57,11 @@ pub(crate) fn get_guard_of<L: KeyLayout>(
 #[inline(always)]
 pub(crate) fn get_key<L: KeyLayout>(
     table: &HeapTable<L>,
-    seat: &mut Token,
+    seat: &mut PassSeat,
     held: &mut ArrayVec<u64, HOLDS_MAX>,
     key: u64,
     owned: Option<u64>,
-) -> (Result<Hold, Refusal>, Option<Spot>)
+) -> (Result<Hold, Refusal>, Option<SlotRef>)
     requires seat { IsSeat L.layout table.now seat.old }
     requires idle { seat.old.me.0.own.body.hand ≡ Idle }
     requires owned { seat.old.me.0.own.body.owned ≡ owned }
@@ -82,10 +82,10 @@ pub(crate) fn get_key<L: KeyLayout>(
 #[inline(always)]
 pub(crate) fn remove_key<L: KeyLayout>(
     table: &HeapTable<L>,
-    seat: &mut Token,
+    seat: &mut PassSeat,
     key: u64,
     owned: Option<u64>,
-) -> (Result<(), Refusal>, Option<Spot>)
+) -> (Result<(), Refusal>, Option<SlotRef>)
     requires seat { IsSeat L.layout table.now seat.old }
     requires idle { seat.old.me.0.own.body.hand ≡ Idle }
     requires owned { seat.old.me.0.own.body.owned ≡ owned }
@@ -109,11 +109,11 @@ pub(crate) fn remove_key<L: KeyLayout>(
 #[inline(always)]
 pub(crate) fn release_key<L: KeyLayout, K: Holding<L>>(
     table: &HeapTable<L>,
-    seat: &mut Token,
+    seat: &mut PassSeat,
     held: &mut ArrayVec<u64, HOLDS_MAX>,
     hold: &K,
     owned: Option<u64>,
-) -> (Result<(), Refusal>, Option<Spot>)
+) -> (Result<(), Refusal>, Option<SlotRef>)
     requires seat { IsSeat L.layout table.now seat.old }
     requires idle { seat.old.me.0.own.body.hand ≡ Idle }
     requires owned { seat.old.me.0.own.body.owned ≡ owned }
@@ -129,7 +129,7 @@ pub(crate) fn release_key<L: KeyLayout, K: Holding<L>>(
     }
     let name = hold.place_in(table.shape());
     let slot = release_at(table, seat, key, name, owned);
-    let_go(held, key);
+    remove_one(held, key);
     (Ok(()), slot)
 }
 
@@ -138,7 +138,7 @@ pub(crate) fn release_key<L: KeyLayout, K: Holding<L>>(
 #[inline(always)]
 pub(crate) fn read_key<L: KeyLayout, K: Holding<L>>(
     table: &HeapTable<L>,
-    seat: &mut Token,
+    seat: &mut PassSeat,
     held: &ArrayVec<u64, HOLDS_MAX>,
     hold: &K,
     value: &mut Value,

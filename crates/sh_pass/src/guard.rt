@@ -6,7 +6,7 @@ ghost use Rattle.sh_step.specs.Plans.{plan_of};
 use crate::holding::{Holding, place_of_held};
 use sh_key::KeyLayout;
 use sh_shape::Shape;
-use sh_slots::Name;
+use sh_slots::KeyRef;
 use sh_value::Hold;
 use std::marker::{Model, PhantomData};
 
@@ -22,7 +22,7 @@ use std::marker::{Model, PhantomData};
 #[derive(Drop)]
 pub struct Guard<L: KeyLayout> {
     key: u64,
-    name: Name,
+    name: KeyRef,
     // The number of pages of a shard for which the key has this place.
     pages: u32,
     layout: PhantomData<L>,
@@ -43,7 +43,7 @@ impl<L: KeyLayout> Model for Guard<L> {
 impl<L: KeyLayout> Guard<L> {
     // The guard of a key whose place in the shape is this.
     #[inline(always)]
-    pub(crate) fn new(key: u64, name: Name, shape: &Shape) -> Self
+    pub(crate) fn new(key: u64, name: KeyRef, shape: &Shape) -> Self
         requires { place_named (plan_of L.layout shape.now) key ≡ Some name }
         ensures { result ≡ record { key = key } }
     {
@@ -80,7 +80,7 @@ impl<L: KeyLayout> Holding<L> for Guard<L> {
 
     // Mostly it is the heap that the guard is for.
     #[inline(always)]
-    fn place_in(&self, shape: &Shape) -> Name {
+    fn place_in(&self, shape: &Shape) -> KeyRef {
         if self.pages == shape.pages() {
             self.name
         } else {
@@ -92,7 +92,7 @@ impl<L: KeyLayout> Holding<L> for Guard<L> {
 // The place of a key in a shape that the guard is not for.
 #[cold]
 #[inline(never)]
-fn place_elsewhere<L: KeyLayout>(shape: &Shape, key: u64) -> Name
+fn place_elsewhere<L: KeyLayout>(shape: &Shape, key: u64) -> KeyRef
     requires { place_named (plan_of L.layout shape.now) key ≢ None }
     ensures { place_named (plan_of L.layout shape.now) key ≡ Some result }
 {

@@ -40,7 +40,7 @@ pub(crate) fn is_held(held: &[u64], key: u64) -> bool
 }
 
 /// Removes one hold on the key from the list, which has one.
-pub(crate) fn let_go(held: &mut ArrayVec<u64, HOLDS_MAX>, key: u64)
+pub(crate) fn remove_one(held: &mut ArrayVec<u64, HOLDS_MAX>, key: u64)
     requires { has (λ k. k == key) held.old.items ≡ true }
     ensures { HoldsKept held.new.items (without (λ k. k == key) held.old.items) }
 {

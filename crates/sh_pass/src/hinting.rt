@@ -2,7 +2,7 @@
 ghost use Rattle.std.specs.Prelude.{◌<◌, IfSome};
 ghost use Rattle.sh_shape.specs.Places.{page_number, pages_of, slot_places};
 ghost use Rattle.sh_step.specs.Plans.{plan_of};
-ghost use Rattle.sh_pass.specs.Owners.{MayTouch, IsKeyOfSpot, IsKeyAt, heap_spot};
+ghost use Rattle.sh_pass.specs.Owners.{MayTouch, IsKeyOfSlot, IsKeyAt, heap_slot};
 
 use crate::keeping::KeepsHeap;
 use crate::owner::Owner;
@@ -17,7 +17,7 @@ fn key_of_word<L: KeyLayout>(shape: &Shape, name: PageName, slot: u64, word: u64
     requires shard { name.shard < shape.now.shards }
     requires page { name.page < pages_of shape.now }
     requires slot { slot < slot_places }
-    ensures { IfSome result (IsKeyOfSpot (plan_of L.layout shape.now)
+    ensures { IfSome result (IsKeyOfSlot (plan_of L.layout shape.now)
         (record { page = page_number shape.now name.shard name.page; slot = slot })) }
 {
     let _known = (shape.shards(), shape.pages());
@@ -42,7 +42,7 @@ impl<L: KeyLayout, H: KeepsHeap<L>> Owner<L, H> {
     pub fn key_hint(&self, name: PageName, slot: u64) -> Option<u64>
         requires touch { MayTouch self.now name }
         requires slot { slot < slot_places }
-        ensures { IfSome result (IsKeyAt L.layout self.now (heap_spot self.now name slot)) }
+        ensures { IfSome result (IsKeyAt L.layout self.now (heap_slot self.now name slot)) }
     {
         let heap = self.heap.kept();
         let page = self.number(name);

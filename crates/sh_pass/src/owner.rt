@@ -15,7 +15,7 @@ use arrayvec::ArrayVec;
 use sh_key::KeyLayout;
 use sh_shape::Shape;
 use sh_step::PageName;
-use sh_table::Token;
+use sh_table::PassSeat;
 use sh_value::HOLDS_MAX;
 use std::marker::{Model, PhantomData};
 
@@ -29,7 +29,7 @@ use std::marker::{Model, PhantomData};
 #[derive(Drop)]
 pub struct Owner<L: KeyLayout, H: KeepsHeap<L>> {
     pub(crate) heap: H,
-    pub(crate) seat: Token,
+    pub(crate) seat: PassSeat,
     // The keys that it holds, in any order.
     pub(crate) held: ArrayVec<u64, HOLDS_MAX>,
     // A bit for each pass that its tale names.

@@ -11,14 +11,14 @@ use crate::keeping::KeepsHeap;
 use crate::owner::Owner;
 use crate::warming::{warm_key, warm_value_of};
 use sh_key::KeyLayout;
-use sh_slots::Spot;
+use sh_slots::SlotRef;
 use sh_value::{Hold, Refusal, Value};
 
 impl<L: KeyLayout, H: KeepsHeap<L>> Owner<L, H> {
     /// Takes a hold on a key, so that its value stays readable. Refused as `BadKey`, `HoldsFull`, `Gone` or `Crowded`,
     /// tried in that order, as the get of a `Pass` is. If a refused get is the last to leave a removed key, the slot
     /// becomes its own.
-    pub fn get(&mut self, key: u64) -> (Result<Hold, Refusal>, Option<Spot>)
+    pub fn get(&mut self, key: u64) -> (Result<Hold, Refusal>, Option<SlotRef>)
         requires idle { (own_body self.old).hand ≡ Idle }
         ensures does { GetDoes L.layout key self.old result.0 self.new }
         ensures leaves { CallLeaves L.layout result.1 self.old self.new }
@@ -36,8 +36,8 @@ impl<L: KeyLayout, H: KeepsHeap<L>> Owner<L, H> {
         warm_key(&heap.table, key);
     }
 
-    /// The same, and the words that a read of the key's value needs: its page's class, its length, and its word if it has
-    /// one. It does no step, and a number that is no key of the heap does nothing.
+    /// The same, and the words that a read of the key's value needs: its page's class, its length, and its word if it
+    /// has one. It does no step, and a number that is no key of the heap does nothing.
     #[inline(always)]
     pub fn warm_value(&self, key: u64) {
         let heap = self.heap.kept();
@@ -46,7 +46,7 @@ impl<L: KeyLayout, H: KeepsHeap<L>> Owner<L, H> {
 
     /// The same as `get`, but the hold keeps the place of the key's slot.
     #[inline(always)]
-    pub fn get_guard(&mut self, key: u64) -> (Result<Guard<L>, Refusal>, Option<Spot>)
+    pub fn get_guard(&mut self, key: u64) -> (Result<Guard<L>, Refusal>, Option<SlotRef>)
         requires idle { (own_body self.old).hand ≡ Idle }
         ensures does { GetDoes L.layout key self.old result.0 self.new }
         ensures leaves { CallLeaves L.layout result.1 self.old self.new }
@@ -58,7 +58,7 @@ impl<L: KeyLayout, H: KeepsHeap<L>> Owner<L, H> {
 
     /// Removes a key: no later get finds it, and its value stays until the last hold goes. Refused as `BadKey` or
     /// `Gone`.
-    pub fn remove(&mut self, key: u64) -> (Result<(), Refusal>, Option<Spot>)
+    pub fn remove(&mut self, key: u64) -> (Result<(), Refusal>, Option<SlotRef>)
         requires idle { (own_body self.old).hand ≡ Idle }
         ensures does { RemoveDoes L.layout key self.old result.0 self.new }
         ensures leaves { CallLeaves L.layout result.1 self.old self.new }
@@ -69,7 +69,7 @@ impl<L: KeyLayout, H: KeepsHeap<L>> Owner<L, H> {
     }
 
     /// Gives one hold on a key back. Refused as `NotHeld` exactly if the pass has no hold on the key.
-    pub fn release(&mut self, hold: Hold) -> (Result<(), Refusal>, Option<Spot>)
+    pub fn release(&mut self, hold: Hold) -> (Result<(), Refusal>, Option<SlotRef>)
         requires idle { (own_body self.old).hand ≡ Idle }
         ensures does { ReleaseDoes L.layout hold.key self.old result.0 self.new }
         ensures leaves { CallLeaves L.layout result.1 self.old self.new }
@@ -87,7 +87,7 @@ impl<L: KeyLayout, H: KeepsHeap<L>> Owner<L, H> {
 
     /// The same as `release`, of a hold that keeps its place.
     #[inline(always)]
-    pub fn release_guard(&mut self, guard: Guard<L>) -> (Result<(), Refusal>, Option<Spot>)
+    pub fn release_guard(&mut self, guard: Guard<L>) -> (Result<(), Refusal>, Option<SlotRef>)
         requires idle { (own_body self.old).hand ≡ Idle }
         ensures does { ReleaseDoes L.layout guard.key self.old result.0 self.new }
         ensures leaves { CallLeaves L.layout result.1 self.old self.new }

@@ -13,21 +13,21 @@ ghost use Rattle.sh_bell.specs.Bell.{is_armed, top_of};
 ghost use Rattle.sh_stack.specs.Stack.{link_over};
 ghost use Rattle.sh_table.specs.Tales.{ViewStands};
 ghost use Rattle.sh_pass.specs.Owners.{MayTouch, OwnerDid, OwnerActs, OnPage, SamePages, SameBells, NonePut, heap_page};
-ghost use Rattle.sh_pass.specs.Owners.{own_body, seen_page, published, slot_in, heap_spot, page_without, IsKeyIn};
+ghost use Rattle.sh_pass.specs.Owners.{own_body, seen_page, published, slot_in, heap_slot, page_without, IsKeyIn};
 ghost use Rattle.sh_pass.specs.Owners.{IsKeyOn};
 
 use crate::keeping::KeepsHeap;
 use crate::owner::Owner;
 use sh_key::{KeyLayout, Parts};
 use sh_shape::Shape;
-use sh_slots::{Name, Spot, published_name};
+use sh_slots::{KeyRef, SlotRef, published_name};
 use sh_step::{PageName, SlotName};
 use sh_table::first_word;
 use sh_value::Value;
 
 // The key of a slot of the page of this name. (The caller has the parts of the name: computing them from the page's
 // number over the whole heap takes a division.)
-fn key_on_page<L: KeyLayout>(shape: &Shape, name: PageName, stored: Name) -> u64
+fn key_on_page<L: KeyLayout>(shape: &Shape, name: PageName, stored: KeyRef) -> u64
     requires place { stored.page ≡ page_number shape.now name.shard name.page }
     requires shard { name.shard < shape.now.shards }
     requires page { name.page < pages_of shape.now }
@@ -48,22 +48,22 @@ fn key_on_page<L: KeyLayout>(shape: &Shape, name: PageName, stored: Name) -> u64
 impl<L: KeyLayout, H: KeepsHeap<L>> Owner<L, H> {
     /// Stores the length of the value, as it begins to fill a slot of its own. Returns the slot's place over the whole
     /// heap.
-    pub fn fill_slot(&mut self, name: PageName, slot: u64, value: &Value) -> Spot
+    pub fn fill_slot(&mut self, name: PageName, slot: u64, value: &Value) -> SlotRef
         requires touch { MayTouch self.old name }
         requires mine { (seen_page self.old (heap_page self.old name)).mine slot ≡ true }
         requires classed { 0 < class_word_noted (own_body self.old) (heap_page self.old name) }
         requires fits { length value.now ≤ width (class_word_noted (own_body self.old) (heap_page self.old name) - 1) }
-        ensures spot { result ≡ heap_spot self.old name slot }
+        ensures slot_ref { result ≡ heap_slot self.old name slot }
         ensures below { slot < slot_places }
         ensures does { OwnerDid L.layout (action.FillSlot (slot_in name slot) value.now)
-            (move.FillSlot (heap_spot self.old name slot) value.now) 0 self.old self.new }
-        ensures acts { OwnerActs (Filling (heap_spot self.old name slot) value.now 0) [] 1 self.old self.new }
+            (move.FillSlot (heap_slot self.old name slot) value.now) 0 self.old self.new }
+        ensures acts { OwnerActs (Filling (heap_slot self.old name slot) value.now 0) [] 1 self.old self.new }
         ensures bells { SameBells L.layout self.old self.new }
         ensures page { OnPage (heap_page self.old name) (page_without (seen_page self.old (heap_page self.old name))
             slot) self.old self.new }
         ensures put { NonePut self.old self.new }
     {
-        let spot = Spot {
+        let slot_ref = SlotRef {
             page: self.number(name),
             slot,
         };
@@ -73,40 +73,41 @@ impl<L: KeyLayout, H: KeepsHeap<L>> Owner<L, H> {
             slot,
         };
         let heap = self.heap.kept();
-        heap.table.fill_slot(&mut self.seat, slot_name, spot, value);
-        spot
+        heap.table
+            .fill_slot(&mut self.seat, slot_name, slot_ref, value);
+        slot_ref
     }
 
     /// Stores the value's word of this number, from 0, in a page of this class word. The caller knows the slot's first
     /// word.
-    pub fn fill(&mut self, spot: Spot, value: &Value, i: u64, class_word: u64, first: u64)
-        requires hand { (own_body self.old).hand ≡ Filling spot value.now i }
+    pub fn fill(&mut self, slot_ref: SlotRef, value: &Value, i: u64, class_word: u64, first: u64)
+        requires hand { (own_body self.old).hand ≡ Filling slot_ref value.now i }
         requires left { i < length value.now }
-        requires class { class_word_noted (own_body self.old) spot.page ≡ class_word }
-        requires first { first ≡ payload_word spot.slot class_word 0 }
-        ensures does { OwnerDid L.layout action.Fill (move.Fill spot value.now i class_word) 0 self.old self.new }
-        ensures acts { OwnerActs (Filling spot value.now (i + 1)) [] 1 self.old self.new }
+        requires class { class_word_noted (own_body self.old) slot_ref.page ≡ class_word }
+        requires first { first ≡ payload_word slot_ref.slot class_word 0 }
+        ensures does { OwnerDid L.layout action.Fill (move.Fill slot_ref value.now i class_word) 0 self.old self.new }
+        ensures acts { OwnerActs (Filling slot_ref value.now (i + 1)) [] 1 self.old self.new }
         ensures bells { SameBells L.layout self.old self.new }
         ensures pages { SamePages self.old self.new }
         ensures put { NonePut self.old self.new }
     {
         let heap = self.heap.kept();
         heap.table
-            .fill(&mut self.seat, spot, value, i, class_word, first);
+            .fill(&mut self.seat, slot_ref, value, i, class_word, first);
     }
 
     /// Makes the filled slot present. Returns the state word that it found.
-    pub fn publish(&mut self, spot: Spot, value: &Value) -> u64
-        requires hand { (own_body self.old).hand ≡ Filling spot value.now (length value.now) }
-        ensures does { OwnerDid L.layout action.Publish (move.Publish spot value.now) result self.old self.new }
-        ensures acts { OwnerActs Idle (Known (entry.Insert self.old.view.pass (published L.layout self.old spot result)
+    pub fn publish(&mut self, slot_ref: SlotRef, value: &Value) -> u64
+        requires hand { (own_body self.old).hand ≡ Filling slot_ref value.now (length value.now) }
+        ensures does { OwnerDid L.layout action.Publish (move.Publish slot_ref value.now) result self.old self.new }
+        ensures acts { OwnerActs Idle (Known (entry.Insert self.old.view.pass (published L.layout self.old slot_ref result)
             value.now) ∷ []) 1 self.old self.new }
         ensures bells { SameBells L.layout self.old self.new }
         ensures pages { SamePages self.old self.new }
         ensures put { NonePut self.old self.new }
     {
         let heap = self.heap.kept();
-        heap.table.publish(&mut self.seat, spot, value)
+        heap.table.publish(&mut self.seat, slot_ref, value)
     }
 
     /// Stores the value in a slot of its own, in a page of this class word: its length, each word, and then the slot is
@@ -127,13 +128,13 @@ impl<L: KeyLayout, H: KeepsHeap<L>> Owner<L, H> {
         ensures put { NonePut self.old self.new }
         ensures stands { ViewStands L.layout self.new.view }
     {
-        let spot = self.fill_slot(name, slot, value);
+        let slot_ref = self.fill_slot(name, slot, value);
         let first = first_word(slot, class_word);
         for i in 0..value.words().len() as u64 {
-            self.fill(spot, value, i, class_word, first);
+            self.fill(slot_ref, value, i, class_word, first);
         }
-        let found = self.publish(spot, value);
-        let stored = published_name(spot, found);
+        let found = self.publish(slot_ref, value);
+        let stored = published_name(slot_ref, found);
         let heap = self.heap.kept();
         key_on_page::<L>(heap.table.shape(), name, stored)
     }
@@ -143,15 +144,15 @@ impl<L: KeyLayout, H: KeepsHeap<L>> Owner<L, H> {
         requires touch { MayTouch self.old name }
         requires mine { (seen_page self.old (heap_page self.old name)).mine slot ≡ true }
         ensures does { OwnerDid L.layout (action.PutSlot (slot_in name slot))
-            (move.PutSlot (heap_spot self.old name slot)) result self.old self.new }
-        ensures acts { OwnerActs (Tying (heap_spot self.old name slot) (link_over (top_of result)) (is_armed result)) []
+            (move.PutSlot (heap_slot self.old name slot)) result self.old self.new }
+        ensures acts { OwnerActs (Tying (heap_slot self.old name slot) (link_over (top_of result)) (is_armed result)) []
             1 self.old self.new }
         ensures bells { SameBells L.layout self.old self.new }
         ensures page { OnPage (heap_page self.old name) (page_without (seen_page self.old (heap_page self.old name))
             slot) self.old self.new }
         ensures calm { (seen_page self.old (heap_page self.old name)).armed ≡ false → is_armed result ≡ false }
     {
-        let spot = Spot {
+        let slot_ref = SlotRef {
             page: self.number(name),
             slot,
         };
@@ -161,19 +162,19 @@ impl<L: KeyLayout, H: KeepsHeap<L>> Owner<L, H> {
             slot,
         };
         let heap = self.heap.kept();
-        heap.table.put_slot(&mut self.seat, slot_name, spot)
+        heap.table.put_slot(&mut self.seat, slot_name, slot_ref)
     }
 
     /// Stores the link of the slot that it put. `ring` says whether the put found the page armed.
-    pub fn tie(&mut self, spot: Spot, link: u64, ring: bool)
-        requires { (own_body self.old).hand ≡ Tying spot link ring }
-        ensures does { OwnerDid L.layout action.Tie (move.Tie spot link ring) 0 self.old self.new }
-        ensures acts { OwnerActs (cond ring (Ringing spot.page) Idle) [] 1 self.old self.new }
+    pub fn tie(&mut self, slot_ref: SlotRef, link: u64, ring: bool)
+        requires { (own_body self.old).hand ≡ Tying slot_ref link ring }
+        ensures does { OwnerDid L.layout action.Tie (move.Tie slot_ref link ring) 0 self.old self.new }
+        ensures acts { OwnerActs (cond ring (Ringing slot_ref.page) Idle) [] 1 self.old self.new }
         ensures bells { SameBells L.layout self.old self.new }
         ensures pages { SamePages self.old self.new }
         ensures put { NonePut self.old self.new }
     {
         let heap = self.heap.kept();
-        heap.table.tie(&mut self.seat, spot, link, ring);
+        heap.table.tie(&mut self.seat, slot_ref, link, ring);
     }
 }

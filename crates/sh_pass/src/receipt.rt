@@ -10,7 +10,7 @@ use crate::owner::Owner;
 use crate::pass::Pass;
 use crate::state::PassState;
 use sh_key::KeyLayout;
-use sh_table::Token;
+use sh_table::PassSeat;
 use std::marker::Model;
 
 /// A witness of what happened before: it covers all results of a pass until it gave the receipt, and all that the pass
@@ -25,7 +25,7 @@ use std::marker::Model;
 /// ```
 #[derive(Drop)]
 pub struct Receipt {
-    pub(crate) seat: Token,
+    pub(crate) seat: PassSeat,
 }
 
 impl Model for Receipt {

@@ -11,7 +11,7 @@ use crate::warming::{warm_key, warm_value_of};
 use arrayvec::ArrayVec;
 use sh_key::KeyLayout;
 use sh_shape::Shape;
-use sh_table::Token;
+use sh_table::PassSeat;
 use sh_value::{HOLDS_MAX, Hold, Refusal, Value};
 use std::marker::{Model, PhantomData};
 
@@ -21,7 +21,7 @@ use std::marker::{Model, PhantomData};
 /// loses.
 #[derive(Drop)]
 pub struct PassState<L: KeyLayout> {
-    pub(crate) seat: Token,
+    pub(crate) seat: PassSeat,
     // The keys that it holds, in any order.
     pub(crate) held: ArrayVec<u64, HOLDS_MAX>,
     // A bit for each pass that its tale names.
@@ -85,8 +85,8 @@ impl<L: KeyLayout> PassState<L> {
         warm_key(&heap.table, key);
     }
 
-    /// The same, and the words that a read of the key's value needs: its page's class, its length, and its word if it has
-    /// one. It does no step, and a number that is no key of the heap does nothing.
+    /// The same, and the words that a read of the key's value needs: its page's class, its length, and its word if it
+    /// has one. It does no step, and a number that is no key of the heap does nothing.
     #[inline(always)]
     pub fn warm_value(&self, heap: &Heap<L>, key: u64) {
         warm_value_of(&heap.table, key);

@@ -12,8 +12,9 @@ pub(crate) fn warm_key<L: KeyLayout>(table: &HeapTable<L>, key: u64) {
     }
 }
 
-// The same, and the words that a read of a value of one word needs besides: the page's class, the length, and the payload.
-// A longer value has its first word elsewhere in the page, and its page's class and its length are loaded as well.
+// The same, and the words that a read of a value of one word needs besides: the page's class, the length, and the
+// payload. A longer value has its first word elsewhere in the page, and its page's class and its length are loaded as
+// well.
 #[inline(always)]
 pub(crate) fn warm_value_of<L: KeyLayout>(table: &HeapTable<L>, key: u64) {
     if let Some(name) = place_of_key::<L>(table.shape(), key) {

@@ -1,1 +1,1 @@
-pub mod Berths
+pub mod PoolSlots

@@ -1,6 +1,6 @@
 //! Threads share a pool, and a pass that one of them took may go to another.
-use crate::berth::{Berth, Taken};
 use crate::pool::Pool;
+use crate::pool_slot::{PoolSlot, Taken};
 use crate::share::Share;
 use sh_key::KeyLayout;
 use sh_pass::pass::Pass;
@@ -15,10 +15,10 @@ pub fn pools_are_shared<L: KeyLayout + Send + Sync>(pool: &Pool<L>, share: &Shar
     shares(share);
 }
 
-/// A pass that was taken goes to another thread, with its berth.
+/// A pass that was taken goes to another thread, with its pool slot.
 pub fn taken_passes_are_sent<L: KeyLayout + Send + Sync>(
     taken: &Taken<L>,
-    pass: &(Pass<L, Share<L>>, Berth<L>),
+    pass: &(Pass<L, Share<L>>, PoolSlot<L>),
 ) {
     sends(taken);
     sends(pass);

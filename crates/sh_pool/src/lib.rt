@@ -1,15 +1,16 @@
-//! Pools: a heap with a berth for each of its passes. Any thread takes a pass from its berth and gives it back.
+//! Pools: a heap with a pool slot for each of its passes. Any thread takes a pass out of its pool slot, and gives it
+//! back.
 //!
 //! A heap has at most 64 passes, and a lost pass never comes back, while threads come and go. So a pool keeps the
 //! passes that are not in use. A pass that was taken is given back, or lost by a call of that name. Neither `take` nor
 //! `give` takes memory or waits.
 #![tactic(auto)]
 
-mod berth;
 pub mod crossing;
 mod pool;
+mod pool_slot;
 mod share;
 
-pub use berth::{Berth, Taken};
 pub use pool::Pool;
+pub use pool_slot::{PoolSlot, Taken};
 pub use share::{Share, give_pass, take_pass};

@@ -3,8 +3,8 @@ ghost use Rattle.std.specs.Prelude.{◌≡◌, ◌<◌, IfErr, IfSome, MatchResu
 ghost use Rattle.sh_value.specs.declared.refusal.Refusal.TheVariants.{Memory};
 ghost use Rattle.sh_pass.specs.Passes.{IsAtRest};
 
-use crate::berth::{Berth, Taken};
 use crate::pool::Pool;
+use crate::pool_slot::{PoolSlot, Taken};
 use sh_key::KeyLayout;
 use sh_pass::pass::Pass;
 use sh_pass::{Heap, KeepsHeap};
@@ -66,30 +66,30 @@ impl<L: KeyLayout> KeepsHeap<L> for Share<L> {
     }
 }
 
-/// Takes a pass from its berth, with a share of its pool. `None` if it finds each berth empty, or if no more shares can
-/// be counted.
-pub fn take_pass<L: KeyLayout>(share: &Share<L>) -> Option<(Pass<L, Share<L>>, Berth<L>)>
+/// Takes a pass from its pool slot, with a share of its pool. `None` if it finds each pool slot empty, or if no more
+/// shares can be counted.
+pub fn take_pass<L: KeyLayout>(share: &Share<L>) -> Option<(Pass<L, Share<L>>, PoolSlot<L>)>
     ensures heap { IfSome result (λ taken. taken.0.heap ≡ share.now) }
     ensures rest { IfSome result (λ taken. IsAtRest taken.0) }
-    ensures berth { IfSome result (λ taken. taken.1 < share.now.shape.passes) }
+    ensures pool_slot { IfSome result (λ taken. taken.1 < share.now.shape.passes) }
 {
     let kept = share.share().ok()?;
-    let Taken { state, berth } = share.pool().take()?;
-    Some((Pass::on(kept, state), berth))
+    let Taken { state, pool_slot } = share.pool().take()?;
+    Some((Pass::on(kept, state), pool_slot))
 }
 
-/// Gives a pass back to its berth, and drops its share. Refused if that berth has a pass, or if there is no such berth:
-/// then both are returned as they were. Neither is so for a berth that was taken from this pool.
+/// Gives a pass back to its pool slot, and drops its share. Refused if that pool slot has a pass, or if there is no
+/// such pool slot: then both are returned as they were. Neither is so for a pool slot that was taken from this pool.
 pub fn give_pass<L: KeyLayout>(
     pass: Pass<L, Share<L>>,
-    berth: Berth<L>,
-) -> Result<(), (Pass<L, Share<L>>, Berth<L>)>
-    ensures ok { OnOk result (berth < pass.heap.shape.passes) }
-    ensures err { IfErr result (λ back. (back.0 ≡ pass) × (back.1 ≡ berth)) }
+    pool_slot: PoolSlot<L>,
+) -> Result<(), (Pass<L, Share<L>>, PoolSlot<L>)>
+    ensures ok { OnOk result (pool_slot < pass.heap.shape.passes) }
+    ensures err { IfErr result (λ back. (back.0 ≡ pass) × (back.1 ≡ pool_slot)) }
 {
     let (share, state) = pass.into_parts();
-    match share.pool().give(state, berth) {
+    match share.pool().give(state, pool_slot) {
         Ok(()) => Ok(()),
-        Err((state, berth)) => Err((Pass::on(share, state), berth)),
+        Err((state, pool_slot)) => Err((Pass::on(share, state), pool_slot)),
     }
 }

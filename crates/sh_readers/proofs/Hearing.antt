@@ -21,7 +21,7 @@ use Rattle.sh_pass.specs.Growing.{SameTale}
 use Rattle.sh_pass.specs.Passes.{Caller}
 use Rattle.sh_pass.specs.Receipts.{receipt_by, heeded}
 use Rattle.sh_readers.specs.Readers.{FetchDoes}
-use Rattle.sh_readers.specs.Telling.{CoversInsert, TellsOfInsert, IsAsInserted, GoneIfRemoved}
+use Rattle.sh_readers.specs.ToldKeys.{CoversInsert, TellsOfInsert, IsAsInserted, GoneIfRemoved}
 
 contains_map : {A B : Type 0} (f : A → B) (xs : List A) (x : A) → Contains xs x → Contains (map f xs) (f x)
 contains_map f xs x c =

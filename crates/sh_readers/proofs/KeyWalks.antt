@@ -12,7 +12,7 @@ use Rattle.sh_shape.specs.Places.{page_number}
 use Rattle.sh_step.specs.Collections.{without}
 use Rattle.sh_step.specs.Plans.{plan_of}
 use Rattle.sh_value.specs.declared.hold.Hold.{Hold}
-use Rattle.sh_pass.specs.Owners.{IsKeyOfSpot}
+use Rattle.sh_pass.specs.Owners.{IsKeyOfSlot}
 use Rattle.sh_pass.specs.Passes.{Caller, holds, GetDoes, ReleaseDoes}
 use Rattle.sh_pass.specs.declared.next_key.NextKey.{NextKey}
 use Rattle.sh_shard.specs.Pages.{Paged}
@@ -79,7 +79,7 @@ stays_along layout o m n a b = record {
 pub still_at : (layout : Layout) (o n : Sharded) (place key : ℕ) → StaysOwner layout o n
     → IsKeyAtPlace layout n.pages place key → IsKeyAtPlace layout o.pages place key
 still_at layout o n place key stays at =
-    let P : Numbers → ℕ → Type 0 = λ s d. IsKeyOfSpot (plan_of layout s)
+    let P : Numbers → ℕ → Type 0 = λ s d. IsKeyOfSlot (plan_of layout s)
     (record { page = page_number s d (place / 48); slot = place % 48 }) key in
     subst (λ s. P s o.pages.shard) stays.same.shape (subst (P n.pages.owner.view.shape) stays.shard at)
 

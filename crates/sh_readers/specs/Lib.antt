@@ -1,4 +1,4 @@
 pub mod Batches
 pub mod OwnKeys
 pub mod Readers
-pub mod Telling
+pub mod ToldKeys

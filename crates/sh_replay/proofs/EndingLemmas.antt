@@ -4,9 +4,9 @@ use Rattle.std.specs.Prelude.{IfErr}
 use Rattle.std.specs.Io.KnownBytes.{Appends}
 use Rattle.sh_script.specs.declared.fault.Fault.{Fault}
 use Rattle.sh_script.specs.declared.fault.Fault.TheVariants as fault
-use Rattle.sh_output.specs.declared.mode.Mode.{Mode}
-use Rattle.sh_output.specs.declared.mode.Mode.TheVariants as mode
-use Rattle.sh_output.specs.Faults.{IsScriptOf, MayWait}
+use Rattle.script_output.specs.declared.mode.Mode.{Mode}
+use Rattle.script_output.specs.declared.mode.Mode.TheVariants as mode
+use Rattle.script_output.specs.Faults.{IsScriptOf, MayWait}
 use Rattle.sh_replay.specs.Output.{IsRunOf, IsWaiting, EndsWriting, Replays}
 
 -- if an owner could not leave at the end of a run, the text is a script, and the mode is one of the running heap

@@ -1,8 +1,8 @@
 -- The output of mode heap.
 use Rattle.std.proofs.Common.{ℕ, Bool, true, false, List, ap}
-use Rattle.sh_output.specs.declared.mode.Mode.TheVariants as mode
-use Rattle.sh_heap_run.specs.HeapOutput.{IsHeapRun}
-use Rattle.sh_beside.proofs.Beside.{heap_is_beside_plain}
+use Rattle.script_output.specs.declared.mode.Mode.TheVariants as mode
+use Rattle.script_heap.specs.HeapOutput.{IsHeapRun}
+use Rattle.script_beside.proofs.Beside.{heap_is_beside_plain}
 use Rattle.sh_replay.specs.Output.{IsRunOf}
 
 -- the replies of a run in one thread are beside those of mode plain

@@ -3,13 +3,13 @@ use Rattle.std.specs.Prelude.{◌≡◌, ℕ, Bool, true, false, List, Option, �
 use Rattle.std.specs.Io.KnownBytes.{Appends, Keeps}
 use Rattle.sh_script.specs.declared.fault.Fault.{Fault}
 use Rattle.sh_script.specs.declared.fault.Fault.TheVariants as fault
-use Rattle.sh_output.specs.declared.mode.Mode.{Mode}
-use Rattle.sh_output.specs.declared.mode.Mode.TheVariants as mode
-use Rattle.sh_output.specs.Ends.{WroteBeginning}
-use Rattle.sh_output.specs.Faults.{IsScriptOf, IsFaultOf, IsRunFault}
-use Rattle.sh_models.specs.Output.{IsPlain, IsSteps}
-use Rattle.sh_heap_run.specs.HeapOutput.{IsHeap, IsHeapWaiting}
-use Rattle.sh_beside.specs.Law.{IsBesidePlain}
+use Rattle.script_output.specs.declared.mode.Mode.{Mode}
+use Rattle.script_output.specs.declared.mode.Mode.TheVariants as mode
+use Rattle.script_output.specs.Ends.{WroteBeginning}
+use Rattle.script_output.specs.Faults.{IsScriptOf, IsFaultOf, IsRunFault}
+use Rattle.script_models.specs.Output.{IsPlain, IsSteps}
+use Rattle.script_heap.specs.HeapOutput.{IsHeap, IsHeapWaiting}
+use Rattle.script_beside.specs.Law.{IsBesidePlain}
 
 -- the text is a script of calls, and this is what mode heap may write for it: its answers are beside mode plain
 abbrev pub IsHeapAlone : (accounts : Bool) → (text output : List ℕ) → Type 0

@@ -5,5 +5,5 @@ mod replaying;
 mod threads_output;
 
 pub use replaying::{replay, replay_alone, replay_gated};
-pub use sh_output::Mode;
-pub use sh_workers::{Gate, OpenGate, gate, threads};
+pub use script_output::Mode;
+pub use script_workers::{Gate, OpenGate, gate, threads};

@@ -1,19 +1,19 @@
 //! A whole run: reads, parses and runs a script, and writes its output.
 ghost use Rattle.std.specs.Prelude.{◌≡◌, ◌≢◌, ℕ, List, IfOk, IfErr, OnOk, Some, take, false};
 ghost use Rattle.std.specs.Io.KnownBytes.{Appends};
-ghost use Rattle.sh_output.specs.Ends.{IsEndFault, ReadsAtMostBytes};
-ghost use Rattle.sh_output.specs.Faults.{IsScriptOf, IsFaultOf};
+ghost use Rattle.script_output.specs.Ends.{IsEndFault, ReadsAtMostBytes};
+ghost use Rattle.script_output.specs.Faults.{IsScriptOf, IsFaultOf};
 ghost use Rattle.sh_replay.specs.Output.{IsRunOf, EndsWriting, Replays};
 
 use crate::threads_output::threads_output;
-use sh_heap_run::heap_lines::Ran;
-use sh_heap_run::heap_output::heap_output;
-use sh_models::plain_output::plain_output;
-use sh_models::steps_output::steps_output;
-use sh_output::Mode;
-use sh_output::ends::{read_text, write_text};
+use script_heap::heap_lines::Ran;
+use script_heap::heap_output::heap_output;
+use script_models::plain_output::plain_output;
+use script_models::steps_output::steps_output;
+use script_output::Mode;
+use script_output::ends::{read_text, write_text};
+use script_workers::gate::{Gate, OpenGate};
 use sh_script::Fault;
-use sh_workers::gate::{Gate, OpenGate};
 use std::alloc::Global;
 use std::io::{Read, Write};
 use std::sync::Wait;

@@ -159,9 +159,9 @@ pub grown_finds : (old new : List Bound) (b : Bound) (place : ℕ) (q : Word) (b
 grown_finds old new b place q before now grown at fresh was is =
     let names : List Binding = map binding_of old in
     let same_length : length names ≡ length old = length-map old binding_of in
-    let spot : place ≡ 0 + length names = omega arith in
+    let slot_ref : place ≡ 0 + length names = omega arith in
     let more : map binding_of new ≡ names ++ binding_of b ∷ [] = ap (map binding_of) grown
     ∙ map-append binding_of old (b ∷ []) in
     is ∙ ap (λ o. or_new b.name.now (found_at place b.by) o q) was
-    ∙ ap (λ k. or_new b.name.now (found_at k b.by) (find_from 0 names q) q) spot
+    ∙ ap (λ k. or_new b.name.now (found_at k b.by) (find_from 0 names q) q) slot_ref
     ∙ sym (ap (λ ns. find_from 0 ns q) more ∙ find_push names 0 (binding_of b) q fresh)

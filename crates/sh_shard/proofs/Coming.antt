@@ -6,7 +6,7 @@ use Rattle.std.proofs.Math.Nat.{mul-le-mul_right}
 use Rattle.std.proofs.lemmas.List.{get_or-set_same, get_or-set_other, length-set}
 use Rattle.sh_key.specs.Layout.{Layout}
 use Rattle.sh_shape.specs.Places.{pages_of}
-use Rattle.sh_slots.specs.declared.hand.Spot.{Spot}
+use Rattle.sh_slots.specs.declared.hand.SlotRef.{SlotRef}
 use Rattle.sh_step.specs.declared.action.PageName.{PageName}
 use Rattle.sh_table.specs.Tales.{ViewStands}
 use Rattle.sh_pass.specs.Passes.{Caller}
@@ -14,8 +14,8 @@ use Rattle.sh_pass.specs.Owners.{SeenBell, CallLeaves, SlotCame, MayTouch, OnPag
 use Rattle.sh_states.specs.declared.states.PageState.{PageState}
 use Rattle.sh_states.specs.States.{blank_state, with_local}
 use Rattle.sh_queue.proofs.Numbers.{Misses-from_has}
-use Rattle.sh_shard.specs.Pages.{shard_page, SlotComes}
-use Rattle.sh_shard.specs.Kept.{KeepsPage, KeepsPages, MayCome, Came}
+use Rattle.sh_shard.specs.Pages.{shard_page, GainsSlot}
+use Rattle.sh_shard.specs.Kept.{KeepsPage, KeepsPages, MayGain, PushesGained}
 use Rattle.sh_shard.proofs.PageLaws.{kept_with}
 use Rattle.sh_shard.proofs.Keeping.{page_of, here_at, others_at, all_at, rings_at_same}
 use Rattle.sh_shard.proofs.PageSteps.{paged_of}
@@ -39,11 +39,11 @@ named : {layout : Layout} {v : Caller} {shard : ℕ} {rings : Option ℕ} {state
     → KeepsPages layout v shard rings states → MayTouch v y → y.shard ≡ shard
 named y k t = let e : Some y.shard ≡ Some _ = sym t.owned ∙ k.owned in cc
 
-pub may_come : {layout : Layout} {v : Caller} {shard : ℕ} {rings : Option ℕ} {states : List PageState}
-    (came : Option Spot) (w : Caller) → KeepsPages layout v shard rings states → SlotCame came v w
-    → MayCome shard states came
-may_come None w k s = tt
-may_come {layout} {v} {shard} {rings} {states} (Some x) w k s =
+pub may_gain : {layout : Layout} {v : Caller} {shard : ℕ} {rings : Option ℕ} {states : List PageState}
+    (gained : Option SlotRef) (w : Caller) → KeepsPages layout v shard rings states → SlotCame gained v w
+    → MayGain shard states gained
+may_gain None w k s = tt
+may_gain {layout} {v} {shard} {rings} {states} (Some x) w k s =
     let y : PageName = s.0 in
     let is : y.shard ≡ shard = named y k s.1 in
     let at : x.page ≡ heap_page v (shard_page shard y.page) = s.2 ∙ ap (λ z. z * pages_of v.view.shape + y.page) is in
@@ -60,12 +60,12 @@ may_come {layout} {v} {shard} {rings} {states} (Some x) w k s =
 pub record KeptAfter (layout : Layout) (v w : Caller) (shard : ℕ) (rings : Option ℕ) (old new : List PageState)
     (page : Option ℕ) : Type 0 where
   pub keeps : KeepsPages layout w shard rings new
-  pub comes : SlotComes page (paged_of layout v shard (length old)) (paged_of layout w shard (length new))
+  pub comes : GainsSlot page (paged_of layout v shard (length old)) (paged_of layout w shard (length new))
 
 pub kept_after : {layout : Layout} {v : Caller} {shard : ℕ} {rings : Option ℕ} {states : List PageState}
-    (came : Option Spot) (page : Option ℕ) (w : Caller) (after : List PageState)
-    → KeepsPages layout v shard rings states → CallLeaves layout came v w → ViewStands layout w.view
-    → Came shard came states page after → KeptAfter layout v w shard rings states after page
+    (gained : Option SlotRef) (page : Option ℕ) (w : Caller) (after : List PageState)
+    → KeepsPages layout v shard rings states → CallLeaves layout gained v w → ViewStands layout w.view
+    → PushesGained shard gained states page after → KeptAfter layout v w shard rings states after page
 kept_after {layout} {v} {shard} {rings} {states} None page w after k h stands c =
     let same = all_at v w shard h.same.shape h.slot in
     let size : length after ≡ length states = ap length c.1 in record {

@@ -11,7 +11,7 @@ use Rattle.sh_queue.proofs.PutBack.{has_number-from_without}
 use Rattle.sh_queue.proofs.ClassQueues.{has_number-at_back}
 use Rattle.sh_queue.proofs.PagePlaces.{full_opened}
 use Rattle.sh_pass.specs.Owners.{SeenPage}
-use Rattle.sh_shard.specs.Pages.{Paged, page_at, seen_class, SlotComes}
+use Rattle.sh_shard.specs.Pages.{Paged, page_at, seen_class, GainsSlot}
 use Rattle.sh_shard.specs.Shards.{SortedPages, FullPage}
 use Rattle.sh_shard.specs.Returning.{SortedBut, ReturnsPage, FiledPages, FilesFirst}
 use Rattle.sh_shard.proofs.Sorting.{stands_at_back}
@@ -60,11 +60,11 @@ but_classes v w q s count class named others = record {
 }
 
 -- the owner gained a slot
-pub but_came : (came : Option ℕ) (v w : Paged) (q : PageQueues) → SortedPages v q → SlotComes came v w
-    → SortedBut (λ p. came ≡ Some p) w q
-but_came came v w q s k = but_classes v w q s k.count (class came k) (λ p. came ≡ Some p) (λ p none. k.others p none)
+pub but_gained : (gained : Option ℕ) (v w : Paged) (q : PageQueues) → SortedPages v q → GainsSlot gained v w
+    → SortedBut (λ p. gained ≡ Some p) w q
+but_gained gained v w q s k = but_classes v w q s k.count (class gained k) (λ p. gained ≡ Some p) (λ p none. k.others p none)
   where
-    class : (came : Option ℕ) → SlotComes came v w → (p : ℕ) → (page_at w p).class ≡ (page_at v p).class
+    class : (gained : Option ℕ) → GainsSlot gained v w → (p : ℕ) → (page_at w p).class ≡ (page_at v p).class
     class None k p = ap (λ (g : SeenPage). g.class) (k.others p (λ e. let z : ⊥ = cc in z))
     class (Some r) k p = ⊎_elim
         (λ (is : r ≡ p). subst (λ z. (page_at w z).class ≡ (page_at v z).class) is

@@ -31,7 +31,7 @@ through_hears c read o n h = record {
 pub hears_none : (c : ℕ) (o : Sharded) → Hears c false o o
 hears_none c o = record {
   opened = refl;
-  came = λ p h. inl h;
+  gained = λ p h. inl h;
   aside = aside_none _;
   put = refl;
   log = refl;
@@ -55,7 +55,7 @@ pub hears_more : (c word : ℕ) (read read' : Bool) (o n m : Sharded) → c < 8 
     → Heard word n m → (read' ≡ false → (read ≡ false) × (word ≢ c + 1)) → Hears c read' o m
 hears_more c word read read' o n m l h once d quiet = record {
   opened = heard_opened ∙ h.opened;
-  came = λ q e. ⊎_elim
+  gained = λ q e. ⊎_elim
       (λ (t : m.queues ≡ n.queues). stood q (sym (ap (λ (z : PageQueues). has_number q (class_queue z c)) t) ∙ e))
       (λ (t : (m.queues ≡ at_back (word - 1) d.page n.queues) × (0 < word) × (word ≤ 8)). ⊎_elim
       (λ (f : has_number q (class_queue n.queues c) ≡ true). stood q f)
@@ -105,7 +105,7 @@ hears_more c word read read' o n m l h once d quiet = record {
       (λ (f : has_number q (class_queue o.queues c) ≡ true). inl f)
       (λ (f : ReadFromBell q o.pages n.pages). inr (read_more q o.pages n.pages m.pages f (through_reads d.page n.pages
       m.pages d.reads)))
-      (h.came q e)
+      (h.gained q e)
 
   word_is : (q : ℕ) → q ≡ d.page → (page_at o.pages q).class ≡ Some (c + 1) → word ≡ c + 1
   word_is q is e =
@@ -131,11 +131,11 @@ pub hears_stops : (c : ℕ) (read : Bool) (o n m : Sharded) → Hears c read o n
     → BellStops n.pages m.pages → Hears c read o m
 hears_stops c read o n m h same s = record {
   opened = ap (λ (z : PageQueues). z.opened) same ∙ h.opened;
-  came = λ q e. ⊎_elim
+  gained = λ q e. ⊎_elim
       (λ (f : has_number q (class_queue o.queues c) ≡ true). inl f)
       (λ (f : ReadFromBell q o.pages n.pages). inr (read_more q o.pages n.pages m.pages f (through_stops n.pages m.pages
       s)))
-      (h.came q (sym (ap (λ (z : PageQueues). has_number q (class_queue z c)) same) ∙ e));
+      (h.gained q (sym (ap (λ (z : PageQueues). has_number q (class_queue z c)) same) ∙ e));
   aside = aside_then h.aside s.aside;
   put = s.put ∙ h.put;
   log = s.log ∙ h.log;

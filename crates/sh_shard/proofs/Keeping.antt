@@ -219,10 +219,10 @@ keeps_bell_waiting {layout} {v = v} {w = w} {shard = shard} {rings = rings} p n 
     (cursor ∙ (k.bell ∙ rings_at_same v w shard rings acts.aside.same.shape))) on stands refl a (λ q ne. refl)
 
 -- a cursor that a step left is at a slot of the page
-pub small_cursor : {layout : Layout} {v w : Caller} {q : ℕ} {g : SeenPage} (c : Option ℕ) → g.cursor ≡ c
+pub cursor_number : {layout : Layout} {v w : Caller} {q : ℕ} {g : SeenPage} (c : Option ℕ) → g.cursor ≡ c
     → OnPage q g v w → ViewStands layout w.view → IfSome c (λ s. s < 48)
-small_cursor None e on stands = tt
-small_cursor {q = q} (Some s) e on stands = let h = stands.owner.cursors q s
+cursor_number None e on stands = tt
+cursor_number {q = q} (Some s) e on stands = let h = stands.owner.cursors q s
     (ap (λ (z : SeenPage). z.cursor) on.here ∙ e) in h.2
 
 slots_below : (c s : ℕ) → (c ≡ 0 → ⊥) → s < slots_under c → s < slots (c - 1)

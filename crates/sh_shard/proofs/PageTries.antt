@@ -2,14 +2,14 @@
 use Rattle.std.proofs.Common.{◌≡◌, ℕ, ◌+◌, Bool, true, false, Option, Some, None, MatchOption, MatchBool, List}
 use Rattle.std.proofs.Common.{IfSome, ◌∙◌, sym, arith}
 use Rattle.std.proofs.lemmas.Bool.{false≢true}
-use Rattle.sh_shard.specs.Pages.{Paged, page_at, NothingMine, WorksOn, CollectsPage, GuardsPage, PageDone, PageInserts}
+use Rattle.sh_shard.specs.Pages.{Paged, page_at, NothingMine, WorksOn, CollectsPage, ArmsAndFollows, PageDone, PageInserts}
 use Rattle.sh_shard.specs.Pages.{TakesSteps, StepsForSlots}
 use Rattle.sh_shard.specs.Steps.{StepsAtMost}
 use Rattle.sh_shard.proofs.Bounding.{slots_then, slots_most}
 use Rattle.sh_shard.proofs.Working.{inserts_after, done_of}
 
 -- a slot was found, or nothing is left in the page
-pub slot_found : (p : ℕ) (b : Bool) (o m n : Paged) → CollectsPage p o m → GuardsPage p m n
+pub slot_found : (p : ℕ) (b : Bool) (o m n : Paged) → CollectsPage p o m → ArmsAndFollows p m n
     → MatchBool b ((s : ℕ) × ((page_at n p).mine s ≡ true)) (NothingMine (page_at n p))
     → MatchBool b ((s : ℕ) × ((page_at n p).mine s ≡ true)) (PageDone o n p)
 slot_found p true o m n g h e = e
@@ -19,7 +19,7 @@ slot_found p false o m n g h e = (done_of p o m n g h e).1
 pub slot_collected : (p : ℕ) (o m : Paged) → CollectsPage p o m → StepsForSlots 4 p o m
 slot_collected p o m g = let f = g.steps in omega arith
 
-pub slot_guarded : (p : ℕ) (o m n : Paged) → CollectsPage p o m → GuardsPage p m n → StepsForSlots 4 p o n
+pub slot_guarded : (p : ℕ) (o m n : Paged) → CollectsPage p o m → ArmsAndFollows p m n → StepsForSlots 4 p o n
 slot_guarded p o m n g h = slots_then 2 2 4 p o m n g.steps h.steps (omega arith)
 
 -- ---- a try of a page that has a slot

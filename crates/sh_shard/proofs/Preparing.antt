@@ -224,7 +224,7 @@ module _ (layout : Layout) (c : ℕ) (value : List ℕ) where
               ∙ (ap (λ (g : SeenPage). g.class) (gives.others q ne) ∙ t.through.classes q);
           opened = let P : ℕ × ℕ → Type 0 = λ z. ((k.page < z.0) × (z.1 ≡ z.0))
               ⊎ ((k.page ≡ z.0) × (z.1 ≡ z.0 + 8)) in subst P (λ i. (t.opened i, sym k.opened i)) k.prepares.opened;
-          came = inr (inr (record {
+          gained = inr (inr (record {
             searched = n;
             left = none_left c o n t sorted once;
             opened = t.opened;

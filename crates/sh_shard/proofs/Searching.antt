@@ -18,7 +18,7 @@ use Rattle.sh_pass.specs.Owners.{SeenPage}
 use Rattle.sh_shard.specs.Pages.{Paged, page_at, WorksOn, PageDone}
 use Rattle.sh_shard.specs.Shards.{Sharded, SortedPages}
 use Rattle.sh_shard.specs.Steps.{StepsAtMost}
-use Rattle.sh_shard.specs.Searches.{WorkedSince, Settles, Stood, Searched, Searching}
+use Rattle.sh_shard.specs.Searches.{WorkedSince, SetsAside, Stood, Searched, Searching}
 use Rattle.sh_shard.proofs.Works.{through_none, through_more, through_works}
 use Rattle.sh_shard.proofs.Bounding.{steps_none, plain_then}
 use Rattle.sh_shard.proofs.Waits.{waits_since}
@@ -92,13 +92,13 @@ pub front_has : (c p : ℕ) (q : PageQueues) → slice_get (class_queue q c) 0 �
     ≡ true
 front_has c p q e = has_number-first p (class_queue q c) e
 
-pub settled_opened : (c p : ℕ) (o n : Sharded) → Settles c p o n → n.queues.opened ≡ o.queues.opened
+pub settled_opened : (c p : ℕ) (o n : Sharded) → SetsAside c p o n → n.queues.opened ≡ o.queues.opened
 settled_opened c p o n s = ⊎_elim (λ (b : n.queues ≡ at_back c p o.queues). ap (λ (q : PageQueues). q.opened) b)
     (λ (b : n.queues ≡ among_full p o.queues). ap (λ (q : PageQueues). q.opened) b) s.queues
 
 -- every page in the class then was there before
 settled_stood : (c p : ℕ) (n m z : Sharded) → EachOnce n.queues → c < 8 → m.queues ≡ n.queues
-    → has_number p (class_queue n.queues c) ≡ true → Settles c p m z → Stood c n z
+    → has_number p (class_queue n.queues c) ≡ true → SetsAside c p m z → Stood c n z
 settled_stood c p n m z once l same here st r h = ⊎_elim
     (λ (b : z.queues ≡ at_back c p m.queues). ⊎_elim
     (λ (t : has_number r (class_queue m.queues c) ≡ true). before t)
@@ -126,7 +126,7 @@ pub record Turned (c last : ℕ) (o z : Sharded) (p : ℕ) (ys : List ℕ) : Typ
 
 turned : (c p turn last : ℕ) (o n m z : Sharded) (s : Searching c turn last o n) (ys : List ℕ) → s.rest ≡ p ∷ ys
     → EachOnce n.queues → c < 8 → m.queues ≡ n.queues
-    → WorksOn p n.pages m.pages → PageDone n.pages m.pages p → Settles c p m z → Turned c last o z p ys
+    → WorksOn p n.pages m.pages → PageDone n.pages m.pages p → SetsAside c p m z → Turned c last o z p ys
 turned c p turn last o n m z s ys is once l same w d st =
     let q : class_queue n.queues c ≡ p ∷ (ys ++ s.waited) = s.queue ∙ ap (λ xs. xs ++ s.waited) is in
     let q' : class_queue m.queues c ≡ p ∷ (ys ++ s.waited) = ap (λ (k : PageQueues). class_queue k c) same ∙ q in
@@ -171,7 +171,7 @@ turned c p turn last o n m z s ys is once l same w d st =
 
 pub searching_more : (c p turn last : ℕ) (o n m z : Sharded) → Searching c turn last o n
     → slice_get (class_queue n.queues c) 0 ≡ Some p → EachOnce n.queues → c < 8 → m.queues ≡ n.queues
-    → WorksOn p n.pages m.pages → PageDone n.pages m.pages p → Settles c p m z → z.queues.opened ≡ n.queues.opened
+    → WorksOn p n.pages m.pages → PageDone n.pages m.pages p → SetsAside c p m z → z.queues.opened ≡ n.queues.opened
     → StepsAtMost 4 n.pages.owner m.pages.owner → p ≢ last → Searching c (turn + 1) last o z
 searching_more c p turn last o n m z s e once l same w d st opened four ne =
     let f = front_is c p turn last o n s e in
@@ -199,7 +199,7 @@ none_behind p (y ∷ ys) w d e = absurd (false≢true (sym (has_number-from_Miss
 
 pub ended : (c p turn last : ℕ) (o n m z : Sharded) → Searching c turn last o n → slice_get (class_queue n.queues c) 0
     ≡ Some p → EachOnce n.queues → c < 8 → m.queues ≡ n.queues
-    → WorksOn p n.pages m.pages → PageDone n.pages m.pages p → Settles c p m z
+    → WorksOn p n.pages m.pages → PageDone n.pages m.pages p → SetsAside c p m z
     → StepsAtMost 4 n.pages.owner m.pages.owner → SortedPages n.pages n.queues → p ≡ last → Searched c o z
 ended c p turn last o n m z s e once l same w d st four sorted is =
     let f = front_is c p turn last o n s e in

@@ -83,7 +83,7 @@ pub stored : (layout : Layout) (c p key : ℕ) (value : List ℕ) (o n : Sharded
     → (has_number p (class_queue o.queues c) ≡ true)
     ⊎ (CameByBell c p key value o.pages n.pages ⊎ NextAfterSearch c p key value o n)
     → InsertServes layout c value o (Ok key) n
-stored layout c p key value o n s inside same came = (
+stored layout c p key value o n s inside same gained = (
   added_since key value o.pages s.tried n.pages s.through (added_here p key value s.tried n.pages s.inserts),
   s.names.shard,
   record {
@@ -93,6 +93,6 @@ stored layout c p key value o n s inside same came = (
     class = s.inserts.class ∙ (s.through.classes p ∙ s.class);
     others = λ q ne. ap (λ (g : SeenPage). g.class) (s.inserts.others q ne) ∙ s.through.classes q;
     opened = inl (inside, same);
-    came = came;
+    gained = gained;
   },
 )

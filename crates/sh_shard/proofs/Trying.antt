@@ -29,7 +29,7 @@ rings_first c read o n h t w some = record {
   steps = omega arith;
   through = through_hears c read o n h;
   opened = h.opened;
-  came = h.came;
+  gained = h.gained;
   bell = go n.pages.bell.cursor w some;
   pages = h.pages;
   queue = h.queue;
@@ -53,15 +53,15 @@ rings_both c a b read o n m z is h x t same k y w = record {
   through = through_more o.pages n.pages z.pages (through_hears c a o n h)
       (through_more n.pages m.pages z.pages (through_takes n.pages m.pages t) (through_hears c b m z k));
   opened = k.opened ∙ (ap (λ (x : PageQueues). x.opened) same ∙ h.opened);
-  came = λ p e. ⊎_elim
+  gained = λ p e. ⊎_elim
       (λ (r : has_number p (class_queue m.queues c) ≡ true). ⊎_elim
       (λ (f : has_number p (class_queue o.queues c) ≡ true). inl f)
       (λ (f : ReadFromBell p o.pages n.pages). inr (read_more p o.pages n.pages z.pages f (through_more n.pages m.pages
       z.pages (through_takes n.pages m.pages t) (through_hears c b m z k))))
-      (h.came p (sym (ap (λ (x : PageQueues). has_number p (class_queue x c)) same) ∙ r)))
+      (h.gained p (sym (ap (λ (x : PageQueues). has_number p (class_queue x c)) same) ∙ r)))
       (λ (r : ReadFromBell p m.pages z.pages). inr (read_later p o.pages m.pages z.pages (through_more o.pages n.pages
       m.pages (through_hears c a o n h) (through_takes n.pages m.pages t)) r))
-      (k.came p e);
+      (k.gained p e);
   bell = go z.pages.bell.cursor w;
   pages = λ r q e. let f = either_none a b (sym is ∙ r) in k.pages f.1 q
       (ap (λ (g : SeenPage). g.class) (t.pages q) ∙ (h.classes q ∙ e)) ∙ (t.pages q ∙ h.pages f.0 q e);
@@ -156,7 +156,7 @@ found_again layout c key value read o n m z s sorted once r t =
       again = t.stores.through;
       inserts = t.stores.inserts;
     })))
-    (r.came t.page t.here))
+    (r.gained t.page t.here))
 
 pub looked_again : (layout : Layout) (c : ℕ) (value : List ℕ) (read : Bool) (o n m z : Sharded) (r : Option ℕ)
     → Searched c o n → SortedPages n.pages n.queues → EachOnce n.queues → RingsOut c read n m

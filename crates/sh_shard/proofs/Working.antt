@@ -7,14 +7,14 @@ use Rattle.sh_key.specs.Layout.{Layout}
 use Rattle.sh_queue.specs.Numbers.{has_number}
 use Rattle.sh_shape.specs.Places.{pages_of}
 use Rattle.sh_shape.specs.Shape.{Numbers}
-use Rattle.sh_slots.specs.declared.hand.Name.{Name}
+use Rattle.sh_slots.specs.declared.hand.KeyRef.{KeyRef}
 use Rattle.sh_step.specs.Moves.{place_named}
 use Rattle.sh_step.specs.Plans.{plan_of, home}
 use Rattle.sh_states.specs.declared.states.PageState.{PageState}
 use Rattle.sh_pass.specs.Owners.{SeenPage, Aside, NoneArmed}
 use Rattle.sh_shard.specs.Kept.{KeepsPage}
 use Rattle.sh_shard.specs.Pages.{Paged, page_at, own_slots, NothingMine, WorksOn, TakesPage, CursorStops, CollectsPage}
-use Rattle.sh_shard.specs.Pages.{GuardsPage, PageDone, PageInserts, NamesSlot, StepsForSlots}
+use Rattle.sh_shard.specs.Pages.{ArmsAndFollows, PageDone, PageInserts, NamesSlot, StepsForSlots}
 use Rattle.sh_shard.proofs.Sides.{aside_none, aside_then}
 use Rattle.sh_shard.proofs.Bounding.{slots_none, slots_then}
 use Rattle.sh_shard.proofs.Counts.{own_few}
@@ -93,7 +93,7 @@ guard_waits None A B x y a h = a
 guard_waits (Some s) A B x y a h = inr h
 
 pub guards : (p : ℕ) (o m n : Paged) → WorksOn p o m → (page_at m p).armed ≡ true → StepsForSlots 1 p o m
-    → CursorStops p m n → GuardsPage p o n
+    → CursorStops p m n → ArmsAndFollows p o n
 guards p o m n g e t h = record {
   steps = slots_then 1 1 2 p o m n t h.steps (omega arith);
   works = works_more p o m n g h.works;
@@ -101,7 +101,7 @@ guards p o m n g e t h = record {
       (h.armed ∙ e) (waits_since (page_at n p).cursor _ _ _ _ g.met h.waits);
 }
 
-done_waits : (p : ℕ) (o m n : Paged) (c : Option ℕ) → (page_at n p).cursor ≡ c → CollectsPage p o m → GuardsPage p m n
+done_waits : (p : ℕ) (o m n : Paged) (c : Option ℕ) → (page_at n p).cursor ≡ c → CollectsPage p o m → ArmsAndFollows p m n
     → MatchOption c ((page_at n p).armed ≡ true) (λ _. (n ≡ m) ⊎ ((page_at m p).met < (page_at n p).met))
     → MatchOption c ((page_at n p).armed ≡ true) (λ _. (page_at o p).met < (page_at n p).met)
 done_waits p o m n None e g h w = w
@@ -114,7 +114,7 @@ done_waits p o m n (Some s) e g h w = ⊎_elim
     (λ (l : (page_at m p).met < (page_at n p).met). omega (arith, g.works.met))
     w
 
-pub done_of : (p : ℕ) (o m n : Paged) → CollectsPage p o m → GuardsPage p m n → NothingMine (page_at n p)
+pub done_of : (p : ℕ) (o m n : Paged) → CollectsPage p o m → ArmsAndFollows p m n → NothingMine (page_at n p)
     → WorksOn p o n × PageDone o n p
 done_of p o m n g h empty = (
   works_more p o m n g.works h.works,
@@ -146,9 +146,9 @@ inserts_after p key value o m n g h = record {
 pub names_before : (layout : Layout) (p key : ℕ) (o m : Paged) → Aside o.owner m.owner → m.shard ≡ o.shard
     → NamesSlot layout p key m → NamesSlot layout p key o
 names_before layout p key o m aside shard h =
-    let S : Numbers × ℕ → Type 0 = λ z. (x : Name) × (place_named (plan_of layout z.0) key ≡ Some x)
+    let S : Numbers × ℕ → Type 0 = λ z. (x : KeyRef) × (place_named (plan_of layout z.0) key ≡ Some x)
     × (home (plan_of layout z.0) x.page ≡ z.1) in
-    let P : Numbers × ℕ → Type 0 = λ z. (x : Name) × (place_named (plan_of layout z.0) key ≡ Some x)
+    let P : Numbers × ℕ → Type 0 = λ z. (x : KeyRef) × (place_named (plan_of layout z.0) key ≡ Some x)
     × (x.page ≡ z.1 * pages_of z.0 + p) in record {
       shard = subst S (λ i. (aside.same.shape i, shard i)) h.shard;
       page = subst P (λ i. (aside.same.shape i, shard i)) h.page;

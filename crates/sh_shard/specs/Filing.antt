@@ -20,4 +20,4 @@ FilesRising q = (c : ℕ) → RisesFrom 0 (class_queue q c)
 -- the pages that came back to each class are at its back in ascending order, and nothing else moved there
 pub record ReturnsRising (q r : PageQueues) : Type 0 where
   pub opened : r.opened ≡ q.opened
-  pub classes : (c : ℕ) → (came : List ℕ) × (class_queue r c ≡ class_queue q c ++ came) × RisesFrom 0 came
+  pub classes : (c : ℕ) → (gained : List ℕ) × (class_queue r c ≡ class_queue q c ++ gained) × RisesFrom 0 gained

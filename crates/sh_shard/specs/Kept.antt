@@ -6,7 +6,7 @@ use Rattle.sh_lists.specs.Numbers.{Misses}
 use Rattle.sh_queue.specs.Numbers.{has_number}
 use Rattle.sh_shape.specs.Places.{pages_of, slot_places}
 use Rattle.sh_slots.specs.declared.hand.Hand.TheVariants.{Idle}
-use Rattle.sh_slots.specs.declared.hand.Spot.{Spot}
+use Rattle.sh_slots.specs.declared.hand.SlotRef.{SlotRef}
 use Rattle.sh_table.specs.Tales.{ViewStands}
 use Rattle.sh_pass.specs.Passes.{Caller}
 use Rattle.sh_pass.specs.Owners.{SeenPage, heap_page, own_body, seen_page}
@@ -41,14 +41,14 @@ pub record KeepsPages (layout : Layout) (v : Caller) (shard : ℕ) (rings : Opti
         (seen_page v (heap_page v (shard_page shard p)))
 
 -- the slot is in no list of its page, and that page is in the shard
-abbrev pub MayCome : ℕ → List PageState → Option Spot → Type 0
-MayCome shard states None = Unit {0}
-MayCome shard states (Some x) = (p : ℕ) × (p < length states) × (x.page ≡ shard * length states + p)
+abbrev pub MayGain : ℕ → List PageState → Option SlotRef → Type 0
+MayGain shard states None = Unit {0}
+MayGain shard states (Some x) = (p : ℕ) × (p < length states) × (x.page ≡ shard * length states + p)
     × (x.slot < slot_places)
     × Misses x.slot ((get_or states p blank_state).lists.free ++ (get_or states p blank_state).lists.local)
 
 -- the slot came to the lists of its page, whose number in the shard is returned
-abbrev pub Came : ℕ → Option Spot → List PageState → Option ℕ → List PageState → Type 0
-Came shard None old page new = (page ≡ None) × (new ≡ old)
-Came shard (Some x) old page new = (p : ℕ) × (page ≡ Some p) × (p < length old) × (x.page ≡ shard * length old + p)
+abbrev pub PushesGained : ℕ → Option SlotRef → List PageState → Option ℕ → List PageState → Type 0
+PushesGained shard None old page new = (page ≡ None) × (new ≡ old)
+PushesGained shard (Some x) old page new = (p : ℕ) × (page ≡ Some p) × (p < length old) × (x.page ≡ shard * length old + p)
     × (new ≡ slice_set old p (with_local (get_or old p blank_state) x.slot))

@@ -167,7 +167,7 @@ pub record CollectsPage (p : ℕ) (o n : Paged) : Type 0 where
 
 -- after this the page is armed, unless it has a cursor; that cursor was there before, or met a link that was not
 -- written
-pub record GuardsPage (p : ℕ) (o n : Paged) : Type 0 where
+pub record ArmsAndFollows (p : ℕ) (o n : Paged) : Type 0 where
   pub works : WorksOn p o n
   pub waits : MatchOption (page_at n p).cursor ((page_at n p).armed ≡ true)
       (λ _. (n ≡ o) ⊎ ((page_at o p).met < (page_at n p).met))
@@ -255,15 +255,15 @@ pub record BellReads (p : ℕ) (o n : Paged) : Type 0 where
 -- ---- the four calls
 
 -- if the owner gained a slot, its page has one more; all other pages and the bell are as they were
-pub record SlotComes (came : Option ℕ) (o n : Paged) : Type 0 where
+pub record GainsSlot (gained : Option ℕ) (o n : Paged) : Type 0 where
   pub owned : (own_body n.owner).owned ≡ (own_body o.owner).owned
   pub same : SameTale o.owner.view n.owner.view
   pub bell : n.bell ≡ o.bell
   pub shard : n.shard ≡ o.shard
   pub count : n.count ≡ o.count
-  pub inside : IfSome came (λ p. p < n.count)
-  pub here : IfSome came (λ p. (s : ℕ) × (page_at n p ≡ page_with (page_at o p) s))
-  pub others : (q : ℕ) → came ≢ Some q → page_at n q ≡ page_at o q
+  pub inside : IfSome gained (λ p. p < n.count)
+  pub here : IfSome gained (λ p. (s : ℕ) × (page_at n p ≡ page_with (page_at o p) s))
+  pub others : (q : ℕ) → gained ≢ Some q → page_at n q ≡ page_at o q
 
 -- ---- becoming the owner
 

@@ -44,5 +44,5 @@ IsClassedEnd end v = (end ≡ 0) ⊎ ((p : ℕ) × (end ≡ p + 1) × ((page_at 
 -- the pages below k that came back are at the back of each class in ascending order
 pub record ReturnedBelow (k : ℕ) (q r : PageQueues) : Type 0 where
   pub opened : r.opened ≡ q.opened
-  pub classes : (c : ℕ) → (came : List ℕ) × (class_queue r c ≡ class_queue q c ++ came) × RisesFrom 0 came
-      × ((p : ℕ) → has_number p came ≡ true → p < k)
+  pub classes : (c : ℕ) → (gained : List ℕ) × (class_queue r c ≡ class_queue q c ++ gained) × RisesFrom 0 gained
+      × ((p : ℕ) → has_number p gained ≡ true → p < k)

@@ -16,7 +16,7 @@ pub record WorkedSince (o n : Paged) : Type 0 where
   pub bell : n.bell ≡ o.bell
 
 -- a page was tried in vain, and went to the back or to the full queue
-pub record Settles (c p : ℕ) (o n : Sharded) : Type 0 where
+pub record SetsAside (c p : ℕ) (o n : Sharded) : Type 0 where
   pub pages : n.pages ≡ o.pages
   pub queues : (n.queues ≡ at_back c p o.queues) ⊎ (n.queues ≡ among_full p o.queues)
 
@@ -55,7 +55,7 @@ StoodOrRead c o n = (p : ℕ) → has_number p (class_queue n.queues c) ≡ true
 pub record RingsOut (c : ℕ) (read : Bool) (o n : Sharded) : Type 0 where
   pub through : WorksThroughout o.pages n.pages
   pub opened : n.queues.opened ≡ o.queues.opened
-  pub came : StoodOrRead c o n
+  pub gained : StoodOrRead c o n
   pub bell : BellDone o.pages n.pages
   pub pages : read ≡ false → (q : ℕ) → (page_at o.pages q).class ≡ Some (c + 1) → page_at n.pages q ≡ page_at o.pages q
   pub queue : read ≡ false → (q : ℕ) → has_number q (class_queue n.queues c) ≡ true
@@ -80,7 +80,7 @@ pub record Heard (word : ℕ) (o n : Sharded) : Type 0 where
 -- pages were read from the bell; none of them is of class c, unless `read`
 pub record Hears (c : ℕ) (read : Bool) (o n : Sharded) : Type 0 where
   pub opened : n.queues.opened ≡ o.queues.opened
-  pub came : StoodOrRead c o n
+  pub gained : StoodOrRead c o n
   pub aside : Aside o.pages.owner n.pages.owner
   pub put : NonePut o.pages.owner n.pages.owner
   pub log : n.pages.owner.view.own.log ≡ o.pages.owner.view.own.log

@@ -169,7 +169,7 @@ pub record FindsPage (layout : Layout) (c key : ℕ) (value : List ℕ) (o n : S
   pub class : (page_at n.pages page).class ≡ Some (c + 1)
   pub others : (q : ℕ) → q ≢ page → (page_at n.pages q).class ≡ (page_at o.pages q).class
   pub opened : OpensFor page o.queues n.queues
-  pub came : (has_number page (class_queue o.queues c) ≡ true)
+  pub gained : (has_number page (class_queue o.queues c) ≡ true)
       ⊎ (CameByBell c page key value o.pages n.pages ⊎ NextAfterSearch c page key value o n)
 
 -- An insert of a value of class c. The value is added to the log, or there is no room. Or nothing of the class is left,

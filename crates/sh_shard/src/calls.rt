@@ -1,27 +1,27 @@
 // The four calls of a pass, for an owner: a slot of its shard that the call frees goes to its page's lists.
 ghost use Rattle.std.specs.Prelude.{◌≡◌, ◌+◌, ◌*◌, ◌^◌, ◌≤◌, None, length};
 ghost use Rattle.sh_pass.specs.Passes.{GetDoes, ReadIntoDoes, RemoveDoes, ReleaseDoes};
-ghost use Rattle.sh_shard.specs.Kept.{MayCome, Came};
-ghost use Rattle.sh_shard.specs.Pages.{SlotComes};
+ghost use Rattle.sh_shard.specs.Kept.{MayGain, PushesGained};
+ghost use Rattle.sh_shard.specs.Pages.{GainsSlot};
 
 use crate::pages::Pages;
 use sh_key::KeyLayout;
 use sh_pass::{Guard, KeepsHeap};
-use sh_slots::Spot;
+use sh_slots::SlotRef;
 use sh_states::PageStates;
 use sh_value::{Hold, Refusal, Value};
 
 // Puts a slot that the owner gained in front of `local`. Returns its page's number in the shard.
-fn keep(states: &mut PageStates, shard: u64, came: Option<Spot>) -> Option<u64>
+fn push_gained(states: &mut PageStates, shard: u64, gained: Option<SlotRef>) -> Option<u64>
     requires few { shard * length states.old + length states.old ≤ 2 ^ 24 }
-    requires may { MayCome shard states.old came }
-    ensures { Came shard came states.old result states.new }
+    requires may { MayGain shard states.old gained }
+    ensures { PushesGained shard gained states.old result states.new }
 {
-    let Some(spot) = came else {
+    let Some(slot_ref) = gained else {
         return None;
     };
-    let page = spot.page - shard * states.len();
-    states.push_local(page, spot.slot as u32);
+    let page = slot_ref.page - shard * states.len();
+    states.push_local(page, slot_ref.slot as u32);
     Some(page)
 }
 
@@ -30,10 +30,10 @@ impl<L: KeyLayout, H: KeepsHeap<L>> Pages<L, H> {
     /// the page that gained a slot.
     pub(crate) fn get(&mut self, key: u64) -> (Result<Hold, Refusal>, Option<u64>)
         ensures does { GetDoes L.layout key self.old.owner result.0 self.new.owner }
-        ensures came { SlotComes result.1 self.old self.new }
+        ensures gained { GainsSlot result.1 self.old self.new }
     {
-        let (answer, came) = self.owner.get(key);
-        let page = keep(&mut self.states, self.shard, came);
+        let (answer, gained) = self.owner.get(key);
+        let page = push_gained(&mut self.states, self.shard, gained);
         (answer, page)
     }
 
@@ -41,10 +41,10 @@ impl<L: KeyLayout, H: KeepsHeap<L>> Pages<L, H> {
     #[inline(always)]
     pub(crate) fn get_guard(&mut self, key: u64) -> (Result<Guard<L>, Refusal>, Option<u64>)
         ensures does { GetDoes L.layout key self.old.owner result.0 self.new.owner }
-        ensures came { SlotComes result.1 self.old self.new }
+        ensures gained { GainsSlot result.1 self.old self.new }
     {
-        let (answer, came) = self.owner.get_guard(key);
-        let page = keep(&mut self.states, self.shard, came);
+        let (answer, gained) = self.owner.get_guard(key);
+        let page = push_gained(&mut self.states, self.shard, gained);
         (answer, page)
     }
 
@@ -52,7 +52,7 @@ impl<L: KeyLayout, H: KeepsHeap<L>> Pages<L, H> {
     #[inline(always)]
     pub(crate) fn read_into(&mut self, hold: Hold, value: &mut Value) -> Result<(), Refusal>
         ensures does { ReadIntoDoes hold.key self.old.owner value.old result value.new self.new.owner }
-        ensures came { SlotComes None self.old self.new }
+        ensures gained { GainsSlot None self.old self.new }
     {
         self.owner.read_into(hold, value)
     }
@@ -61,7 +61,7 @@ impl<L: KeyLayout, H: KeepsHeap<L>> Pages<L, H> {
     #[inline(always)]
     pub(crate) fn read_guard(&mut self, guard: &Guard<L>, value: &mut Value) -> Result<(), Refusal>
         ensures does { ReadIntoDoes guard.now.key self.old.owner value.old result value.new self.new.owner }
-        ensures came { SlotComes None self.old self.new }
+        ensures gained { GainsSlot None self.old self.new }
     {
         self.owner.read_guard(guard, value)
     }
@@ -69,30 +69,30 @@ impl<L: KeyLayout, H: KeepsHeap<L>> Pages<L, H> {
     /// Removes a key. Refused as `BadKey` or `Gone`. Returns also the page that gained a slot.
     pub(crate) fn remove(&mut self, key: u64) -> (Result<(), Refusal>, Option<u64>)
         ensures does { RemoveDoes L.layout key self.old.owner result.0 self.new.owner }
-        ensures came { SlotComes result.1 self.old self.new }
+        ensures gained { GainsSlot result.1 self.old self.new }
     {
-        let (answer, came) = self.owner.remove(key);
-        let page = keep(&mut self.states, self.shard, came);
+        let (answer, gained) = self.owner.remove(key);
+        let page = push_gained(&mut self.states, self.shard, gained);
         (answer, page)
     }
 
     /// Gives one hold on a key back. Refused as `NotHeld`. Returns also the page that gained a slot.
     pub(crate) fn release(&mut self, hold: Hold) -> (Result<(), Refusal>, Option<u64>)
         ensures does { ReleaseDoes L.layout hold.key self.old.owner result.0 self.new.owner }
-        ensures came { SlotComes result.1 self.old self.new }
+        ensures gained { GainsSlot result.1 self.old self.new }
     {
-        let (answer, came) = self.owner.release(hold);
-        let page = keep(&mut self.states, self.shard, came);
+        let (answer, gained) = self.owner.release(hold);
+        let page = push_gained(&mut self.states, self.shard, gained);
         (answer, page)
     }
     /// The same as `release`, of a hold that keeps its place.
     #[inline(always)]
     pub(crate) fn release_guard(&mut self, guard: Guard<L>) -> (Result<(), Refusal>, Option<u64>)
         ensures does { ReleaseDoes L.layout guard.key self.old.owner result.0 self.new.owner }
-        ensures came { SlotComes result.1 self.old self.new }
+        ensures gained { GainsSlot result.1 self.old self.new }
     {
-        let (answer, came) = self.owner.release_guard(guard);
-        let page = keep(&mut self.states, self.shard, came);
+        let (answer, gained) = self.owner.release_guard(guard);
+        let page = push_gained(&mut self.states, self.shard, gained);
         (answer, page)
     }
 }

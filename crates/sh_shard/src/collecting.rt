@@ -3,7 +3,7 @@ ghost use Rattle.std.specs.Prelude.{◌≡◌, ℕ, ◌<◌, None, IfSome, Match
 ghost use Rattle.sh_bell.specs.Bell.{is_armed as armed_by};
 ghost use Rattle.sh_shape.specs.Places.{slot_places};
 ghost use Rattle.sh_shard.specs.Pages.{page_at, seen_class, WorksOn, NoArming, TakesPage, CursorMoves, CursorStops};
-ghost use Rattle.sh_shard.specs.Pages.{CollectsPage, GuardsPage, StepsForSlots};
+ghost use Rattle.sh_shard.specs.Pages.{CollectsPage, ArmsAndFollows, StepsForSlots};
 
 use crate::pages::Pages;
 use sh_bell::{is_armed, top_of};
@@ -13,7 +13,7 @@ use sh_stack::{link_item, top_item};
 use sh_step::PageName;
 
 // The slot that a head or a link names, as a number of the lists.
-fn small(slot: Option<u64>) -> Option<u32>
+fn slot_number(slot: Option<u64>) -> Option<u32>
     requires { IfSome slot (λ s. s < slot_places) }
     ensures { result ≡ slot }
 {
@@ -43,7 +43,7 @@ impl<L: KeyLayout, H: KeepsHeap<L>> Pages<L, H> {
             page,
         };
         let found = self.owner.take(name);
-        let cursor = small(top_item(top_of(found)));
+        let cursor = slot_number(top_item(top_of(found)));
         let armed = still_armed(self.states.is_armed(page), found);
         self.states.begin_reading(page, cursor, armed);
     }
@@ -63,7 +63,7 @@ impl<L: KeyLayout, H: KeepsHeap<L>> Pages<L, H> {
             page,
         };
         let found = self.owner.arm(name);
-        let cursor = small(top_item(top_of(found)));
+        let cursor = slot_number(top_item(top_of(found)));
         self.states.begin_reading(page, cursor, true);
     }
 
@@ -83,7 +83,7 @@ impl<L: KeyLayout, H: KeepsHeap<L>> Pages<L, H> {
         if found == 0 {
             return false;
         }
-        let cursor = small(link_item(found));
+        let cursor = slot_number(link_item(found));
         self.states.add_read(page, slot, cursor);
         true
     }
@@ -124,10 +124,10 @@ impl<L: KeyLayout, H: KeepsHeap<L>> Pages<L, H> {
     }
 
     /// Arms the page if it has no cursor and is not armed, and follows what was found.
-    pub(crate) fn guard(&mut self, page: u64)
+    pub(crate) fn arm_and_follow(&mut self, page: u64)
         requires inside { page < self.old.count }
         requires classed { 0 < seen_class (page_at self.old page) }
-        ensures { GuardsPage page self.old self.new }
+        ensures { ArmsAndFollows page self.old self.new }
     {
         if self.has_cursor(page) {
             return;

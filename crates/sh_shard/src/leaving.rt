@@ -14,7 +14,7 @@ use sh_bell::{is_armed, top_of};
 use sh_key::KeyLayout;
 use sh_pass::KeepsHeap;
 use sh_pass::pass::Pass;
-use sh_slots::Spot;
+use sh_slots::SlotRef;
 use sh_stack::link_over;
 use sh_step::PageName;
 
@@ -129,9 +129,9 @@ impl<L: KeyLayout, H: KeepsHeap<L>> Pages<L, H> {
         };
         let slot = slot as u64;
         let head = self.owner.put_slot(name, slot);
-        let spot = Spot { page: number, slot };
+        let slot_ref = SlotRef { page: number, slot };
         self.owner
-            .tie(spot, link_over(top_of(head)), is_armed(head));
+            .tie(slot_ref, link_over(top_of(head)), is_armed(head));
         true
     }
 

@@ -29,13 +29,13 @@ pub(crate) fn return_all<L: KeyLayout, H: KeepsHeap<L>>(pages: &Pages<L, H>, que
 pub(crate) fn return_one<L: KeyLayout, H: KeepsHeap<L>>(
     pages: &Pages<L, H>,
     queues: &mut Queues,
-    came: Option<u64>,
+    gained: Option<u64>,
 )
-    requires sorted { SortedBut (λ p. came ≡ Some p) pages.now queues.old }
-    requires inside { IfSome came (λ p. p < pages.now.count) }
+    requires sorted { SortedBut (λ p. gained ≡ Some p) pages.now queues.old }
+    requires inside { IfSome gained (λ p. p < pages.now.count) }
     ensures { SortedPages pages.now queues.new }
 {
-    let Some(page) = came else {
+    let Some(page) = gained else {
         return;
     };
     let _known = queues.opened();

@@ -14,7 +14,7 @@ fn is_heard(read: bool, word: u64, c: u32) -> bool
     read || word == c as u64 + 1
 }
 
-fn either(first: bool, second: bool) -> bool
+fn any_heard(first: bool, second: bool) -> bool
     ensures { result ≡ (first || second) }
 {
     first || second
@@ -26,17 +26,17 @@ impl<L: KeyLayout, H: KeepsHeap<L>> Shard<L, H> {
         requires class { c < 8 }
         ensures { RingsOut c result self.old self.new }
     {
-        let first = self.hear(c);
+        let first = self.read_rings(c);
         if self.pages.has_rings() {
             return first;
         }
         self.take_bell();
-        let second = self.hear(c);
-        either(first, second)
+        let second = self.read_rings(c);
+        any_heard(first, second)
     }
 
     // Follows the bell to its end or to a link that is not written. Returns whether a page of the class was read.
-    fn hear(&mut self, c: u32) -> bool
+    fn read_rings(&mut self, c: u32) -> bool
         requires class { c < 8 }
         ensures hears { Hears c result self.old self.new }
         ensures waits { BellWaits self.old self.new }

@@ -8,7 +8,7 @@ ghost use Rattle.sh_shard.specs.Shards.{InsertServes};
 ghost use Rattle.sh_shard.specs.Steps.{StepsAtMost};
 ghost use Rattle.sh_shard.specs.Bounds.{InsertIsBounded};
 ghost use Rattle.sh_shard.specs.Finding.{StoresInQueue};
-ghost use Rattle.sh_shard.specs.Searches.{Settles, Searched, Tried};
+ghost use Rattle.sh_shard.specs.Searches.{SetsAside, Searched, Tried};
 
 use crate::shard::Shard;
 use sh_key::KeyLayout;
@@ -55,7 +55,7 @@ impl<L: KeyLayout, H: KeepsHeap<L>> Shard<L, H> {
             if let Some(key) = self.try_page(c, page, value) {
                 return Some(key);
             }
-            self.settle(c, page);
+            self.set_aside(c, page);
             if page == last {
                 return None;
             }
@@ -81,14 +81,14 @@ impl<L: KeyLayout, H: KeepsHeap<L>> Shard<L, H> {
     }
 
     // After a try in vain: a page whose cursor waits goes to the back, a page without a cursor to the full queue.
-    fn settle(&mut self, c: u32, page: u32)
+    fn set_aside(&mut self, c: u32, page: u32)
         requires class { c < 8 }
         requires here { has_number page (class_queue self.old.queues c) ≡ true }
         requires inside { page < self.old.queues.opened }
         requires nothing { NothingMine (page_at self.old.pages page) }
         requires waits { MatchOption (page_at self.old.pages page).cursor ((page_at self.old.pages page).armed ≡ true)
             (λ _. Unit {0}) }
-        ensures { Settles c page self.old self.new }
+        ensures { SetsAside c page self.old self.new }
     {
         let _known = self.queues.opened();
         if self.pages.has_cursor(page as u64) {

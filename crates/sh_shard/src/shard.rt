@@ -68,8 +68,8 @@ impl<L: KeyLayout, H: KeepsHeap<L>> Shard<L, H> {
         ensures stays { StaysOwner L.layout self.old self.new }
     {
         let _known = &self.queues;
-        let (answer, came) = self.pages.get(key);
-        return_one(&self.pages, &mut self.queues, came);
+        let (answer, gained) = self.pages.get(key);
+        return_one(&self.pages, &mut self.queues, gained);
         let _known = self.standing();
         answer
     }
@@ -81,8 +81,8 @@ impl<L: KeyLayout, H: KeepsHeap<L>> Shard<L, H> {
         self.pages.owner.warm(key);
     }
 
-    /// The same, and the words that a read of the key's value needs: its page's class, its length, and its word if it has
-    /// one. It does no step, and a number that is no key of the heap does nothing.
+    /// The same, and the words that a read of the key's value needs: its page's class, its length, and its word if it
+    /// has one. It does no step, and a number that is no key of the heap does nothing.
     #[inline(always)]
     pub fn warm_value(&self, key: u64) {
         self.pages.owner.warm_value(key);
@@ -94,8 +94,8 @@ impl<L: KeyLayout, H: KeepsHeap<L>> Shard<L, H> {
         ensures stays { StaysOwner L.layout self.old self.new }
     {
         let _known = &self.queues;
-        let (answer, came) = self.pages.get_guard(key);
-        return_one(&self.pages, &mut self.queues, came);
+        let (answer, gained) = self.pages.get_guard(key);
+        return_one(&self.pages, &mut self.queues, gained);
         let _known = self.standing();
         answer
     }
@@ -140,8 +140,8 @@ impl<L: KeyLayout, H: KeepsHeap<L>> Shard<L, H> {
         ensures stays { StaysOwner L.layout self.old self.new }
     {
         let _known = &self.queues;
-        let (answer, came) = self.pages.remove(key);
-        return_one(&self.pages, &mut self.queues, came);
+        let (answer, gained) = self.pages.remove(key);
+        return_one(&self.pages, &mut self.queues, gained);
         let _known = self.standing();
         answer
     }
@@ -152,8 +152,8 @@ impl<L: KeyLayout, H: KeepsHeap<L>> Shard<L, H> {
         ensures stays { StaysOwner L.layout self.old self.new }
     {
         let _known = &self.queues;
-        let (answer, came) = self.pages.release(hold);
-        return_one(&self.pages, &mut self.queues, came);
+        let (answer, gained) = self.pages.release(hold);
+        return_one(&self.pages, &mut self.queues, gained);
         let _known = self.standing();
         answer
     }
@@ -164,8 +164,8 @@ impl<L: KeyLayout, H: KeepsHeap<L>> Shard<L, H> {
         ensures stays { StaysOwner L.layout self.old self.new }
     {
         let _known = &self.queues;
-        let (answer, came) = self.pages.release_guard(guard);
-        return_one(&self.pages, &mut self.queues, came);
+        let (answer, gained) = self.pages.release_guard(guard);
+        return_one(&self.pages, &mut self.queues, gained);
         let _known = self.standing();
         answer
     }

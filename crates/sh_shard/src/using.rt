@@ -67,7 +67,7 @@ impl<L: KeyLayout, H: KeepsHeap<L>> Pages<L, H> {
         if self.has_slot(page) {
             return true;
         }
-        self.guard(page);
+        self.arm_and_follow(page);
         self.has_slot(page)
     }
 

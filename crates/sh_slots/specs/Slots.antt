@@ -3,32 +3,32 @@ use Rattle.std.specs.Prelude.{ℕ, zero, suc, ◌+◌, ◌==◌, nat_lt, Bool, t
 use Rattle.sh_word.specs.Fields.{fields_of, word_of}
 use Rattle.sh_slots.specs.declared.hand.Hand.{Hand}
 use Rattle.sh_slots.specs.declared.hand.Hand.TheVariants.{Idle, Removing, Leaving, Finishing}
-use Rattle.sh_slots.specs.declared.hand.Spot.{Spot}
-use Rattle.sh_slots.specs.declared.hand.Name.{Name}
+use Rattle.sh_slots.specs.declared.hand.SlotRef.{SlotRef}
+use Rattle.sh_slots.specs.declared.hand.KeyRef.{KeyRef}
 use Rattle.sh_slots.specs.declared.enter.GetAnswer.{GetAnswer}
 use Rattle.sh_slots.specs.declared.enter.GetAnswer.TheVariants.{Got, Crowded, Gone}
 
-abbrev pub same_spot : Spot → Spot → Bool
-same_spot a b = (a.page == b.page) && (a.slot == b.slot)
+abbrev pub same_slot : SlotRef → SlotRef → Bool
+same_slot a b = (a.page == b.page) && (a.slot == b.slot)
 
 -- n slots of page q, from slot s on
-unfoldable pub spots : ℕ → ℕ → ℕ → List Spot
-spots q s zero = []
-spots q s (suc n) = record { page = q; slot = s } ∷ spots q (s + 1) n
+unfoldable pub slot_refs : ℕ → ℕ → ℕ → List SlotRef
+slot_refs q s zero = []
+slot_refs q s (suc n) = record { page = q; slot = s } ∷ slot_refs q (s + 1) n
 
 -- the word found says Live, in this generation
 abbrev pub live_at : ℕ → ℕ → Bool
 live_at g n = (fields_of n).present && not (fields_of n).marked && ((fields_of n).generation == g)
 
 -- what a drop leaves in the hand
-abbrev pub after_drop : Spot → ℕ → Hand
+abbrev pub after_drop : SlotRef → ℕ → Hand
 after_drop x n = cond ((fields_of n).present && (fields_of n).marked && ((fields_of n).count == 1))
     (Finishing x (fields_of n).generation) Idle
 
-abbrev pub spot_of : Name → Spot
-spot_of n = record { page = n.page; slot = n.slot }
+abbrev pub slot_ref_of : KeyRef → SlotRef
+slot_ref_of n = record { page = n.page; slot = n.slot }
 
-abbrev pub name_at : Spot → ℕ → Name
+abbrev pub name_at : SlotRef → ℕ → KeyRef
 name_at x g = record { page = x.page; slot = x.slot; generation = g }
 
 -- the word of a marked slot that no pass is on, and the word that ends its generation: the slot is empty, in the next
@@ -51,8 +51,8 @@ abbrev pub answer_to_get : (g guard_max found : ℕ) → GetAnswer
 answer_to_get g guard_max n = cond (live_at g n) (cond (has_room guard_max n) Got Crowded) Gone
 
 -- what a removal of a key of this name has in hand, by the word that it found as it entered
-abbrev pub after_enter_remove : ℕ → Name → ℕ → Hand
-after_enter_remove k x n = cond (live_at x.generation n) (Removing k) (Leaving (spot_of x))
+abbrev pub after_enter_remove : ℕ → KeyRef → ℕ → Hand
+after_enter_remove k x n = cond (live_at x.generation n) (Removing k) (Leaving (slot_ref_of x))
 
 -- no mark came before the one that found the word
 abbrev pub is_first_mark : ℕ → Bool
@@ -66,5 +66,5 @@ abbrev pub is_reusable_after : (g gen_max found : ℕ) → Bool
 is_reusable_after g gen_max n = (n == marked_word g) && not (g == gen_max)
 
 -- the name of the key under which a value becomes present, by the word found
-abbrev pub published_name : Spot → ℕ → Name
+abbrev pub published_name : SlotRef → ℕ → KeyRef
 published_name x n = name_at x (fields_of n).generation

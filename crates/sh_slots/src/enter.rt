@@ -1,8 +1,8 @@
 //! What a pass learns as it enters a slot.
 ghost use Rattle.std.specs.Prelude.{◌≡◌};
-ghost use Rattle.sh_slots.specs.Slots.{spot_of, live_at, answer_to_get, after_enter_remove};
+ghost use Rattle.sh_slots.specs.Slots.{slot_ref_of, live_at, answer_to_get, after_enter_remove};
 
-use crate::{Hand, Name, Spot};
+use crate::{Hand, KeyRef, SlotRef};
 use sh_word::{Kind, State};
 
 /// What a get returns as it enters a slot.
@@ -16,12 +16,12 @@ pub enum GetAnswer {
     Gone,
 }
 
-impl Name {
+impl KeyRef {
     /// The slot.
-    pub fn spot(&self) -> Spot
-        ensures { result ≡ spot_of self.now }
+    pub fn slot_ref(&self) -> SlotRef
+        ensures { result ≡ slot_ref_of self.now }
     {
-        Spot {
+        SlotRef {
             page: self.page,
             slot: self.slot,
         }
@@ -52,12 +52,12 @@ pub fn answer_to_get(generation: u32, guard_max: u32, found: u64) -> GetAnswer
 
 /// What a removal of the key has in hand, by the state word that it found as it entered the key's slot. It continues if
 /// the value is there, and otherwise leaves.
-pub fn after_enter_remove(key: u64, name: Name, found: u64) -> Hand
+pub fn after_enter_remove(key: u64, name: KeyRef, found: u64) -> Hand
     ensures { result ≡ after_enter_remove key name found }
 {
     if is_live_at(name.generation, found) {
         Hand::Removing(key)
     } else {
-        Hand::Leaving(name.spot())
+        Hand::Leaving(name.slot_ref())
     }
 }

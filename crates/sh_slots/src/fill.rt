@@ -1,16 +1,16 @@
 //! How a value gets into its slot.
 ghost use Rattle.std.specs.Prelude.{◌≡◌};
-ghost use Rattle.sh_slots.specs.Slots.{name_at, same_spot, published_name};
+ghost use Rattle.sh_slots.specs.Slots.{name_at, same_slot, published_name};
 
-use crate::{Name, Spot};
+use crate::{KeyRef, SlotRef};
 use sh_word::State;
 
-impl Spot {
+impl SlotRef {
     /// What a key of this generation names.
-    pub fn name(&self, generation: u32) -> Name
+    pub fn name(&self, generation: u32) -> KeyRef
         ensures { result ≡ name_at self.now generation }
     {
-        Name {
+        KeyRef {
             page: self.page,
             slot: self.slot,
             generation,
@@ -18,8 +18,8 @@ impl Spot {
     }
 
     /// Whether they are one slot.
-    pub fn is_same(&self, other: &Spot) -> bool
-        ensures { result ≡ same_spot self.now other.now }
+    pub fn is_same(&self, other: &SlotRef) -> bool
+        ensures { result ≡ same_slot self.now other.now }
     {
         self.page == other.page && self.slot == other.slot
     }
@@ -27,8 +27,8 @@ impl Spot {
 
 /// The name of the key under which a value becomes present in the slot, by the state word found: the slot, in the
 /// word's generation.
-pub fn published_name(spot: Spot, found: u64) -> Name
-    ensures { result ≡ published_name spot found }
+pub fn published_name(slot_ref: SlotRef, found: u64) -> KeyRef
+    ensures { result ≡ published_name slot_ref found }
 {
-    spot.name(State::of(found).generation)
+    slot_ref.name(State::of(found).generation)
 }

@@ -3,7 +3,7 @@ use sh_value::Value;
 
 /// A slot: its page over the whole heap, and its number there.
 #[derive(Clone, Copy, Debug, PartialEq, Eq)]
-pub struct Spot {
+pub struct SlotRef {
     /// The page: the shard's number times the pages of a shard, plus the page's number there.
     pub page: u64,
     /// The slot of the page, below 48.
@@ -12,7 +12,7 @@ pub struct Spot {
 
 /// What a key names: a slot, and which of the values that were there is meant.
 #[derive(Clone, Copy, Debug, PartialEq, Eq)]
-pub struct Name {
+pub struct KeyRef {
     /// The page over the whole heap.
     pub page: u64,
     /// The slot of the page.
@@ -29,17 +29,17 @@ pub enum Hand {
     /// It entered the slot of the key, to remove it.
     Removing(u64),
     /// It got its reply, and still has to give back its count on the slot.
-    Leaving(Spot),
+    Leaving(SlotRef),
     /// Its count was the last one on the marked slot, of this generation.
-    Finishing(Spot, u32),
+    Finishing(SlotRef, u32),
     /// It has an empty slot of a shard that it does not own.
-    ToPut(Spot),
+    ToPut(SlotRef),
     /// It put the slot, whose link is not stored yet; whether it found the flag, and so must ring.
-    Tying(Spot, u64, bool),
+    Tying(SlotRef, u64, bool),
     /// It must ring for the page.
     Ringing(u64),
     /// It put the page on the bell, whose link is not stored yet.
     RingTying(u64, u64),
     /// It fills the slot with the value, of which this many words are stored.
-    Filling(Spot, Value, u64),
+    Filling(SlotRef, Value, u64),
 }

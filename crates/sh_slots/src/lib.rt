@@ -14,5 +14,5 @@ pub use free::{
     after_drop, finished_word, is_first_mark, is_reusable_after, marked_word, retired_word,
     reusable_word,
 };
-pub use hand::{Hand, Name, Spot};
+pub use hand::{Hand, KeyRef, SlotRef};
 pub use reply::Reply;

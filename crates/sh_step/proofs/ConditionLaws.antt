@@ -4,12 +4,12 @@ use Rattle.std.proofs.Common.{Some, None}
 use Rattle.std.specs.Prelude.{not, nat_lt, nat_le, option_map}
 use Rattle.std.specs.Bool.{then_some}
 use Rattle.sh_shape.specs.Classes.{width}
-use Rattle.sh_slots.specs.declared.hand.Spot.{Spot}
-use Rattle.sh_slots.specs.declared.hand.Name.{Name}
+use Rattle.sh_slots.specs.declared.hand.SlotRef.{SlotRef}
+use Rattle.sh_slots.specs.declared.hand.KeyRef.{KeyRef}
 use Rattle.sh_slots.specs.declared.hand.Hand.{Hand}
 use Rattle.sh_slots.specs.declared.hand.Hand.TheVariants.{Idle, Removing, Leaving, Finishing, ToPut, Tying, Ringing}
 use Rattle.sh_slots.specs.declared.hand.Hand.TheVariants.{RingTying, Filling}
-use Rattle.sh_slots.specs.Slots.{same_spot}
+use Rattle.sh_slots.specs.Slots.{same_slot}
 use Rattle.sh_step.specs.declared.body.Body.{Body}
 use Rattle.sh_step.specs.declared.action.PageName.{PageName}
 use Rattle.sh_step.specs.declared.action.SlotName.{SlotName}
@@ -92,7 +92,7 @@ module _ (plan : Plan) (p : Body) where
       (is, refl)
   ring_tie_may _ m is e = no_some m e
 
-  read_word_may : (k i : ℕ) (m : Move) (x : Name) (o r : Option ℕ) → Named plan k x → noted k p.class_words ≡ o
+  read_word_may : (k i : ℕ) (m : Move) (x : KeyRef) (o r : Option ℕ) → Named plan k x → noted k p.class_words ≡ o
       → noted k p.lengths ≡ r
       → (elim o as (λ _. Option Move) [
         | Some c ↦ elim r as (λ _. Option Move) [
@@ -204,9 +204,9 @@ module _ (plan : Plan) (p : Body) where
   follow_bell_may m None is e = no_some m e
 
   -- a hold on the key of a move that asks for one
-  held_may : (k : ℕ) (x : Action) (m : Move) (made : Name → Move) → named plan k
+  held_may : (k : ℕ) (x : Action) (m : Move) (made : KeyRef → Move) → named plan k
       (λ x. then_some (idle p && has (λ j. j == k) p.holds) (made x)) ≡ Some m
-      → ((y : Name) → Named plan k y → p.hand ≡ Idle → has (λ j. j == k) p.holds ≡ true → MayBe x (made y))
+      → ((y : KeyRef) → Named plan k y → p.hand ≡ Idle → has (λ j. j == k) p.holds ≡ true → MayBe x (made y))
       → MayBe x m
   held_may k x m made e so =
       let n = named_of plan k (λ x. then_some (idle p && has (λ j. j == k) p.holds) (made x)) m e in
@@ -232,13 +232,13 @@ module _ (plan : Plan) (p : Body) where
       (λ y name rests held. ((rests, name, held), refl))
   may_be action.Finish m e = finish_may p.hand m refl e
   may_be (action.FillSlot y v) m e =
-      let x : Spot = slot_of plan y in
-      let n = slotted_of plan y (λ x. then_some (idle p && own plan p x.page && has (same_spot x) p.mine && nat_lt 0
+      let x : SlotRef = slot_of plan y in
+      let n = slotted_of plan y (λ x. then_some (idle p && own plan p x.page && has (same_slot x) p.mine && nat_lt 0
       (class_word_noted p x.page) && nat_le (length v) (width (class_word_noted p x.page - 1))) (move.FillSlot x v)) m
       e in
-      let t = by_then (idle p && own plan p x.page && has (same_spot x) p.mine && nat_lt 0 (class_word_noted p x.page)
+      let t = by_then (idle p && own plan p x.page && has (same_slot x) p.mine && nat_lt 0 (class_word_noted p x.page)
       && nat_le (length v) (width (class_word_noted p x.page - 1))) (move.FillSlot x v) m n.2 in
-      let d = and5 (idle p) (own plan p x.page) (has (same_spot x) p.mine) (nat_lt 0 (class_word_noted p x.page))
+      let d = and5 (idle p) (own plan p x.page) (has (same_slot x) p.mine) (nat_lt 0 (class_word_noted p x.page))
       (nat_le (length v) (width (class_word_noted p x.page - 1))) t.0 in
       as_this (action.FillSlot y v) (move.FillSlot x v) m t.1 (
         (
@@ -304,11 +304,11 @@ module _ (plan : Plan) (p : Body) where
       follow_may y m (noted (page_of plan y) p.cursors) n.0 refl n.1
   may_be action.Put m e = put_may p.hand m refl e
   may_be (action.PutSlot y) m e =
-      let x : Spot = slot_of plan y in
+      let x : SlotRef = slot_of plan y in
       let n = slotted_of plan y
-      (λ x. then_some (idle p && own plan p x.page && has (same_spot x) p.mine) (move.PutSlot x)) m e in
-      let t = by_then (idle p && own plan p x.page && has (same_spot x) p.mine) (move.PutSlot x) m n.2 in
-      let d = and3 (idle p) (own plan p x.page) (has (same_spot x) p.mine) t.0 in
+      (λ x. then_some (idle p && own plan p x.page && has (same_slot x) p.mine) (move.PutSlot x)) m e in
+      let t = by_then (idle p && own plan p x.page && has (same_slot x) p.mine) (move.PutSlot x) m n.2 in
+      let d = and3 (idle p) (own plan p x.page) (has (same_slot x) p.mine) t.0 in
       as_this (action.PutSlot y) (move.PutSlot x) m t.1 (
         (idle_is p d.0, (page_within plan (its_page y) n.0, n.1), owns_is plan p x.page d.1, d.2),
         ap (λ (z : SlotName). action.PutSlot z) (name_of_slot plan y n.0),

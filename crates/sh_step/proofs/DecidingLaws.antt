@@ -1,7 +1,7 @@
 -- The steps that decide are those that reply.
 use Rattle.std.proofs.Common.{◌≡◌, ℕ, Bool, true, false, cond, refl, sym, ap, ◌∙◌, subst, Option, Some, None}
 use Rattle.std.specs.Prelude.{not, is_some}
-use Rattle.sh_slots.specs.declared.hand.Name.{Name}
+use Rattle.sh_slots.specs.declared.hand.KeyRef.{KeyRef}
 use Rattle.sh_slots.specs.declared.reply.Reply.TheVariants.{Gone}
 use Rattle.sh_slots.specs.Slots.{live_at}
 use Rattle.sh_step.specs.declared.action.Action.{Action}
@@ -21,8 +21,8 @@ module _ (plan : Plan) (p : Body) (n : ℕ) where
   gone k false = refl
 
   -- what the key names, if it names something
-  live : (k : ℕ) (x : Name) → plan.keys.unpack k ≡ Some x → live_at x.generation n ≡ is_live plan k n
-  live k x e = sym (ap (λ (o : Option Name). elim o as (λ _. Bool)
+  live : (k : ℕ) (x : KeyRef) → plan.keys.unpack k ≡ Some x → live_at x.generation n ≡ is_live plan k n
+  live k x e = sym (ap (λ (o : Option KeyRef). elim o as (λ _. Bool)
       [ Some y ↦ live_at y.generation n | None ↦ false ]) e)
 
   replies : (m : Move) → May plan p m → is_some ((row_of plan p m).reply n) ≡ decides plan (action_of plan m) n

@@ -4,7 +4,7 @@ use Rattle.std.proofs.Common.{arith}
 use Rattle.std.specs.Prelude.{◌≢◌, nat_lt}
 use Rattle.std.proofs.lemmas.Bool.Decides.{nat_tests}
 use Rattle.sh_word.specs.Fields.{Fields, fields_of}
-use Rattle.sh_slots.specs.declared.hand.Spot.{Spot}
+use Rattle.sh_slots.specs.declared.hand.SlotRef.{SlotRef}
 use Rattle.sh_slots.specs.declared.hand.Hand.{Hand}
 use Rattle.sh_slots.specs.declared.hand.Hand.TheVariants.{Idle, Removing, Leaving, Finishing, ToPut, Tying, Ringing}
 use Rattle.sh_slots.specs.declared.hand.Hand.TheVariants.{RingTying, Filling}
@@ -31,21 +31,21 @@ module _ (plan : Plan) (p : Body) (busy : p.hand ≢ Idle) where
       → to_end ((row_of plan p m).part n).hand < to_end p.hand
   nearer_by m n h is less = subst (λ (u : Hand). to_end ((row_of plan p m).part n).hand < to_end u) (sym is) less
 
-  dropped : (x : Spot) (g : ℕ) (b : Bool) → to_end (cond b (Finishing x g) Idle) < 6
+  dropped : (x : SlotRef) (g : ℕ) (b : Bool) → to_end (cond b (Finishing x g) Idle) < 6
   dropped x g true = omega arith
   dropped x g false = omega arith
 
-  finished : (x : Spot) (b c : Bool) → to_end (cond b (cond c (hand (record p { mine = x ∷ p.mine }) Idle)
+  finished : (x : SlotRef) (b c : Bool) → to_end (cond b (cond c (hand (record p { mine = x ∷ p.mine }) Idle)
       (hand p (ToPut x))) (hand p Idle)).hand < 5
   finished x true true = omega arith
   finished x true false = omega arith
   finished x false c = omega arith
 
-  tying : (x : Spot) (l : ℕ) (r : Bool) → to_end (Tying x l r) < 4
+  tying : (x : SlotRef) (l : ℕ) (r : Bool) → to_end (Tying x l r) < 4
   tying x l true = omega arith
   tying x l false = omega arith
 
-  tied : (x : Spot) (l : ℕ) (r : Bool) → to_end (cond r (Ringing x.page) Idle) < to_end (Tying x l r)
+  tied : (x : SlotRef) (l : ℕ) (r : Bool) → to_end (cond r (Ringing x.page) Idle) < to_end (Tying x l r)
   tied x l true = omega arith
   tied x l false = omega arith
 

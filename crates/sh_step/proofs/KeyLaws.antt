@@ -6,13 +6,13 @@ use Rattle.std.proofs.lemmas.Nat.{div-mul-add, mod-mul-add}
 use Rattle.sh_key.specs.declared.parts.Parts.{Parts}
 use Rattle.sh_key.specs.Layout.{Layout, IsInRange, unpacked}
 use Rattle.sh_key.proofs.Packing.{unpacked_is}
-use Rattle.sh_slots.specs.declared.hand.Name.{Name}
+use Rattle.sh_slots.specs.declared.hand.KeyRef.{KeyRef}
 use Rattle.sh_step.specs.Plans.{name_in, keys_of, parts_of}
 
 -- what parts name within the heap are the parts of that name
-named_parts : (shards pages : ℕ) (p : Parts) (n : Name) → name_in shards pages p ≡ Some n → p ≡ parts_of pages n
+named_parts : (shards pages : ℕ) (p : Parts) (n : KeyRef) → name_in shards pages p ≡ Some n → p ≡ parts_of pages n
 named_parts shards pages p n h = go (nat_lt p.shard shards) (nat_lt p.page pages) refl h where
-  name : Name
+  name : KeyRef
   name = record { page = p.shard * pages + p.page; slot = p.slot; generation = p.generation }
 
   go : (a b : Bool) → nat_lt p.page pages ≡ b → cond (a && b) (Some name) None ≡ Some n → p ≡ parts_of pages n
@@ -32,11 +32,11 @@ named_parts shards pages p n h = go (nat_lt p.shard shards) (nat_lt p.page pages
   go true false below h = absurd (let no : ⊥ = cc in no)
   go false b below h = absurd (let no : ⊥ = cc in no)
 
-pub parts_in_range : (layout : Layout) (shards pages k : ℕ) (n : Name) → (keys_of layout shards pages).unpack k ≡ Some n
+pub parts_in_range : (layout : Layout) (shards pages k : ℕ) (n : KeyRef) → (keys_of layout shards pages).unpack k ≡ Some n
     → IsInRange layout (parts_of pages n)
 unfolding keys_of
 parts_in_range layout shards pages k n h = go (unpacked layout k) refl h where
-  go : (o : Option Parts) → unpacked layout k ≡ o → (elim o as (λ _. Option Name)
+  go : (o : Option Parts) → unpacked layout k ≡ o → (elim o as (λ _. Option KeyRef)
       [ Some p ↦ name_in shards pages p | None ↦ None ]) ≡ Some n → IsInRange layout (parts_of pages n)
   go (Some p) e h = subst (IsInRange layout) (named_parts shards pages p n h) (unpacked_is layout k p e).in_range
   go None e h = absurd (let no : ⊥ = cc in no)

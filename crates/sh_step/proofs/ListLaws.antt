@@ -10,8 +10,8 @@ use Rattle.std.proofs.lemmas.List.Elements.{filter-append}
 use Rattle.std.proofs.lemmas.List.Folds.{list_any-append}
 use Rattle.std.proofs.Math.Bool.{or-false}
 use Rattle.std.specs.List.{list_any, find, remove, position, position_or_len}
-use Rattle.sh_slots.specs.declared.hand.Spot.{Spot}
-use Rattle.sh_slots.specs.Slots.{spots}
+use Rattle.sh_slots.specs.declared.hand.SlotRef.{SlotRef}
+use Rattle.sh_slots.specs.Slots.{slot_refs}
 use Rattle.sh_step.specs.Collections.{has, noted, without, off, every}
 
 pub any_is_has : {A : Type 0} (p : A → Bool) (xs : List A) → list_any p xs ≡ has p xs
@@ -72,35 +72,35 @@ off_is_filtered p (x ∷ xs) = go (p x) (off_is_filtered p xs) where
 
 -- ---- the slots of a page, from one on to a count
 
-spots_next : (q s n m : ℕ) → n ≡ suc m → spots q s n ≡ record { page = q; slot = s } ∷ spots q (s + 1) m
-unfolding spots
-spots_next q s n m e = let P : ℕ → Type 0 = λ k. spots q s k ≡ record { page = q; slot = s } ∷ spots q (s + 1) m
+slots_next : (q s n m : ℕ) → n ≡ suc m → slot_refs q s n ≡ record { page = q; slot = s } ∷ slot_refs q (s + 1) m
+unfolding slot_refs
+slots_next q s n m e = let P : ℕ → Type 0 = λ k. slot_refs q s k ≡ record { page = q; slot = s } ∷ slot_refs q (s + 1) m
     in subst P (sym e) refl
 
 -- the slot before them comes first
-pub spots_before : (q s n : ℕ) → 0 < s → s ≤ n → spots q (s - 1) (n - (s - 1))
-    ≡ record { page = q; slot = s - 1 } ∷ spots q s (n - s)
-spots_before q s n some within =
+pub slots_before : (q s n : ℕ) → 0 < s → s ≤ n → slot_refs q (s - 1) (n - (s - 1))
+    ≡ record { page = q; slot = s - 1 } ∷ slot_refs q s (n - s)
+slots_before q s n some within =
     let here : s - 1 + 1 ≡ s = omega arith in
     let more : n - (s - 1) ≡ suc (n - s) = omega arith in
-    spots_next q (s - 1) (n - (s - 1)) (n - s) more ∙ ap (λ (k : ℕ). record { page = q; slot = s - 1 } ∷ spots q k
+    slots_next q (s - 1) (n - (s - 1)) (n - s) more ∙ ap (λ (k : ℕ). record { page = q; slot = s - 1 } ∷ slot_refs q k
     (n - s)) here
 
-pub spots_none : (q s n : ℕ) → n ≤ s → spots q s (n - s) ≡ []
-unfolding spots
-spots_none q s n past = let none : n - s ≡ 0 = omega arith in ap (λ k. spots q s k) none
+pub slots_none : (q s n : ℕ) → n ≤ s → slot_refs q s (n - s) ≡ []
+unfolding slot_refs
+slots_none q s n past = let none : n - s ≡ 0 = omega arith in ap (λ k. slot_refs q s k) none
 
 -- one more slot
-pub every_more : (P : Spot → Bool) (q s n : ℕ) → s < n → every P (spots q s (n - s))
-    ≡ (P (record { page = q; slot = s }) && every P (spots q (s + 1) (n - (s + 1))))
+pub every_more : (P : SlotRef → Bool) (q s n : ℕ) → s < n → every P (slot_refs q s (n - s))
+    ≡ (P (record { page = q; slot = s }) && every P (slot_refs q (s + 1) (n - (s + 1))))
 unfolding every
 every_more P q s n below =
     let more : n - s ≡ suc (n - (s + 1)) = omega arith in
-    ap (λ xs. every P xs) (spots_next q s (n - s) (n - (s + 1)) more)
+    ap (λ xs. every P xs) (slots_next q s (n - s) (n - (s + 1)) more)
 
-pub every_none : (P : Spot → Bool) (q s n : ℕ) → n ≤ s → every P (spots q s (n - s)) ≡ true
+pub every_none : (P : SlotRef → Bool) (q s n : ℕ) → n ≤ s → every P (slot_refs q s (n - s)) ≡ true
 unfolding every
-every_none P q s n past = ap (λ xs. every P xs) (spots_none q s n past)
+every_none P q s n past = ap (λ xs. every P xs) (slots_none q s n past)
 
 -- ---- what a removal from a deque does, if the item is there
 

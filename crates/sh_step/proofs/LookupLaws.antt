@@ -1,8 +1,8 @@
 -- What an action names: a key, a page's name or a slot's name names a place exactly if the heap has it.
 use Rattle.std.proofs.Common.{◌≡◌, ℕ, ◌<◌, ◌&&◌, Bool, true, false, cond, refl, ap, subst, ◌∙◌, Option, Some, None}
 use Rattle.std.specs.Prelude.{nat_lt, option_and_then}
-use Rattle.sh_slots.specs.declared.hand.Spot.{Spot}
-use Rattle.sh_slots.specs.declared.hand.Name.{Name}
+use Rattle.sh_slots.specs.declared.hand.SlotRef.{SlotRef}
+use Rattle.sh_slots.specs.declared.hand.KeyRef.{KeyRef}
 use Rattle.sh_step.specs.declared.action.PageName.{PageName}
 use Rattle.sh_step.specs.declared.action.SlotName.{SlotName}
 use Rattle.sh_step.specs.Conditions.{Named, HasPage, its_page}
@@ -17,9 +17,9 @@ guarded false a c h = no_some c h
 
 -- ---- what is named is a place of the heap
 
-pub place_is : (plan : Plan) (k : ℕ) (x : Name) → place_named plan k ≡ Some x → Named plan k x
+pub place_is : (plan : Plan) (k : ℕ) (x : KeyRef) → place_named plan k ≡ Some x → Named plan k x
 place_is plan k x h = go (plan.keys.unpack k) refl h where
-  go : (o : Option Name) → plan.keys.unpack k ≡ o → (elim o as (λ _. Option Name) [
+  go : (o : Option KeyRef) → plan.keys.unpack k ≡ o → (elim o as (λ _. Option KeyRef) [
     | Some x ↦ cond
         (nat_lt x.page (heap_pages plan) && nat_lt x.slot 48) (Some x) None
     | None ↦ None
@@ -41,7 +41,7 @@ page_is plan y q h =
     let d = and2 (nat_lt y.shard plan.shards) (nat_lt y.page plan.pages) g.0
     in (record { shard = lt_of y.shard plan.shards d.0; page = lt_of y.page plan.pages d.1 }, g.1)
 
-pub slot_is : (plan : Plan) (y : SlotName) (x : Spot) → slot_named plan y ≡ Some x → HasPage plan (its_page y)
+pub slot_is : (plan : Plan) (y : SlotName) (x : SlotRef) → slot_named plan y ≡ Some x → HasPage plan (its_page y)
     × (y.slot < 48) × (slot_of plan y ≡ x)
 slot_is plan y x h =
     let g = guarded (nat_lt y.shard plan.shards && nat_lt y.page plan.pages && nat_lt y.slot 48) (slot_of plan y) x h in
@@ -54,9 +54,9 @@ slot_is plan y x h =
 
 -- ---- a place of the heap is named
 
-pub is_place : (plan : Plan) (k : ℕ) (x : Name) → Named plan k x → place_named plan k ≡ Some x
+pub is_place : (plan : Plan) (k : ℕ) (x : KeyRef) → Named plan k x → place_named plan k ≡ Some x
 is_place plan k x n =
-    ap (λ (o : Option Name). elim o as (λ _. Option Name) [
+    ap (λ (o : Option KeyRef). elim o as (λ _. Option KeyRef) [
       | Some x ↦ cond
           (nat_lt x.page (heap_pages plan) && nat_lt x.slot 48) (Some x) None
       | None ↦ None
@@ -85,7 +85,7 @@ behind : {A B : Type 0} (f : A → Option B) (o : Option A) (m : B) → option_a
 behind f (Some x) m h = (x, refl, h)
 behind f None m h = no_some m h
 
-pub named_of : {A : Type 0} (plan : Plan) (k : ℕ) (f : Name → Option A) (m : A) → named plan k f ≡ Some m → (x : Name)
+pub named_of : {A : Type 0} (plan : Plan) (k : ℕ) (f : KeyRef → Option A) (m : A) → named plan k f ≡ Some m → (x : KeyRef)
     × Named plan k x × (f x ≡ Some m)
 named_of plan k f m h = let b = behind f (place_named plan k) m h in (b.0, place_is plan k b.0 b.1, b.2)
 
@@ -95,13 +95,13 @@ paged_of plan y f m h =
     let b = behind f (page_named plan y) m h in
     let n = page_is plan y b.0 b.1 in (n.0, ap f n.1 ∙ b.2)
 
-pub slotted_of : {A : Type 0} (plan : Plan) (y : SlotName) (f : Spot → Option A) (m : A) → slotted plan y f ≡ Some m
+pub slotted_of : {A : Type 0} (plan : Plan) (y : SlotName) (f : SlotRef → Option A) (m : A) → slotted plan y f ≡ Some m
     → HasPage plan (its_page y) × (y.slot < 48) × (f (slot_of plan y) ≡ Some m)
 slotted_of plan y f m h =
     let b = behind f (slot_named plan y) m h in
     let n = slot_is plan y b.0 b.1 in (n.0, n.1, ap f n.2 ∙ b.2)
 
-pub is_named : {A : Type 0} (plan : Plan) (k : ℕ) (f : Name → Option A) (x : Name) → Named plan k x → named plan k f
+pub is_named : {A : Type 0} (plan : Plan) (k : ℕ) (f : KeyRef → Option A) (x : KeyRef) → Named plan k x → named plan k f
     ≡ f x
 is_named plan k f x n = ap (option_and_then f) (is_place plan k x n)
 
@@ -109,6 +109,6 @@ pub is_paged : {A : Type 0} (plan : Plan) (y : PageName) (f : ℕ → Option A) 
     ≡ f (page_of plan y)
 is_paged plan y f h = ap (option_and_then f) (is_page plan y h)
 
-pub is_slotted : {A : Type 0} (plan : Plan) (y : SlotName) (f : Spot → Option A) → HasPage plan (its_page y)
+pub is_slotted : {A : Type 0} (plan : Plan) (y : SlotName) (f : SlotRef → Option A) → HasPage plan (its_page y)
     → y.slot < 48 → slotted plan y f ≡ f (slot_of plan y)
 is_slotted plan y f h s = ap (option_and_then f) (is_slot plan y h s)

@@ -7,20 +7,20 @@ use Rattle.sh_key.specs.Layout.{Layout, unpacked}
 use Rattle.sh_shape.specs.Shape.{Numbers}
 use Rattle.sh_shape.specs.Places.{pages_of, all_pages, page_number}
 use Rattle.sh_shape.proofs.PlaceLaws.{page_is_below}
-use Rattle.sh_slots.specs.declared.hand.Name.{Name}
+use Rattle.sh_slots.specs.declared.hand.KeyRef.{KeyRef}
 use Rattle.sh_step.specs.Plans.{plan_of, keys_of, name_in}
 use Rattle.sh_step.specs.Moves.{has_place, place_named}
 use Rattle.sh_step.proofs.Truths.{and3}
 
 -- the place of a name that the shape may have
-placed : Numbers → Option Name → Option Name
+placed : Numbers → Option KeyRef → Option KeyRef
 placed n o = elim o [ Some x ↦ cond (nat_lt x.page (all_pages n) && nat_lt x.slot 48) (Some x) None | None ↦ None ]
 
 -- what the parts of a key name
-of_parts : Numbers → Option Parts → Option Name
+of_parts : Numbers → Option Parts → Option KeyRef
 of_parts n o = placed n (elim o [ Some p ↦ name_in n.shards (pages_of n) p | None ↦ None ])
 
-name_of_parts : Numbers → Parts → Name
+name_of_parts : Numbers → Parts → KeyRef
 name_of_parts n p = record { page = page_number n p.shard p.page; slot = p.slot; generation = p.generation }
 
 pub no_key : (layout : Layout) (n : Numbers) (k : ℕ) → unpacked layout k ≡ None → place_named (plan_of layout n) k
@@ -28,7 +28,7 @@ pub no_key : (layout : Layout) (n : Numbers) (k : ℕ) → unpacked layout k ≡
 unfolding keys_of placed of_parts
 no_key layout n k e = ap (of_parts n) e
 
-neither : (d : Bool) (x : Name) → cond (d && false) (Some x) None ≡ None
+neither : (d : Bool) (x : KeyRef) → cond (d && false) (Some x) None ≡ None
 neither true x = refl
 neither false x = refl
 

@@ -4,7 +4,7 @@ use Rattle.std.proofs.lemmas.Nat.{mul-le, div-mul-add, mod-mul-add, div-add-mod'
 use Rattle.std.proofs.Math.Nat.{div-lt_iff_lt-mul}
 use Rattle.sh_step.specs.declared.action.PageName.{PageName}
 use Rattle.sh_step.specs.declared.action.SlotName.{SlotName}
-use Rattle.sh_slots.specs.declared.hand.Spot.{Spot}
+use Rattle.sh_slots.specs.declared.hand.SlotRef.{SlotRef}
 use Rattle.sh_step.specs.Conditions.{HasPage, its_page, page_name, slot_name}
 use Rattle.sh_step.specs.Plans.{Plan, home, local, page_number, heap_pages, page_of, slot_of}
 
@@ -43,7 +43,7 @@ pub page_of_name : (plan : Plan) (q : ℕ) → page_of plan (page_name plan q) �
 unfolding page_number home local
 page_of_name plan q = div-add-mod' q plan.pages
 
-pub slot_of_name : (plan : Plan) (x : Spot) → slot_of plan (slot_name plan x) ≡ x
+pub slot_of_name : (plan : Plan) (x : SlotRef) → slot_of plan (slot_name plan x) ≡ x
 slot_of_name plan x = rw (page_of_name plan x.page) refl
 
 -- what a name names has that name

@@ -3,12 +3,12 @@ use Rattle.std.proofs.Common.{◌≡◌, ℕ, ◌-◌, ◌<◌, ◌==◌, ◌&&�
 use Rattle.std.specs.Prelude.{nat_lt, option_and_then}
 use Rattle.std.specs.Bool.{then_some}
 use Rattle.sh_shape.specs.Classes.{width}
-use Rattle.sh_slots.specs.declared.hand.Spot.{Spot}
+use Rattle.sh_slots.specs.declared.hand.SlotRef.{SlotRef}
 use Rattle.sh_step.specs.declared.body.Body.{Body}
 use Rattle.sh_step.specs.declared.moves.Move.{Move}
 use Rattle.sh_step.specs.declared.moves.Move.TheVariants as move
 use Rattle.sh_step.specs.Collections.{noted}
-use Rattle.sh_step.specs.Conditions.{May, SpotWithin, action_of, page_name, slot_name, GivesAllThatMayBe}
+use Rattle.sh_step.specs.Conditions.{May, SlotWithin, action_of, page_name, slot_name, GivesAllThatMayBe}
 use Rattle.sh_step.specs.Moves.{move_of, row_of, row, page_named, slot_named}
 use Rattle.sh_step.specs.Plans.{Plan, heap_pages}
 use Rattle.sh_step.specs.Rows.{idle, own, all_mine, class_word_noted}
@@ -22,9 +22,9 @@ module _ (plan : Plan) (p : Body) where
   page_at : (q : ℕ) → q < heap_pages plan → page_named plan (page_name plan q) ≡ Some q
   page_at q below = is_page plan (page_name plan q) (has_page plan q below) ∙ ap (λ n. Some n) (page_of_name plan q)
 
-  slot_at : (x : Spot) → SpotWithin plan x → slot_named plan (slot_name plan x) ≡ Some x
+  slot_at : (x : SlotRef) → SlotWithin plan x → slot_named plan (slot_name plan x) ≡ Some x
   slot_at x within = is_slot plan (slot_name plan x) (has_page plan x.page within.0) within.1
-      ∙ ap (λ (y : Spot). Some y) (slot_of_name plan x)
+      ∙ ap (λ (y : SlotRef). Some y) (slot_of_name plan x)
 
   given : (m : Move) → May plan p m → move_of plan p (action_of plan m) ≡ Some m
   unfolding move_of

@@ -2,11 +2,11 @@
 use Rattle.std.specs.Prelude.{ℕ, ◌≡◌, ◌-◌, ◌<◌, ◌≤◌, ◌==◌, ◌⊎◌, true, false, [], length, Some, None}
 use Rattle.sh_shape.specs.Classes.{class_count, width}
 use Rattle.sh_shape.specs.Places.{slot_places}
-use Rattle.sh_slots.specs.declared.hand.Spot.{Spot}
-use Rattle.sh_slots.specs.declared.hand.Name.{Name}
+use Rattle.sh_slots.specs.declared.hand.SlotRef.{SlotRef}
+use Rattle.sh_slots.specs.declared.hand.KeyRef.{KeyRef}
 use Rattle.sh_slots.specs.declared.hand.Hand.TheVariants.{Idle, Removing, Leaving, Finishing, ToPut, Tying, Ringing}
 use Rattle.sh_slots.specs.declared.hand.Hand.TheVariants.{RingTying, Filling}
-use Rattle.sh_slots.specs.Slots.{same_spot}
+use Rattle.sh_slots.specs.Slots.{same_slot}
 use Rattle.sh_step.specs.declared.body.Body.{Body}
 use Rattle.sh_step.specs.declared.action.PageName.{PageName}
 use Rattle.sh_step.specs.declared.action.SlotName.{SlotName}
@@ -20,7 +20,7 @@ use Rattle.sh_step.specs.Plans.{Plan, heap_pages, home, local}
 use Rattle.sh_step.specs.Rows.{class_word_noted, all_mine}
 
 -- the key names this slot of the heap
-pub record Named (plan : Plan) (k : ℕ) (x : Name) : Type 0 where
+pub record Named (plan : Plan) (k : ℕ) (x : KeyRef) : Type 0 where
   pub unpacks : plan.keys.unpack k ≡ Some x
   pub page : x.page < heap_pages plan
   pub slot : x.slot < slot_places
@@ -35,8 +35,8 @@ abbrev pub its_page : SlotName → PageName
 its_page y = record { shard = y.shard; page = y.page }
 
 -- the heap has the slot
-abbrev pub SpotWithin : Plan → Spot → Type 0
-SpotWithin plan x = (x.page < heap_pages plan) × (x.slot < slot_places)
+abbrev pub SlotWithin : Plan → SlotRef → Type 0
+SlotWithin plan x = (x.page < heap_pages plan) × (x.slot < slot_places)
 
 -- the page is of the shard that the pass owns
 abbrev pub Owns : Plan → Body → ℕ → Type 0
@@ -47,8 +47,8 @@ abbrev pub Holds : Body → ℕ → Type 0
 Holds p k = has (λ j. j == k) p.holds ≡ true
 
 -- the slot is its own to fill
-abbrev pub HasMine : Body → Spot → Type 0
-HasMine p x = has (same_spot x) p.mine ≡ true
+abbrev pub HasMine : Body → SlotRef → Type 0
+HasMine p x = has (same_slot x) p.mine ≡ true
 
 -- what a move asks of the part of the pass that does it: first the hand
 abbrev pub May : Plan → Body → Move → Type 0
@@ -58,7 +58,7 @@ May plan p (move.Mark k x) = (p.hand ≡ Removing k) × Named plan k x
 May plan p (move.Drop x) = p.hand ≡ Leaving x
 May plan p (move.DropHold k x) = (p.hand ≡ Idle) × Named plan k x × Holds p k
 May plan p (move.Finish x g) = p.hand ≡ Finishing x g
-May plan p (move.FillSlot x v) = (p.hand ≡ Idle) × SpotWithin plan x × Owns plan p x.page × HasMine p x
+May plan p (move.FillSlot x v) = (p.hand ≡ Idle) × SlotWithin plan x × Owns plan p x.page × HasMine p x
     × (0 < class_word_noted p x.page) × (length v ≤ width (class_word_noted p x.page - 1))
 May plan p (move.Fill x v i c) = (p.hand ≡ Filling x v i) × (i < length v) × (class_word_noted p x.page ≡ c)
 May plan p (move.Publish x v) = (i : ℕ) × (p.hand ≡ Filling x v i) × (length v ≤ i)
@@ -73,7 +73,7 @@ May plan p (move.Take q) = (p.hand ≡ Idle) × (q < heap_pages plan) × Owns pl
     × (noted q p.cursors ≡ None)
 May plan p (move.Follow q s) = (p.hand ≡ Idle) × (q < heap_pages plan) × Owns plan p q × (noted q p.cursors ≡ Some s)
 May plan p (move.Put x) = p.hand ≡ ToPut x
-May plan p (move.PutSlot x) = (p.hand ≡ Idle) × SpotWithin plan x × Owns plan p x.page × HasMine p x
+May plan p (move.PutSlot x) = (p.hand ≡ Idle) × SlotWithin plan x × Owns plan p x.page × HasMine p x
 May plan p (move.Tie x l r) = p.hand ≡ Tying x l r
 May plan p (move.Adopt n) = (p.hand ≡ Idle) × (p.owned ≡ None) × (n < plan.shards)
 May plan p (move.Leave n) = (p.hand ≡ Idle) × (p.owned ≡ Some n) × (p.mine ≡ []) × (p.cursors ≡ []) × (p.armed ≡ [])
@@ -89,7 +89,7 @@ May plan p (move.FollowBell q) = (p.hand ≡ Idle) × (p.bell_cursor ≡ Some q)
 abbrev pub page_name : Plan → ℕ → PageName
 page_name plan q = record { shard = home plan q; page = local plan q }
 
-abbrev pub slot_name : Plan → Spot → SlotName
+abbrev pub slot_name : Plan → SlotRef → SlotName
 slot_name plan x = record { shard = home plan x.page; page = local plan x.page; slot = x.slot }
 
 -- the action of a move

@@ -3,7 +3,7 @@ use Rattle.std.specs.Prelude.{ℕ, ◌≡◌, ◌≢◌, ◌+◌, ◌-◌, ◌<�
 use Rattle.sh_slots.specs.declared.hand.Hand.{Hand}
 use Rattle.sh_slots.specs.declared.hand.Hand.TheVariants.{Idle, Removing, Leaving, Finishing, ToPut, Tying, Ringing}
 use Rattle.sh_slots.specs.declared.hand.Hand.TheVariants.{RingTying, Filling}
-use Rattle.sh_slots.specs.declared.hand.Name.{Name}
+use Rattle.sh_slots.specs.declared.hand.KeyRef.{KeyRef}
 use Rattle.sh_step.specs.declared.action.Action.{Action}
 use Rattle.sh_step.specs.declared.body.Body.{Body}
 use Rattle.sh_step.specs.Conditions.{Named}
@@ -25,7 +25,7 @@ to_end (Filling x v i) = length v - i + 1
 
 -- a key in the hand names a slot of the heap
 abbrev pub HandNames : Plan → Hand → Type 0
-HandNames plan (Removing k) = (x : Name) × Named plan k x
+HandNames plan (Removing k) = (x : KeyRef) × Named plan k x
 HandNames plan _ = Unit {0}
 
 -- by these rows each step leaves fewer steps to the end of what is in the hand, whatever word it finds

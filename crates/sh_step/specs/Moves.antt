@@ -8,9 +8,9 @@ use Rattle.sh_shape.specs.Shape.{Numbers}
 use Rattle.sh_shape.specs.Places.{pages_of, slot_places}
 use Rattle.sh_slots.specs.declared.hand.Hand.TheVariants.{Removing, Leaving, Finishing, ToPut, Tying, Ringing}
 use Rattle.sh_slots.specs.declared.hand.Hand.TheVariants.{RingTying, Filling}
-use Rattle.sh_slots.specs.declared.hand.Spot.{Spot}
-use Rattle.sh_slots.specs.declared.hand.Name.{Name}
-use Rattle.sh_slots.specs.Slots.{same_spot}
+use Rattle.sh_slots.specs.declared.hand.SlotRef.{SlotRef}
+use Rattle.sh_slots.specs.declared.hand.KeyRef.{KeyRef}
+use Rattle.sh_slots.specs.Slots.{same_slot}
 use Rattle.sh_step.specs.declared.action.Action.{Action}
 use Rattle.sh_step.specs.declared.action.Action.TheVariants as action
 use Rattle.sh_step.specs.declared.action.PageName.{PageName}
@@ -33,7 +33,7 @@ abbrev pub has_place : Numbers → Parts → Bool
 has_place shape p = nat_lt p.shard shape.shards && nat_lt p.page (pages_of shape) && nat_lt p.slot slot_places
 
 -- the place that a key, a page's name or a slot's name names, if the shape has it
-abbrev pub place_named : Plan → ℕ → Option Name
+abbrev pub place_named : Plan → ℕ → Option KeyRef
 place_named plan k = elim (plan.keys.unpack k) [
   | Some x ↦ cond (nat_lt x.page (heap_pages plan) && nat_lt x.slot slot_places)
       (Some x) None
@@ -43,18 +43,18 @@ place_named plan k = elim (plan.keys.unpack k) [
 abbrev pub page_named : Plan → PageName → Option ℕ
 page_named plan x = cond (nat_lt x.shard plan.shards && nat_lt x.page plan.pages) (Some (page_of plan x)) None
 
-abbrev pub slot_named : Plan → SlotName → Option Spot
+abbrev pub slot_named : Plan → SlotName → Option SlotRef
 slot_named plan x = cond (nat_lt x.shard plan.shards && nat_lt x.page plan.pages && nat_lt x.slot slot_places)
     (Some (slot_of plan x)) None
 
 -- f of the place that a key, a page's name or a slot's name names, or nothing if the heap has no such place
-abbrev pub named : {A : Type 0} → Plan → ℕ → (Name → Option A) → Option A
+abbrev pub named : {A : Type 0} → Plan → ℕ → (KeyRef → Option A) → Option A
 named plan k f = option_and_then f (place_named plan k)
 
 abbrev pub paged : {A : Type 0} → Plan → PageName → (ℕ → Option A) → Option A
 paged plan y f = option_and_then f (page_named plan y)
 
-abbrev pub slotted : {A : Type 0} → Plan → SlotName → (Spot → Option A) → Option A
+abbrev pub slotted : {A : Type 0} → Plan → SlotName → (SlotRef → Option A) → Option A
 slotted plan y f = option_and_then f (slot_named plan y)
 
 -- the conditions: the move of an action by a pass with this part, if the action may be done
@@ -68,7 +68,7 @@ move_of plan p (action.DropHold k) = named plan k
     (λ x. then_some (idle p && has (λ j. j == k) p.holds) (move.DropHold k x))
 move_of plan p action.Finish = elim (p.hand) [ Finishing x g ↦ Some (move.Finish x g) | _ ↦ None ]
 move_of plan p (action.FillSlot y v) = slotted plan y (λ x. then_some
-    (idle p && own plan p x.page && has (same_spot x) p.mine && nat_lt 0 (class_word_noted p x.page)
+    (idle p && own plan p x.page && has (same_slot x) p.mine && nat_lt 0 (class_word_noted p x.page)
     && nat_le (length v) (width (class_word_noted p x.page - 1))) (move.FillSlot x v))
 move_of plan p action.Fill = elim (p.hand) [
   | Filling x v n ↦ then_some (nat_lt n (length v))
@@ -98,7 +98,7 @@ move_of plan p (action.Follow y) = paged plan y (λ q. elim (noted q p.cursors)
     [ Some s ↦ then_some (idle p && own plan p q) (move.Follow q s) | None ↦ None ])
 move_of plan p action.Put = elim (p.hand) [ ToPut x ↦ Some (move.Put x) | _ ↦ None ]
 move_of plan p (action.PutSlot y) = slotted plan y
-    (λ x. then_some (idle p && own plan p x.page && has (same_spot x) p.mine) (move.PutSlot x))
+    (λ x. then_some (idle p && own plan p x.page && has (same_slot x) p.mine) (move.PutSlot x))
 move_of plan p action.Tie = elim (p.hand) [ Tying x l r ↦ Some (move.Tie x l r) | _ ↦ None ]
 move_of plan p (action.Adopt n) = elim (p.owned)
     [ None ↦ then_some (idle p && nat_lt n plan.shards) (move.Adopt n) | _ ↦ None ]
@@ -138,7 +138,7 @@ row_of plan p (move.SetClass q c) = set_class p q c
 row_of plan p (move.Take q) = take_page p q
 row_of plan p (move.Follow q s) = follow p q s
 row_of plan p (move.Put x) = put_at p x
-row_of plan p (move.PutSlot x) = put_at (record p { mine = without (same_spot x) p.mine }) x
+row_of plan p (move.PutSlot x) = put_at (record p { mine = without (same_slot x) p.mine }) x
 row_of plan p (move.Tie x l r) = tie p x l r
 row_of plan p (move.Adopt n) = adopt p n
 row_of plan p (move.Leave n) = leave p n

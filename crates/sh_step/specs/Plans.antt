@@ -5,15 +5,15 @@ use Rattle.sh_key.specs.Layout.{Layout, packed, unpacked}
 use Rattle.sh_shape.specs.Shape.{Numbers, segment_pages}
 use Rattle.sh_shape.specs.Places.{slot_places}
 use Rattle.sh_bell.specs.Bell.{home_of, local_of}
-use Rattle.sh_slots.specs.declared.hand.Spot.{Spot}
-use Rattle.sh_slots.specs.declared.hand.Name.{Name}
+use Rattle.sh_slots.specs.declared.hand.SlotRef.{SlotRef}
+use Rattle.sh_slots.specs.declared.hand.KeyRef.{KeyRef}
 use Rattle.sh_step.specs.declared.action.PageName.{PageName}
 use Rattle.sh_step.specs.declared.action.SlotName.{SlotName}
 
 -- how keys are packed, the last generation of a slot, and how many holds a key may have
 pub record Keys : Type 0 where
-  pub pack : Name → ℕ
-  pub unpack : ℕ → Option Name
+  pub pack : KeyRef → ℕ
+  pub unpack : ℕ → Option KeyRef
   pub gen_max : ℕ
   pub guard_max : ℕ
 
@@ -25,12 +25,12 @@ pub record Plan : Type 0 where
   pub keys : Keys
 
 -- what the parts of a key name, given the number of shards and of pages of a shard
-abbrev pub name_in : (shards pages : ℕ) → Parts → Option Name
+abbrev pub name_in : (shards pages : ℕ) → Parts → Option KeyRef
 name_in shards pages p = cond (nat_lt p.shard shards && nat_lt p.page pages)
     (Some (record { page = p.shard * pages + p.page; slot = p.slot; generation = p.generation })) None
 
 -- the parts of the key of a name, given the number of pages of a shard
-abbrev pub parts_of : (pages : ℕ) → Name → Parts
+abbrev pub parts_of : (pages : ℕ) → KeyRef → Parts
 parts_of pages n = record {
   generation = n.generation;
   shard = home_of pages n.page;
@@ -80,15 +80,15 @@ over_heap plan n k word = cond (nat_lt word k) word (page_number plan n (word - 
 abbrev pub page_of : Plan → PageName → ℕ
 page_of plan x = page_number plan x.shard x.page
 
-abbrev pub slot_of : Plan → SlotName → Spot
+abbrev pub slot_of : Plan → SlotName → SlotRef
 slot_of plan x = record { page = page_number plan x.shard x.page; slot = x.slot }
 
 -- the laws of a plan that the core needs: a key names one place and generation, and counts have room
 pub record Lawful (plan : Plan) : Type 0 where
-  pub names : (n : Name) → 0 < n.generation → n.generation ≤ plan.keys.gen_max → n.page < heap_pages plan
+  pub names : (n : KeyRef) → 0 < n.generation → n.generation ≤ plan.keys.gen_max → n.page < heap_pages plan
       → n.slot < slot_places → plan.keys.unpack (plan.keys.pack n) ≡ Some n
-  pub keys : (k : ℕ) (n : Name) → plan.keys.unpack k ≡ Some n → k ≡ plan.keys.pack n
-  pub begins : (k : ℕ) (n : Name) → plan.keys.unpack k ≡ Some n → 0 < n.generation
+  pub keys : (k : ℕ) (n : KeyRef) → plan.keys.unpack k ≡ Some n → k ≡ plan.keys.pack n
+  pub begins : (k : ℕ) (n : KeyRef) → plan.keys.unpack k ≡ Some n → 0 < n.generation
   pub passes : plan.passes ≤ 64
   pub generations : 0 < plan.keys.gen_max
   pub guards : plan.keys.guard_max + 64 < 2 ^ 30

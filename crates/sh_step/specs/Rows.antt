@@ -6,8 +6,8 @@ use Rattle.sh_word.specs.Fields.{fields_of}
 use Rattle.sh_slots.specs.declared.hand.Hand.{Hand}
 use Rattle.sh_slots.specs.declared.hand.Hand.TheVariants.{Idle, Leaving, ToPut, Tying, Ringing}
 use Rattle.sh_slots.specs.declared.hand.Hand.TheVariants.{RingTying, Filling}
-use Rattle.sh_slots.specs.declared.hand.Spot.{Spot}
-use Rattle.sh_slots.specs.declared.hand.Name.{Name}
+use Rattle.sh_slots.specs.declared.hand.SlotRef.{SlotRef}
+use Rattle.sh_slots.specs.declared.hand.KeyRef.{KeyRef}
 use Rattle.sh_slots.specs.declared.reply.Reply.{Reply}
 use Rattle.sh_slots.specs.declared.reply.Reply.TheVariants as reply
 use Rattle.sh_step.specs.declared.body.Body.{Body}
@@ -16,7 +16,7 @@ use Rattle.sh_shape.specs.declared.places.Place.TheVariants.{Class, Head, PageLi
 use Rattle.sh_shape.specs.declared.places.Place.TheVariants.{Bell}
 use Rattle.sh_step.specs.Plans.{Plan, home, local, over_heap}
 use Rattle.sh_shape.specs.Classes.{width, slots}
-use Rattle.sh_slots.specs.Slots.{same_spot, spots, spot_of, live_at, has_room, after_enter_remove, after_drop}
+use Rattle.sh_slots.specs.Slots.{same_slot, slot_refs, slot_ref_of, live_at, has_room, after_enter_remove, after_drop}
 use Rattle.sh_slots.specs.Slots.{marked_word, finished_word, is_reusable_after, published_name}
 use Rattle.sh_stack.specs.Stack.{top_word, top_item, link_over, link_item}
 use Rattle.sh_bell.specs.Bell.{is_armed, top_of, head_word}
@@ -62,17 +62,17 @@ point k q n xs = cond (nat_lt n k) xs ((q, n - k) ∷ xs)
 abbrev pub unpoint : ℕ → List (ℕ × ℕ) → List (ℕ × ℕ)
 unpoint q xs = without (λ x. x.0 == q) xs
 
-abbrev pub enter_get : Plan → Body → ℕ → Name → Row
+abbrev pub enter_get : Plan → Body → ℕ → KeyRef → Row
 enter_get plan p k x = record {
   place = State x.page x.slot;
   operation = FetchAdd 1;
   part = λ n. cond (live_at x.generation n && has_room plan.keys.guard_max n) (record p { holds = k ∷ p.holds })
-      (hand p (Leaving (spot_of x)));
+      (hand p (Leaving (slot_ref_of x)));
   reply = λ n. Some (cond (live_at x.generation n) (cond (has_room plan.keys.guard_max n) (reply.Got k)
       (reply.Crowded k)) (reply.Gone k));
 }
 
-abbrev pub enter_remove : Plan → Body → ℕ → Name → Row
+abbrev pub enter_remove : Plan → Body → ℕ → KeyRef → Row
 enter_remove plan p k x = record {
   place = State x.page x.slot;
   operation = FetchAdd 1;
@@ -80,15 +80,15 @@ enter_remove plan p k x = record {
   reply = λ n. cond (live_at x.generation n) None (Some (reply.Gone k));
 }
 
-abbrev pub mark : Body → ℕ → Name → Row
+abbrev pub mark : Body → ℕ → KeyRef → Row
 mark p k x = record {
   place = State x.page x.slot;
   operation = FetchOr (2 ^ 31);
-  part = λ n. hand p (Leaving (spot_of x));
+  part = λ n. hand p (Leaving (slot_ref_of x));
   reply = λ n. Some (cond (fields_of n).marked (reply.Gone k) (reply.Removed k));
 }
 
-abbrev pub drop_hand : Body → Spot → Row
+abbrev pub drop_hand : Body → SlotRef → Row
 drop_hand p x = record {
   place = State x.page x.slot;
   operation = FetchSub 1;
@@ -105,15 +105,15 @@ freed p k = let h = without (λ j. j == k) p.holds in record p {
   contents = cond (has (λ j. j == k) h) p.contents (off (λ x. x.0 == k) p.contents);
 }
 
-abbrev pub drop_key : Body → ℕ → Name → Row
+abbrev pub drop_key : Body → ℕ → KeyRef → Row
 drop_key p k x = record {
   place = State x.page x.slot;
   operation = FetchSub 1;
-  part = λ n. hand (freed p k) (after_drop (spot_of x) n);
+  part = λ n. hand (freed p k) (after_drop (slot_ref_of x) n);
   reply = λ n. Some (reply.Released k);
 }
 
-abbrev pub finish : Plan → Body → Spot → ℕ → Row
+abbrev pub finish : Plan → Body → SlotRef → ℕ → Row
 finish plan p x g = record {
   place = State x.page x.slot;
   operation = CompareExchange (marked_word g) (finished_word g plan.keys.gen_max);
@@ -122,11 +122,11 @@ finish plan p x g = record {
   reply = silent;
 }
 
-abbrev pub fill_slot : Body → Spot → List ℕ → Row
+abbrev pub fill_slot : Body → SlotRef → List ℕ → Row
 fill_slot p x v = record {
   place = Length x.page x.slot;
   operation = Store (length v);
-  part = λ n. hand (record p { mine = without (same_spot x) p.mine }) (Filling x v 0);
+  part = λ n. hand (record p { mine = without (same_slot x) p.mine }) (Filling x v 0);
   reply = silent;
 }
 
@@ -135,7 +135,7 @@ abbrev pub payload_word : (slot class_word i : ℕ) → ℕ
 payload_word slot class_word i = slot * width (class_word - 1) + i
 
 -- a word of the value, in a page of this class word
-abbrev pub fill_in : Body → Spot → List ℕ → (i class_word : ℕ) → Row
+abbrev pub fill_in : Body → SlotRef → List ℕ → (i class_word : ℕ) → Row
 fill_in p x v i class_word = record {
   place = Payload x.page (payload_word x.slot class_word i);
   operation = Store (slice_index v i);
@@ -143,10 +143,10 @@ fill_in p x v i class_word = record {
   reply = silent;
 }
 
-abbrev pub fill : Body → Spot → List ℕ → ℕ → Row
+abbrev pub fill : Body → SlotRef → List ℕ → ℕ → Row
 fill p x v i = fill_in p x v i (class_word_noted p x.page)
 
-abbrev pub publish : Plan → Body → Spot → List ℕ → Row
+abbrev pub publish : Plan → Body → SlotRef → List ℕ → Row
 publish plan p x v = record {
   place = State x.page x.slot;
   operation = FetchOr (2 ^ 30);
@@ -155,7 +155,7 @@ publish plan p x v = record {
 }
 
 -- Read of a key: the class, the length, then the payload words that these two allow
-abbrev pub read_class : Body → ℕ → Name → Row
+abbrev pub read_class : Body → ℕ → KeyRef → Row
 read_class p k x = record {
   place = Class x.page;
   operation = Load;
@@ -163,7 +163,7 @@ read_class p k x = record {
   reply = silent;
 }
 
-abbrev pub read_length : Body → ℕ → Name → Row
+abbrev pub read_length : Body → ℕ → KeyRef → Row
 read_length p k x = record {
   place = Length x.page x.slot;
   operation = Load;
@@ -171,7 +171,7 @@ read_length p k x = record {
   reply = silent;
 }
 
-abbrev pub read_word : Body → ℕ → Name → ℕ → ℕ → Row
+abbrev pub read_word : Body → ℕ → KeyRef → ℕ → ℕ → Row
 read_word p k x c i = record {
   place = Payload x.page (payload_word x.slot c i);
   operation = Load;
@@ -189,7 +189,7 @@ read_page p q = record {
 
 -- each slot of the class of that class word is in `mine`
 abbrev pub all_mine : Body → ℕ → ℕ → Bool
-all_mine p q n = every (λ x. has (same_spot x) p.mine) (spots q 0 (slots (n - 1)))
+all_mine p q n = every (λ x. has (same_slot x) p.mine) (slot_refs q 0 (slots (n - 1)))
 
 abbrev pub set_class : Body → ℕ → ℕ → Row
 set_class p q c = record {
@@ -197,7 +197,7 @@ set_class p q c = record {
   operation = Store (c + 1);
   part = λ n. record p {
     classes = (q, c + 1) ∷ p.classes;
-    mine = spots q 0 (slots c)
+    mine = slot_refs q 0 (slots c)
         ++ off (λ x. x.page == q) p.mine;
   };
   reply = silent;
@@ -227,7 +227,7 @@ follow p q s = record {
   reply = silent;
 }
 
-abbrev pub put_at : Body → Spot → Row
+abbrev pub put_at : Body → SlotRef → Row
 put_at p x = record {
   place = Head x.page;
   operation = Swap (head_word (top_word x.slot));
@@ -235,7 +235,7 @@ put_at p x = record {
   reply = silent;
 }
 
-abbrev pub tie : Body → Spot → ℕ → Bool → Row
+abbrev pub tie : Body → SlotRef → ℕ → Bool → Row
 tie p x l ring = record {
   place = Link x.page x.slot;
   operation = Store l;

@@ -1,5 +1,5 @@
 //! What a pass has of its own.
-use sh_slots::{Hand, Spot};
+use sh_slots::{Hand, SlotRef};
 use std::collections::LinkedList;
 
 /// The body of a pass's own part: all that the conditions and effects of its steps look at, besides the word that they
@@ -23,7 +23,7 @@ pub struct Body {
     /// The class word that it read or stored of each page of its shard.
     pub classes: LinkedList<(u64, u64)>,
     /// The empty slots of its shard that are its own to fill.
-    pub mine: LinkedList<Spot>,
+    pub mine: LinkedList<SlotRef>,
     /// For pages of its shard, the slot whose link it is to follow next.
     pub cursors: LinkedList<(u64, u64)>,
     /// The pages of its shard that it armed.

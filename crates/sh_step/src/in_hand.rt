@@ -12,7 +12,7 @@ pub fn drop_hand(part: &Part) -> Option<Move>
     ensures { (plan : Plan) → result ≡ move_of plan part.now Action.Drop }
 {
     match part.hand() {
-        Hand::Leaving(spot) => Some(Move::Drop(*spot)),
+        Hand::Leaving(slot_ref) => Some(Move::Drop(*slot_ref)),
         _ => None,
     }
 }
@@ -23,7 +23,7 @@ pub fn finish(part: &Part) -> Option<Move>
     ensures { (plan : Plan) → result ≡ move_of plan part.now Action.Finish }
 {
     match part.hand() {
-        Hand::Finishing(spot, generation) => Some(Move::Finish(*spot, *generation)),
+        Hand::Finishing(slot_ref, generation) => Some(Move::Finish(*slot_ref, *generation)),
         _ => None,
     }
 }
@@ -34,7 +34,7 @@ pub fn put(part: &Part) -> Option<Move>
     ensures { (plan : Plan) → result ≡ move_of plan part.now Action.Put }
 {
     match part.hand() {
-        Hand::ToPut(spot) => Some(Move::Put(*spot)),
+        Hand::ToPut(slot_ref) => Some(Move::Put(*slot_ref)),
         _ => None,
     }
 }
@@ -45,7 +45,7 @@ pub fn tie(part: &Part) -> Option<Move>
     ensures { (plan : Plan) → result ≡ move_of plan part.now Action.Tie }
 {
     match part.hand() {
-        Hand::Tying(spot, link, ring) => Some(Move::Tie(*spot, *link, *ring)),
+        Hand::Tying(slot_ref, link, ring) => Some(Move::Tie(*slot_ref, *link, *ring)),
         _ => None,
     }
 }
@@ -78,8 +78,13 @@ pub fn fill(part: &Part) -> Option<Move>
     ensures { (plan : Plan) → result ≡ move_of plan part.now Action.Fill }
 {
     match part.hand() {
-        Hand::Filling(spot, value, done) => (*done < value.words().len() as u64).then_some(
-            Move::Fill(*spot, value.copy(), *done, part.class_word(spot.page)),
+        Hand::Filling(slot_ref, value, done) => (*done < value.words().len() as u64).then_some(
+            Move::Fill(
+                *slot_ref,
+                value.copy(),
+                *done,
+                part.class_word(slot_ref.page),
+            ),
         ),
         _ => None,
     }
@@ -91,8 +96,8 @@ pub fn publish(part: &Part) -> Option<Move>
     ensures { (plan : Plan) → result ≡ move_of plan part.now Action.Publish }
 {
     match part.hand() {
-        Hand::Filling(spot, value, done) => (value.words().len() as u64 <= *done).then_some(
-            Move::Publish(*spot, value.copy()),
+        Hand::Filling(slot_ref, value, done) => (value.words().len() as u64 <= *done).then_some(
+            Move::Publish(*slot_ref, value.copy()),
         ),
         _ => None,
     }

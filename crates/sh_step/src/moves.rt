@@ -6,7 +6,7 @@ ghost use Rattle.sh_step.specs.Moves.{move_of, is_enabled};
 use crate::{Action, Part, in_hand, keyed, owners, paged, slotted};
 use sh_key::KeyLayout;
 use sh_shape::Shape;
-use sh_slots::{Name, Spot};
+use sh_slots::{KeyRef, SlotRef};
 use sh_value::Value;
 
 /// An action whose condition holds of the pass's own part, with what it names looked up. Pages are numbered over the
@@ -14,29 +14,29 @@ use sh_value::Value;
 #[derive(Drop)]
 pub enum Move {
     /// Enters the slot of the key, to get it.
-    EnterGet(u64, Name),
+    EnterGet(u64, KeyRef),
     /// Enters the slot of the key, to remove it.
-    EnterRemove(u64, Name),
+    EnterRemove(u64, KeyRef),
     /// Marks the slot of the key.
-    Mark(u64, Name),
+    Mark(u64, KeyRef),
     /// Gives back the count on the slot that it leaves.
-    Drop(Spot),
+    Drop(SlotRef),
     /// Gives back the count of a hold on the key.
-    DropHold(u64, Name),
+    DropHold(u64, KeyRef),
     /// Ends the generation of the slot.
-    Finish(Spot, u32),
+    Finish(SlotRef, u32),
     /// Stores the length of the value, as it begins to fill the slot.
-    FillSlot(Spot, Value),
+    FillSlot(SlotRef, Value),
     /// Stores the value's word of this number, from 0, in a page of this class word.
-    Fill(Spot, Value, u64, u64),
+    Fill(SlotRef, Value, u64, u64),
     /// Makes the filled slot present.
-    Publish(Spot, Value),
+    Publish(SlotRef, Value),
     /// Reads the class of the key's page.
-    ReadClass(u64, Name),
+    ReadClass(u64, KeyRef),
     /// Reads the length of the key's value.
-    ReadLength(u64, Name),
+    ReadLength(u64, KeyRef),
     /// Reads, in a page of this class word, the value's word of this number, from 0.
-    ReadWord(u64, Name, u64, u64),
+    ReadWord(u64, KeyRef, u64, u64),
     /// Reads the class of the page.
     ReadPage(u64),
     /// Gives the page the class, below 8.
@@ -46,12 +46,12 @@ pub enum Move {
     /// Reads the link of the page's slot.
     Follow(u64, u64),
     /// Puts the slot in its hand.
-    Put(Spot),
+    Put(SlotRef),
     /// Puts a slot of its own.
-    PutSlot(Spot),
+    PutSlot(SlotRef),
     /// Stores the link of the slot, which is the second field. The third is whether the slot's put found the page's
     /// flag.
-    Tie(Spot, u64, bool),
+    Tie(SlotRef, u64, bool),
     /// Becomes the owner of the shard.
     Adopt(u64),
     /// Gives the shard up.

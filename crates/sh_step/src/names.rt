@@ -8,7 +8,7 @@ use crate::{PageName, SlotName};
 use sh_bell::{home_of, local_of};
 use sh_key::{KeyLayout, Parts};
 use sh_shape::{SLOT_PLACES, Shape};
-use sh_slots::{Name, Spot};
+use sh_slots::{KeyRef, SlotRef};
 
 // Whether the shape has the place of a key of these parts.
 fn has_place(shape: &Shape, parts: &Parts) -> bool
@@ -35,12 +35,12 @@ fn number_of_page(shape: &Shape, shard: u64, page: u64) -> u64
 }
 
 /// What the key names, if it is a key of the layout and names a place of the shape.
-pub fn place_of_key<L: KeyLayout>(shape: &Shape, key: u64) -> Option<Name>
+pub fn place_of_key<L: KeyLayout>(shape: &Shape, key: u64) -> Option<KeyRef>
     ensures { result ≡ place_named (plan_of L.layout shape.now) key }
 {
     let parts = L::unpack(key)?;
     if has_place(shape, &parts) {
-        Some(Name {
+        Some(KeyRef {
             page: u64::from(shape.page_number(parts.shard, parts.page)),
             slot: u64::from(parts.slot),
             generation: parts.generation,
@@ -64,11 +64,11 @@ pub fn page_of_name<L: KeyLayout>(shape: &Shape, name: PageName) -> Option<u64>
 
 /// The slot with that name, if the shape has it.
 #[tactic(auto, unfolding(crate::specs::Plans::page_number))]
-pub fn slot_of_name<L: KeyLayout>(shape: &Shape, name: SlotName) -> Option<Spot>
+pub fn slot_of_name<L: KeyLayout>(shape: &Shape, name: SlotName) -> Option<SlotRef>
     ensures { result ≡ slot_named (plan_of L.layout shape.now) name }
 {
     if has_page(shape, name.shard, name.page) && name.slot < u64::from(SLOT_PLACES) {
-        Some(Spot {
+        Some(SlotRef {
             page: number_of_page(shape, name.shard, name.page),
             slot: name.slot,
         })
@@ -79,7 +79,7 @@ pub fn slot_of_name<L: KeyLayout>(shape: &Shape, name: SlotName) -> Option<Spot>
 
 /// The key of the name of a slot of the heap: unpacking the key gives the name.
 #[tactic(auto, using(crate::proofs::KeyLaws::parts_in_range), unfolding(crate::specs::Plans::keys_of))]
-pub fn key_of_name<L: KeyLayout>(shape: &Shape, name: Name) -> u64
+pub fn key_of_name<L: KeyLayout>(shape: &Shape, name: KeyRef) -> u64
     requires page { name.page < all_pages shape.now }
     requires slot { name.slot < slot_places }
     requires names { (plan_of L.layout shape.now).keys.unpack ((plan_of L.layout shape.now).keys.pack name)

@@ -1,7 +1,7 @@
 //! What a pass has of its own, as it is kept.
 ghost use Rattle.std.specs.Prelude.{◌≡◌, ◌<◌, ◌≤◌, ◌==◌, [], None, length, is_none, nat_lt, ◌&&◌};
 ghost use Rattle.sh_shape.specs.Places.{slot_places};
-ghost use Rattle.sh_slots.specs.Slots.{same_spot, spots};
+ghost use Rattle.sh_slots.specs.Slots.{same_slot, slot_refs};
 ghost use Rattle.sh_slots.specs.declared.hand.Hand.TheVariants.{Idle};
 ghost use Rattle.sh_step.specs.Collections.{has, noted, every};
 ghost use Rattle.sh_step.specs.Rows.{idle, class_word_noted, no_cursor, all_mine};
@@ -9,14 +9,19 @@ ghost use Rattle.sh_step.specs.Rows.{idle, class_word_noted, no_cursor, all_mine
 mod apply;
 mod in_hand;
 mod keyed;
+mod lists;
+mod notes;
+mod own_slots;
 mod owners;
 mod paged;
+mod run;
+mod runs;
 mod slotted;
 
-use crate::lists::{has_number, value_noted};
-use crate::notes::Notes;
-use crate::own_slots::OwnSlots;
-use sh_slots::{Hand, Spot};
+use crate::part::lists::{has_number, value_noted};
+use crate::part::notes::Notes;
+use crate::part::own_slots::OwnSlots;
+use sh_slots::{Hand, SlotRef};
 use sh_value::HOLDS_MAX;
 use std::alloc::Global;
 use std::collections::VecDeque;
@@ -209,16 +214,16 @@ impl Part {
     }
 
     /// Whether the empty slot is its own to fill.
-    pub fn has_mine(&self, spot: Spot) -> bool
-        ensures { result ≡ has (same_spot spot) self.now.mine }
+    pub fn has_mine(&self, slot_ref: SlotRef) -> bool
+        ensures { result ≡ has (same_slot slot_ref) self.now.mine }
     {
-        self.mine.has(spot)
+        self.mine.has(slot_ref)
     }
 
     /// Whether the first `count` slots of a page are its own to fill.
     pub fn has_all_mine(&self, page: u64, count: u64) -> bool
         requires { count ≤ slot_places }
-        ensures { result ≡ every (λ x. has (same_spot x) self.now.mine) (spots page 0 count) }
+        ensures { result ≡ every (λ x. has (same_slot x) self.now.mine) (slot_refs page 0 count) }
     {
         self.mine.has_first(page, count)
     }

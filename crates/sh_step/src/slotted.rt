@@ -1,7 +1,7 @@
 //! The moves of actions on slots. A move is `None` if the action may not be done.
 ghost use Rattle.std.specs.Prelude.{◌≡◌, ◌-◌, ◌&&◌, nat_lt, nat_le, length};
 ghost use Rattle.sh_shape.specs.Classes.{width};
-ghost use Rattle.sh_slots.specs.Slots.{same_spot};
+ghost use Rattle.sh_slots.specs.Slots.{same_slot};
 ghost use Rattle.sh_step.specs.Plans.{plan_of};
 ghost use Rattle.sh_step.specs.Collections.{has};
 ghost use Rattle.sh_step.specs.Rows.{idle, own, class_word_noted};
@@ -13,7 +13,7 @@ use crate::paged::may_touch;
 use crate::{Action, Move, Part, SlotName};
 use sh_key::KeyLayout;
 use sh_shape::Shape;
-use sh_slots::Spot;
+use sh_slots::SlotRef;
 use sh_value::Value;
 
 // How many words the value has.
@@ -24,11 +24,11 @@ fn value_length(value: &Value) -> u64
 }
 
 // Whether the pass may put the slot, which is its own.
-fn may_put<L: KeyLayout>(shape: &Shape, part: &Part, spot: Spot) -> bool
-    ensures { result ≡ (idle part.now && own (plan_of L.layout shape.now) part.now spot.page && has (same_spot spot)
+fn may_put<L: KeyLayout>(shape: &Shape, part: &Part, slot_ref: SlotRef) -> bool
+    ensures { result ≡ (idle part.now && own (plan_of L.layout shape.now) part.now slot_ref.page && has (same_slot slot_ref)
         part.now.mine) }
 {
-    may_touch::<L>(shape, part, spot.page) && part.has_mine(spot)
+    may_touch::<L>(shape, part, slot_ref.page) && part.has_mine(slot_ref)
 }
 
 // Whether a value of this length fits a slot of this class word, which is not blank.
@@ -39,12 +39,12 @@ fn fits_class(length: u64, class_word: u64) -> bool
 }
 
 // Whether it may fill the slot, which is its own, with a value of this length.
-fn may_fill<L: KeyLayout>(shape: &Shape, part: &Part, spot: Spot, length: u64) -> bool
-    ensures { result ≡ (idle part.now && own (plan_of L.layout shape.now) part.now spot.page && has (same_spot spot)
-        part.now.mine && nat_lt 0 (class_word_noted part.now spot.page) && nat_le length
-        (width (class_word_noted part.now spot.page - 1))) }
+fn may_fill<L: KeyLayout>(shape: &Shape, part: &Part, slot_ref: SlotRef, length: u64) -> bool
+    ensures { result ≡ (idle part.now && own (plan_of L.layout shape.now) part.now slot_ref.page && has (same_slot slot_ref)
+        part.now.mine && nat_lt 0 (class_word_noted part.now slot_ref.page) && nat_le length
+        (width (class_word_noted part.now slot_ref.page - 1))) }
 {
-    may_put::<L>(shape, part, spot) && fits_class(length, part.class_word(spot.page))
+    may_put::<L>(shape, part, slot_ref) && fits_class(length, part.class_word(slot_ref.page))
 }
 
 /// The move that begins a filling.
@@ -58,8 +58,8 @@ pub fn fill_slot<L: KeyLayout>(
     ensures { result ≡ move_of (plan_of L.layout shape.now) part.now (Action.FillSlot name value.now) }
 {
     match slot_of_name::<L>(shape, name) {
-        Some(spot) => may_fill::<L>(shape, part, spot, value_length(value)).then_some(
-            Move::FillSlot(spot, value.copy()),
+        Some(slot_ref) => may_fill::<L>(shape, part, slot_ref, value_length(value)).then_some(
+            Move::FillSlot(slot_ref, value.copy()),
         ),
         None => None,
     }
@@ -71,7 +71,7 @@ pub fn put_slot<L: KeyLayout>(shape: &Shape, part: &Part, name: SlotName) -> Opt
     ensures { result ≡ move_of (plan_of L.layout shape.now) part.now (Action.PutSlot name) }
 {
     match slot_of_name::<L>(shape, name) {
-        Some(spot) => may_put::<L>(shape, part, spot).then_some(Move::PutSlot(spot)),
+        Some(slot_ref) => may_put::<L>(shape, part, slot_ref).then_some(Move::PutSlot(slot_ref)),
         None => None,
     }
 }

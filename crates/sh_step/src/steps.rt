@@ -37,12 +37,12 @@ impl Move {
             | Move::EnterRemove(_, name)
             | Move::Mark(_, name)
             | Move::DropHold(_, name) => Place::State(name.page, name.slot),
-            Move::Drop(spot) | Move::Finish(spot, _) | Move::Publish(spot, _) => {
-                Place::State(spot.page, spot.slot)
+            Move::Drop(slot_ref) | Move::Finish(slot_ref, _) | Move::Publish(slot_ref, _) => {
+                Place::State(slot_ref.page, slot_ref.slot)
             }
-            Move::FillSlot(spot, _) => Place::Length(spot.page, spot.slot),
-            Move::Fill(spot, _, i, class) => {
-                Place::Payload(spot.page, payload_word(spot.slot, *class, *i))
+            Move::FillSlot(slot_ref, _) => Place::Length(slot_ref.page, slot_ref.slot),
+            Move::Fill(slot_ref, _, i, class) => {
+                Place::Payload(slot_ref.page, payload_word(slot_ref.slot, *class, *i))
             }
             Move::ReadClass(_, name) => Place::Class(name.page),
             Move::ReadLength(_, name) => Place::Length(name.page, name.slot),
@@ -52,8 +52,8 @@ impl Move {
             Move::ReadPage(page) | Move::SetClass(page, _) => Place::Class(*page),
             Move::Take(page) | Move::Arm(page) => Place::Head(*page),
             Move::Follow(page, slot) => Place::Link(*page, *slot),
-            Move::Put(spot) | Move::PutSlot(spot) => Place::Head(spot.page),
-            Move::Tie(spot, _, _) => Place::Link(spot.page, spot.slot),
+            Move::Put(slot_ref) | Move::PutSlot(slot_ref) => Place::Head(slot_ref.page),
+            Move::Tie(slot_ref, _, _) => Place::Link(slot_ref.page, slot_ref.slot),
             Move::Adopt(shard) | Move::Leave(shard) => Place::Owner(*shard),
             Move::Ring(page) => bell_of::<L>(shape, *page),
             Move::RingTie(page, _) | Move::FollowBell(page) => Place::PageLink(*page),
@@ -82,7 +82,9 @@ impl Move {
             Move::Take(_) | Move::Follow(_, _) | Move::TakeBell(_) | Move::FollowBell(_) => {
                 Operation::Swap(0)
             }
-            Move::Put(spot) | Move::PutSlot(spot) => Operation::Swap(put_word(spot.slot)),
+            Move::Put(slot_ref) | Move::PutSlot(slot_ref) => Operation::Swap(put_word(
+                slot_ref.slot,
+            )),
             Move::Tie(_, link, _) => Operation::Store(*link),
             Move::Adopt(_) => Operation::Swap(1),
             Move::Leave(_) => Operation::Store(0),

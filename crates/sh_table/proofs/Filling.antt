@@ -7,14 +7,14 @@ use Rattle.sh_core.specs.Lists.{PutLists, in_hand, slots_under, state_of}
 use Rattle.sh_core.specs.Refines.{KindsAddUp}
 use Rattle.sh_core.specs.Words.{read}
 use Rattle.sh_core.specs.Worlds.{World}
-use Rattle.sh_core.proofs.Slots.Slots.{if1_same_spot}
+use Rattle.sh_core.proofs.Slots.Slots.{if1_same_slot}
 use Rattle.sh_core.proofs.Sums.Totals.{total_at}
 use Rattle.sh_shape.specs.declared.places.Place.{Place}
 use Rattle.sh_shape.specs.declared.places.Place.TheVariants.{State}
 use Rattle.sh_slots.specs.declared.hand.Hand.{Hand}
 use Rattle.sh_slots.specs.declared.hand.Hand.TheVariants.{ToPut, Filling}
-use Rattle.sh_slots.specs.declared.hand.Spot.{Spot}
-use Rattle.sh_slots.specs.Slots.{same_spot}
+use Rattle.sh_slots.specs.declared.hand.SlotRef.{SlotRef}
+use Rattle.sh_slots.specs.Slots.{same_slot}
 use Rattle.sh_step.specs.Collections.{if1}
 use Rattle.sh_step.specs.declared.action.Action.TheVariants as action
 use Rattle.sh_step.specs.declared.body.Body.{Body}
@@ -40,13 +40,13 @@ at_most_one : (b : Bool) → if1 b ≤ 1
 at_most_one true = omega arith
 at_most_one false = omega arith
 
-in_the_hand : (p : Body) (x : Spot) (v : List ℕ) (i : ℕ) → p.hand ≡ Filling x v i → in_hand x p ≡ 1
+in_the_hand : (p : Body) (x : SlotRef) (v : List ℕ) (i : ℕ) → p.hand ≡ Filling x v i → in_hand x p ≡ 1
 in_the_hand p x v i e = ap (λ (h : Hand). elim h as (λ _. ℕ)
-    [ ToPut y ↦ if1 (same_spot x y) | Filling y u n ↦ if1 (same_spot x y) | _ ↦ 0 ]) e
-    ∙ if1_same_spot x
+    [ ToPut y ↦ if1 (same_slot x y) | Filling y u n ↦ if1 (same_slot x y) | _ ↦ 0 ]) e
+    ∙ if1_same_slot x
 
 -- a slot that a pass is filling is in its hand, which is its only kind, so it is not present
-pub not_present : (w : World) (l : PutLists) (a : ℕ) (p : Body) (x : Spot) (v : List ℕ) (i : ℕ) → KindsAddUp w l
+pub not_present : (w : World) (l : PutLists) (a : ℕ) (p : Body) (x : SlotRef) (v : List ℕ) (i : ℕ) → KindsAddUp w l
     → slice_get w.parts a ≡ Some p → p.hand ≡ Filling x v i → (state_of w x).present ≡ false
 not_present w l a p x v i kinds at is =
     let one = kinds x in
@@ -79,7 +79,7 @@ finds_no_present w l a p place kinds at (x, v, i, is, there) =
     subst P (sym there) (not_present w l a p x v i kinds at is)
 
 -- a pass that may publish a slot is filling it
-pub publishes_filled : (plan : Plan) (p : Body) (x : Spot) (v : List ℕ) → row plan p action.Publish
+pub publishes_filled : (plan : Plan) (p : Body) (x : SlotRef) (v : List ℕ) → row plan p action.Publish
     ≡ Some (publish plan p x v) → Fills p (State x.page x.slot)
 unfolding move_of row
 publishes_filled plan p x v h = go p.hand refl h where

@@ -8,37 +8,37 @@ use Rattle.sh_pass.specs.Passes.{AreAll, AreOf, Caller}
 use Rattle.sh_core.specs.declared.accounts.Accounts.{Accounts}
 use Rattle.sh_accounts.specs.Accounts.{ShapeHasPage}
 use Rattle.sh_gather.specs.Gathering.{AreWholeAccounts, IsGatheredFrom, NotedMore}
-use Rattle.sh_totals.specs.declared.pages.PageAccounts.{PageAccounts}
-use Rattle.sh_totals.specs.declared.totals.Totals.{Totals}
-use Rattle.sh_totals.specs.Pages.{AreFirst}
-use Rattle.sh_totals.specs.Sums.{sums}
+use Rattle.sh_gather.specs.declared.pages.PageAccounts.{PageAccounts}
+use Rattle.sh_gather.specs.declared.totals.Totals.{Totals}
+use Rattle.sh_gather.specs.PageLists.{AreFirst}
+use Rattle.sh_gather.specs.Sums.{sums}
 use Rattle.sh_pass.specs.declared.next_key.NextKey.{NextKey}
-use Rattle.sh_totals.specs.Keys.{IsNextKey}
+use Rattle.sh_gather.specs.NextKeys.{IsNextKey}
 use Rattle.sh_whole.specs.declared.refusal.NotTold.{NotTold}
 use Rattle.sh_whole.specs.declared.refusal.NotTold.TheVariants as untold
 
--- the number of a berth of the heap's pool
-abbrev pub IsBerth : Heap → ℕ → Type 0
-IsBerth heap berth = berth < heap.shape.passes
+-- the number of a pool slot of the heap's pool
+abbrev pub IsPoolSlot : Heap → ℕ → Type 0
+IsPoolSlot heap pool_slot = pool_slot < heap.shape.passes
 
--- passes of the heap, and a berth of it for each
-pub record AreCalled (heap : Heap) (passes : List Caller) (berths : List ℕ) : Type 0 where
+-- passes of the heap, and a pool slot of it for each
+pub record AreCalled (heap : Heap) (passes : List Caller) (pool_slots : List ℕ) : Type 0 where
   pub of : AreOf heap passes
-  pub own : All (IsBerth heap) berths
-  pub count : length berths ≡ length passes
+  pub own : All (IsPoolSlot heap) pool_slots
+  pub count : length pool_slots ≡ length passes
 
 -- a pass of the heap that carries the tales of all
 abbrev pub IsWholeOf : Heap → Caller → Type 0
 IsWholeOf heap c = (c.heap ≡ heap) × IsWhole c.view
 
--- the same, with a berth, and with the passes whose tales it carries: passes of the heap that together name all
-pub record IsGatheredIn (heap : Heap) (c : Caller) (berth : ℕ) : Type 0 where
+-- the same, with a pool slot, and with the passes whose tales it carries: passes of the heap that together name all
+pub record IsGatheredIn (heap : Heap) (c : Caller) (pool_slot : ℕ) : Type 0 where
   pub whole : IsWholeOf heap c
   pub passes : List Caller
   pub of : AreOf heap passes
   pub all : AreAll heap passes
   pub from : IsGatheredFrom passes c.view
-  pub home : IsBerth heap berth
+  pub home : IsPoolSlot heap pool_slot
 
 -- the accounts of a shard's page, by a pass of the heap that carries the tales of all
 pub record AreAccountsOf (layout : Layout) (heap : Heap) (shard page : ℕ) (a : Accounts) : Type 0 where
@@ -68,7 +68,7 @@ GathersAll heap (Err untold.NoPage) = ⊥
 
 -- the same if the joined pass is not shown
 abbrev pub GathersPool : Heap → Result (Unit {0}) NotTold → Type 0
-GathersPool heap (Ok _) = (c : Caller) × (berth : ℕ) × GathersAll heap (Ok (c, berth))
+GathersPool heap (Ok _) = (c : Caller) × (pool_slot : ℕ) × GathersAll heap (Ok (c, pool_slot))
 GathersPool heap (Err why) = GathersAll heap (Err why)
 
 -- the accounts of a page, or that there is no such page; nothing is said of Away

@@ -1,27 +1,27 @@
 //! How the passes of a pool are joined, and how the one that carries their tales is given back.
 ghost use Rattle.std.specs.Prelude.{◌≡◌, IfSome};
-ghost use Rattle.sh_whole.specs.Homes.{GathersAll, GathersPool, IsBerth, IsWholeOf};
+ghost use Rattle.sh_whole.specs.Homes.{GathersAll, GathersPool, IsPoolSlot, IsWholeOf};
 
 use crate::calling::{call_all, give_or_lose, meet, send_home};
 use crate::refusal::NotTold;
 use sh_gather::{Whole, whole};
 use sh_key::KeyLayout;
 use sh_pass::Pass;
-use sh_pool::{Berth, Pool, Taken};
+use sh_pool::{Pool, PoolSlot, Taken};
 use std::alloc::Global;
 
-/// Takes all passes that are in their berths, and joins them in one. If their tales together name all passes of the
-/// heap, it returns the heap as a whole, and a berth for the pass that carries the tales.
+/// Takes all passes that are in their pool slots, and joins them in one. If their tales together name all passes of the
+/// heap, it returns the heap as a whole, and a pool slot for the pass that carries the tales.
 ///
 /// So it succeeds if no pass is taken or lost, or if each that is missing was joined before. Otherwise it is refused as
-/// `Away`, and each pass that it took is back in a berth. It is refused as `Memory` before it takes any pass.
+/// `Away`, and each pass that it took is back in a pool slot. It is refused as `Memory` before it takes any pass.
 ///
 /// The joined passes are one pass from then on, which is the only one of the pool. It has its own holds. The holds of
 /// the others stay in their slots for ever.
 pub fn whole_of<'p, L: KeyLayout>(
     alloc: Global,
     pool: &'p Pool<L>,
-) -> Result<(Whole<'p, L>, Berth<L>), NotTold>
+) -> Result<(Whole<'p, L>, PoolSlot<L>), NotTold>
     ensures { GathersAll pool.now result }
 {
     let Some(called) = call_all(alloc, pool) else {
@@ -36,37 +36,38 @@ pub fn whole_of<'p, L: KeyLayout>(
     }
 }
 
-/// Joins all passes of the pool as `whole_of` does, and gives the joined pass back to a berth. Refused as `whole_of`.
+/// Joins all passes of the pool as `whole_of` does, and gives the joined pass back to a pool slot. Refused as
+/// `whole_of`.
 pub fn gather_pool<L: KeyLayout>(alloc: Global, pool: &Pool<L>) -> Result<(), NotTold>
     ensures { GathersPool pool.now result }
 {
-    let (whole, berth) = whole_of(alloc, pool)?;
-    go_home(pool, whole, berth);
+    let (whole, pool_slot) = whole_of(alloc, pool)?;
+    go_home(pool, whole, pool_slot);
     Ok(())
 }
 
-/// The heap as a whole, by a pass that carries the tales of all. There is one in a berth after `gather_pool`, or if the
-/// heap has only one pass. It takes no memory. `None` if each berth is empty, or if the pass that it takes does not
-/// carry all tales: then that pass is back in its berth.
-pub fn pool_whole<L: KeyLayout>(pool: &Pool<L>) -> Option<(Whole<'_, L>, Berth<L>)>
-    ensures { IfSome result (λ r. IsWholeOf pool.now r.0 × IsBerth pool.now r.1) }
+/// The heap as a whole, by a pass that carries the tales of all. There is one in a pool slot after `gather_pool`, or if
+/// the heap has only one pass. It takes no memory. `None` if each pool slot is empty, or if the pass that it takes does
+/// not carry all tales: then that pass is back in its pool slot.
+pub fn pool_whole<L: KeyLayout>(pool: &Pool<L>) -> Option<(Whole<'_, L>, PoolSlot<L>)>
+    ensures { IfSome result (λ r. IsWholeOf pool.now r.0 × IsPoolSlot pool.now r.1) }
 {
-    let Taken { state, berth } = pool.take()?;
+    let Taken { state, pool_slot } = pool.take()?;
     match whole(Pass::on(pool.heap(), state)) {
-        Ok(whole) => Some((whole, berth)),
+        Ok(whole) => Some((whole, pool_slot)),
         Err(pass) => {
             let (_heap, state) = pass.into_parts();
-            give_or_lose(pool, state, berth);
+            give_or_lose(pool, state, pool_slot);
             None
         }
     }
 }
 
-/// Gives the pass that carries the tales back to this berth. The pass is lost if the berth has a pass, or if there is
-/// no such berth: neither is so for a berth that this pool gave out.
-pub fn go_home<L: KeyLayout>(pool: &Pool<L>, whole: Whole<'_, L>, berth: Berth<L>)
+/// Gives the pass that carries the tales back to this pool slot. The pass is lost if the pool slot has a pass, or if
+/// there is no such pool slot. Neither is so for a pool slot that this pool gave out.
+pub fn go_home<L: KeyLayout>(pool: &Pool<L>, whole: Whole<'_, L>, pool_slot: PoolSlot<L>)
     requires { whole.heap ≡ pool.now }
 {
     let (_heap, state) = whole.into_pass().into_parts();
-    give_or_lose(pool, state, berth);
+    give_or_lose(pool, state, pool_slot);
 }

@@ -1,9 +1,13 @@
 #![tactic(auto)]
 //! State words.
 //!
-//! Each slot of the heap has one word of 64 bits that says what its state is. Its generation is in the upper half;
-//! below it are two flags, marked and present, and in the low 30 bits the number of passes on the slot. Passes change
-//! the word by single operations. A [`State`] is what a word says, and states and words are one to one.
+//! Each slot of the heap has one word of 64 bits that says what its state is. Passes change the word by single
+//! operations. A [`State`] is what a word says, and states and words are one to one.
+//!
+//! ```text
+//! bit  63         32    31        30      29               0
+//!     [ generation ][ marked ][ present ][ passes on the slot ]
+//! ```
 
 pub mod laws;
 mod slot_state;

@@ -1,14 +1,14 @@
 //! The program `shardheap MODE [--accounts]`: it runs the script on the standard input in a mode, and writes the
-//! replies to the standard output. This file connects the process to `sh_program`, which runs over any words, reader
-//! and writers.
+//! replies to the standard output. This file connects the process to `script_program`, which runs over any words,
+//! reader and writers.
 #![tactic(auto)]
 
 ghost use Rattle.std.specs.Prelude.{IfOk};
-ghost use Rattle.sh_program.specs.Program.{IsStatus};
+ghost use Rattle.script_program.specs.Program.{IsStatus};
 
-use sh_program::program;
-use sh_program::words::refuse;
-use sh_start::with_words;
+use script_program::program;
+use script_program::words::refuse;
+use script_start::with_words;
 use std::io;
 use std::process::ExitCode;
 use std::sync::Wait;

@@ -5,7 +5,7 @@ use sh_accounts::{Accounts, page};
 use sh_core::World;
 use sh_key::{Tiny, Wide};
 use sh_shape::Shape;
-use sh_slots::Spot;
+use sh_slots::SlotRef;
 use sh_word::{Kind, State};
 use std::test::Fail;
 
@@ -44,7 +44,7 @@ fn page_that_is_not_there_has_no_accounts(rt: HostRuntime) -> Result<(), Fail> {
 fn state_words_say_what_slots_are(rt: HostRuntime) -> Result<(), Fail> {
     let shape = Shape::new(1, 1, 3).expect(&rt, "one shard of one segment is a shape");
     let world = World::<Tiny>::new(rt.alloc(), shape).expect(&rt, "it fits tiny");
-    let spot = Spot { page: 1, slot: 2 };
+    let slot_ref = SlotRef { page: 1, slot: 2 };
     let table = [
         (Kind::Live, SlotKind::Live),
         (Kind::Marked, SlotKind::Marked),
@@ -53,7 +53,7 @@ fn state_words_say_what_slots_are(rt: HostRuntime) -> Result<(), Fail> {
     ];
     for (kind, expected) in table {
         let word = State::new(kind, 1, 0).word();
-        agree(&rt, slot_kind(word, world.parts(), spot), expected);
+        agree(&rt, slot_kind(word, world.parts(), slot_ref), expected);
     }
     Ok(())
 }

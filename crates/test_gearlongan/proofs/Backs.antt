@@ -1,7 +1,7 @@
 -- If each task has a pass or a shard of a heap, each output that is not refused gives back one of that heap.
 use Rattle.std.proofs.Common.{◌≡◌, ◌∙◌, List, [], ◌∷◌, Result, Ok, Err, IfOk}
 use Rattle.gearlongan.specs.Passes.{Heap}
-use Rattle.sh_meet.specs.Tasks.{AllGive}
+use Rattle.gearlongan.specs.Tasks.{AllGive}
 use Rattle.sh_value.specs.declared.refusal.Refusal.{Refusal}
 use Rattle.test_gearlongan.specs.Works.{AllAt, AllBackAt, heap_back, heap_of}
 use Rattle.test_gearlongan.specs.declared.work.Done.{Done}

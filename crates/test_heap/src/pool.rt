@@ -1,7 +1,7 @@
 //! Tests of pools: passes are taken one by one and given back, by one thread and by two, and they are joined.
 //!
-//! What no clause says. At first each pass is in its berth, no call finds a pass that was taken, and a pass that was
-//! given back can be taken again.
+//! What no clause says. At first each pass is in its pool slot, no call finds a pass that was taken, and a pass that
+//! was given back can be taken again.
 ghost use Rattle.std.specs.Prelude.{◌≡◌};
 
 mod whole;
@@ -10,7 +10,7 @@ use crate::assertions::{agree, holds};
 use sh_key::Tiny;
 use sh_pass::PassState;
 use sh_pass::pass::Pass;
-use sh_pool::{Berth, Pool, Share, Taken, give_pass, take_pass};
+use sh_pool::{Pool, PoolSlot, Share, Taken, give_pass, take_pass};
 use sh_shape::Shape;
 use sh_value::Refusal;
 use std::alloc::Global;
@@ -22,7 +22,7 @@ fn opened(rt: &impl Abort, alloc: Global, passes: u32) -> Pool<Tiny> {
     Pool::<Tiny>::open(alloc, shape).expect(rt, "a pool")
 }
 
-// The pass that is taken from the first berth that has one.
+// The pass that is taken from the first pool slot that has one.
 pub(crate) fn taken(rt: &impl Abort, pool: &Pool<Tiny>) -> Taken<Tiny>
     ensures { result.state.heap ≡ pool.now }
 {
@@ -32,7 +32,7 @@ pub(crate) fn taken(rt: &impl Abort, pool: &Pool<Tiny>) -> Taken<Tiny>
     }
 }
 
-// The pass of the berth of this number.
+// The pass of the pool slot of this number.
 pub(crate) fn taken_at(rt: &impl Abort, pool: &Pool<Tiny>, number: usize) -> Taken<Tiny>
     ensures { result.state.heap ≡ pool.now }
 {
@@ -42,7 +42,7 @@ pub(crate) fn taken_at(rt: &impl Abort, pool: &Pool<Tiny>, number: usize) -> Tak
     }
 }
 
-// Whether each berth is empty. A pass that is found is lost.
+// Whether each pool slot is empty. A pass that is found is lost.
 pub(crate) fn all_are_away(pool: &Pool<Tiny>) -> bool {
     match pool.take() {
         Some(taken) => {
@@ -53,7 +53,7 @@ pub(crate) fn all_are_away(pool: &Pool<Tiny>) -> bool {
     }
 }
 
-// Whether the berth of this number is empty or does not exist. A pass that is found is lost.
+// Whether the pool slot of this number is empty or does not exist. A pass that is found is lost.
 pub(crate) fn is_away(pool: &Pool<Tiny>, number: usize) -> bool {
     match pool.take_at(number) {
         Some(taken) => {
@@ -68,11 +68,11 @@ pub(crate) fn is_away(pool: &Pool<Tiny>, number: usize) -> bool {
 pub(crate) fn comes_home(pool: &Pool<Tiny>, taken: Taken<Tiny>) -> bool
     requires { taken.state.heap ≡ pool.now }
 {
-    let Taken { state, berth } = taken;
-    match pool.give(state, berth) {
+    let Taken { state, pool_slot } = taken;
+    match pool.give(state, pool_slot) {
         Ok(()) => true,
-        Err((_state, berth)) => {
-            berth.lose();
+        Err((_state, pool_slot)) => {
+            pool_slot.lose();
             false
         }
     }
@@ -81,73 +81,77 @@ pub(crate) fn comes_home(pool: &Pool<Tiny>, taken: Taken<Tiny>) -> bool
 #[test]
 fn each_pass_is_taken_once_and_comes_home(rt: HostRuntime) {
     let pool = opened(&rt, rt.alloc(), 2);
-    agree(&rt, pool.berths(), 2);
+    agree(&rt, pool.pool_slots(), 2);
     let one = taken(&rt, &pool);
     let other = taken(&rt, &pool);
-    agree(&rt, (one.berth.number(), other.berth.number()), (0, 1));
+    agree(
+        &rt,
+        (one.pool_slot.number(), other.pool_slot.number()),
+        (0, 1),
+    );
     holds(&rt, all_are_away(&pool));
     holds(&rt, comes_home(&pool, other));
     holds(&rt, is_away(&pool, 0));
     holds(&rt, is_away(&pool, 2));
     let again = taken(&rt, &pool);
-    agree(&rt, again.berth.number(), 1);
+    agree(&rt, again.pool_slot.number(), 1);
     holds(&rt, comes_home(&pool, one));
     holds(&rt, comes_home(&pool, again));
     holds(&rt, !all_are_away(&pool));
 }
 
-// A lost pass never comes back, and the other stays in its berth.
+// A lost pass never comes back, and the other stays in its pool slot.
 #[test]
 fn a_pass_that_is_lost_stays_away(rt: HostRuntime) {
     let pool = opened(&rt, rt.alloc(), 2);
     taken_at(&rt, &pool, 0).lose();
     holds(&rt, is_away(&pool, 0));
     let other = taken(&rt, &pool);
-    agree(&rt, other.berth.number(), 1);
+    agree(&rt, other.pool_slot.number(), 1);
     holds(&rt, all_are_away(&pool));
     holds(&rt, comes_home(&pool, other));
     holds(&rt, is_away(&pool, 0));
 }
 
-// Gives a pass back with a berth of another pool, which is refused. Returns the pass and the number of that berth. The
-// berth is lost.
+// Gives a pass back with a pool slot of another pool, which is refused. Returns the pass and the number of that pool
+// slot. The pool slot is lost.
 fn refused(
     rt: &impl Abort,
     pool: &Pool<Tiny>,
     state: PassState<Tiny>,
-    berth: Berth<Tiny>,
+    pool_slot: PoolSlot<Tiny>,
 ) -> (PassState<Tiny>, usize)
     requires { state.heap ≡ pool.now }
     ensures { result.0.heap ≡ pool.now }
 {
-    match pool.give(state, berth) {
-        Ok(()) => panic!(rt; "a berth of another pool serves"),
-        Err((state, berth)) => {
-            let number = berth.number();
-            berth.lose();
+    match pool.give(state, pool_slot) {
+        Ok(()) => panic!(rt; "a pool_slot of another pool serves"),
+        Err((state, pool_slot)) => {
+            let number = pool_slot.number();
+            pool_slot.lose();
             (state, number)
         }
     }
 }
 
-// The berths of another pool: the first one has its pass in this pool, and the third one's number is too large.
+// The pool slots of another pool: the first one has its pass in this pool, and the third one's number is too large.
 #[test]
-fn a_berth_of_another_pool_is_refused(rt: HostRuntime) {
+fn a_pool_slot_of_another_pool_is_refused(rt: HostRuntime) {
     let pool = opened(&rt, rt.alloc(), 2);
     let larger = opened(&rt, rt.alloc(), 3);
     let Taken {
         state: _,
-        berth: first,
+        pool_slot: first,
     } = taken_at(&rt, &larger, 0);
     let Taken {
         state: _,
-        berth: third,
+        pool_slot: third,
     } = taken_at(&rt, &larger, 2);
-    let Taken { state, berth } = taken_at(&rt, &pool, 1);
+    let Taken { state, pool_slot } = taken_at(&rt, &pool, 1);
     let (state, first) = refused(&rt, &pool, state, first);
     let (state, third) = refused(&rt, &pool, state, third);
     agree(&rt, (first, third), (0, 2));
-    holds(&rt, comes_home(&pool, Taken { state, berth }));
+    holds(&rt, comes_home(&pool, Taken { state, pool_slot }));
     holds(&rt, !is_away(&pool, 1));
 }
 
@@ -155,7 +159,7 @@ fn a_berth_of_another_pool_is_refused(rt: HostRuntime) {
 pub(crate) fn shared_pass(
     rt: &impl Abort,
     share: &Share<Tiny>,
-) -> (Pass<Tiny, Share<Tiny>>, Berth<Tiny>) {
+) -> (Pass<Tiny, Share<Tiny>>, PoolSlot<Tiny>) {
     match take_pass(share) {
         Some(taken) => taken,
         None => panic!(rt; "no pass"),
@@ -163,11 +167,11 @@ pub(crate) fn shared_pass(
 }
 
 // Gives a pass back, and returns whether that succeeded. A refused pass is lost.
-pub(crate) fn is_given(pass: Pass<Tiny, Share<Tiny>>, berth: Berth<Tiny>) -> bool {
-    match give_pass(pass, berth) {
+pub(crate) fn is_given(pass: Pass<Tiny, Share<Tiny>>, pool_slot: PoolSlot<Tiny>) -> bool {
+    match give_pass(pass, pool_slot) {
         Ok(()) => true,
-        Err((_pass, berth)) => {
-            berth.lose();
+        Err((_pass, pool_slot)) => {
+            pool_slot.lose();
             false
         }
     }
@@ -177,12 +181,12 @@ pub(crate) fn is_given(pass: Pass<Tiny, Share<Tiny>>, berth: Berth<Tiny>) -> boo
 fn a_pass_outlives_the_share_that_it_was_taken_by(rt: HostRuntime) {
     let pool = opened(&rt, rt.alloc(), 1);
     let share = Share::new(rt.alloc(), pool).expect(&rt, "a share");
-    let (mut pass, berth) = shared_pass(&rt, &share);
+    let (mut pass, pool_slot) = shared_pass(&rt, &share);
     holds(&rt, all_are_away(share.pool()));
     drop(share);
     agree(&rt, pass.get(0), Err(Refusal::BadKey));
     agree(&rt, pass.get(4_096), Err(Refusal::Gone));
-    holds(&rt, is_given(pass, berth));
+    holds(&rt, is_given(pass, pool_slot));
 }
 
 // Takes a pass, looks a key up and gives the pass back, over and over. Returns how often there was a pass, and how
@@ -191,10 +195,10 @@ fn taken_and_given(share: Share<Tiny>) -> (u32, u32) {
     let mut taken = 0u32;
     let mut refused = 0u32;
     for _ in 0..1_000 {
-        if let Some((mut pass, berth)) = take_pass(&share) {
+        if let Some((mut pass, pool_slot)) = take_pass(&share) {
             taken = taken.saturating_add(1);
             let _gone = pass.get(4_096);
-            if !is_given(pass, berth) {
+            if !is_given(pass, pool_slot) {
                 refused = refused.saturating_add(1);
             }
         }
@@ -242,6 +246,6 @@ fn refused_memory_is_told(rt: HostRuntime) {
             Share::new(rt.alloc(), pool).expect(&rt, "a share")
         }
     };
-    agree(&rt, share.pool().berths(), 2);
+    agree(&rt, share.pool().pool_slots(), 2);
     holds(&rt, !all_are_away(share.pool()));
 }

@@ -1,7 +1,7 @@
 //! Tests of the words of a slot: what a step leaves of the word that it finds.
 use crate::assertions::agree;
 use sh_slots::{
-    GetAnswer, Hand, Name, Spot, after_drop, after_enter_remove, answer_to_get, finished_word,
+    GetAnswer, Hand, KeyRef, SlotRef, after_drop, after_enter_remove, answer_to_get, finished_word,
     is_first_mark, is_live_at, is_reusable_after, marked_word, published_name, retired_word,
     reusable_word,
 };
@@ -13,7 +13,7 @@ const LIVE: u64 = 5368709120;
 
 const MARKED: u64 = 7516192768;
 
-const SPOT: Spot = Spot { page: 1, slot: 2 };
+const SPOT: SlotRef = SlotRef { page: 1, slot: 2 };
 
 #[test]
 fn a_get_is_answered_by_the_word_found(rt: HostRuntime) {
@@ -34,12 +34,12 @@ fn a_get_is_answered_by_the_word_found(rt: HostRuntime) {
 
 #[test]
 fn a_removal_goes_on_where_the_value_is_there(rt: HostRuntime) {
-    let name = Name {
+    let name = KeyRef {
         page: 1,
         slot: 2,
         generation: 1,
     };
-    agree(&rt, name.spot(), SPOT);
+    agree(&rt, name.slot_ref(), SPOT);
     agree(
         &rt,
         after_enter_remove(4096, name, LIVE),
@@ -73,5 +73,5 @@ fn the_last_drop_ends_the_generation(rt: HostRuntime) {
 fn a_value_is_published_in_the_slots_generation(rt: HostRuntime) {
     let name = published_name(SPOT, 8589934593);
     agree(&rt, name, SPOT.name(2));
-    agree(&rt, name.spot().is_same(&SPOT), true);
+    agree(&rt, name.slot_ref().is_same(&SPOT), true);
 }

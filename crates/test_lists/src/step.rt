@@ -6,7 +6,7 @@ mod part;
 use crate::assertions::{agree, holds};
 use sh_key::Tiny;
 use sh_shape::{Place, Shape};
-use sh_slots::Spot;
+use sh_slots::SlotRef;
 use sh_step::operands::{
     bell_of, bell_word, gen_max, guard_max, payload_word, put_word, slots_of_word, width_of_word,
     word_of_value,
@@ -75,8 +75,8 @@ fn moves_have_steps(rt: HostRuntime) -> Result<(), Fail> {
         &rt,
         Move::of::<Tiny>(&shape, &part, &Action::Adopt(1)).is_none(),
     );
-    let spot = Spot { page: 0, slot: 2 };
-    let put = Move::Put(spot).step::<Tiny>(&shape);
+    let slot_ref = SlotRef { page: 0, slot: 2 };
+    let put = Move::Put(slot_ref).step::<Tiny>(&shape);
     agree(&rt, put.place, Place::Head(0));
     agree(&rt, put.operation, Operation::Swap(6));
     let followed = Move::Follow(0, 2).step::<Tiny>(&shape);
@@ -91,15 +91,15 @@ fn moves_have_steps(rt: HostRuntime) -> Result<(), Fail> {
 fn generations_end_in_one_exchange(rt: HostRuntime) -> Result<(), Fail> {
     let shape = one_shard(&rt);
     let part = Part::new(rt.alloc());
-    let spot = Spot { page: 0, slot: 2 };
-    let ended = Move::Finish(spot, 1).step::<Tiny>(&shape);
+    let slot_ref = SlotRef { page: 0, slot: 2 };
+    let ended = Move::Finish(slot_ref, 1).step::<Tiny>(&shape);
     agree(&rt, ended.place, Place::State(0, 2));
     agree(
         &rt,
         ended.operation,
         Operation::CompareExchange(7516192768, 8589934592),
     );
-    let used_up = Move::Finish(spot, 3).step::<Tiny>(&shape);
+    let used_up = Move::Finish(slot_ref, 3).step::<Tiny>(&shape);
     agree(
         &rt,
         used_up.operation,

@@ -3,7 +3,7 @@ mod faults;
 mod runs;
 mod words;
 
-use sh_program::program::run;
+use script_program::program::run;
 use std::alloc::Global;
 use std::fmt::Debug;
 use std::io;

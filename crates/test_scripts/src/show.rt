@@ -1,8 +1,8 @@
 //! Tests of traces: what they say about events, about links that are not written, and about holds and tags, and which
 //! reason follows an event that is skipped.
 use crate::assertions::{agree, holds};
+use script_show::watch;
 use sh_script::{Cause, Fault};
-use sh_show::watch;
 use std::alloc::Global;
 use std::test::Fail;
 

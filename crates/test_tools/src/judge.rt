@@ -1,13 +1,13 @@
 //! Tests of the judge of the stress program: examples of histories, with what it finds in each.
 use crate::assertions::holds;
 use sh_core::Accounts;
-use sh_judge::judge::judged;
-use sh_judge::line::{Line, Span, Told};
-use sh_judge::pattern;
-use sh_judge::tally::{PageTally, agrees};
 use sh_value::Value;
 use std::alloc::Global;
 use std::test::Fail;
+use tool_judge::judge::judged;
+use tool_judge::line::{Line, Span, Told};
+use tool_judge::pattern;
+use tool_judge::tally::{PageTally, agrees};
 
 fn line(pass: u32, begin: u64, end: u64, told: Told) -> Line {
     Line {

@@ -3,18 +3,18 @@ mod plans;
 
 use crate::assertions::agree;
 use clap::error::ErrorKind;
-use sh_load::command_line::options_of;
-use sh_load::layout::Layout;
-use sh_load::options::Options;
-use sh_load::samples::Lengths;
-use sh_load::workload::Workload;
 use std::alloc::Global;
 use std::process::Abort;
 use std::test::Fail;
+use tool_load::command_line::options_of;
+use tool_load::layout::Layout;
+use tool_load::options::Options;
+use tool_load::samples::Lengths;
+use tool_load::workload::Workload;
 
-// What `sh_bench get` and two words more ask for.
+// What `tool_bench get` and two words more ask for.
 fn asked(rt: &impl Abort, alloc: Global, option: &str, number: &str) -> Options {
-    let Ok(options) = options_of(alloc, &["sh_bench", "get", option, number]) else {
+    let Ok(options) = options_of(alloc, &["tool_bench", "get", option, number]) else {
         panic!(rt; "{option} {number} is refused")
     };
     options
@@ -30,7 +30,7 @@ fn refused(rt: &impl Abort, alloc: Global, words: &[&str]) -> ErrorKind {
 
 #[test]
 fn each_option_has_a_default(rt: HostRuntime) -> Result<(), Fail> {
-    let options = options_of(rt.alloc(), &["sh_bench", "get"])?;
+    let options = options_of(rt.alloc(), &["tool_bench", "get"])?;
     agree(&rt, options.workload, Workload::Get);
     agree(&rt, options.layout, Layout::Wide);
     agree(&rt, options.threads, 1);
@@ -60,7 +60,7 @@ fn each_workload_has_its_name(rt: HostRuntime) -> Result<(), Fail> {
         ("heed", Workload::Heed),
     ];
     for (name, workload) in table {
-        let options = options_of(rt.alloc(), &["sh_bench", name])?;
+        let options = options_of(rt.alloc(), &["tool_bench", name])?;
         agree(&rt, (name, options.workload), (name, workload));
     }
     Ok(())
@@ -81,7 +81,7 @@ fn each_layout_has_its_name(rt: HostRuntime) {
 #[test]
 fn each_number_is_its_own(rt: HostRuntime) -> Result<(), Fail> {
     let words = [
-        "sh_bench",
+        "tool_bench",
         "leave",
         "--threads",
         "2",
@@ -159,7 +159,7 @@ fn numbers_beyond_a_bound_are_refused(rt: HostRuntime) {
         ("--passes", "65"),
     ];
     for (option, number) in table {
-        let kind = refused(&rt, rt.alloc(), &["sh_bench", "get", option, number]);
+        let kind = refused(&rt, rt.alloc(), &["tool_bench", "get", option, number]);
         agree(
             &rt,
             (option, number, kind),
@@ -170,11 +170,11 @@ fn numbers_beyond_a_bound_are_refused(rt: HostRuntime) {
 
 #[test]
 fn mixed_values_take_the_place_of_a_length(rt: HostRuntime) -> Result<(), Fail> {
-    let options = options_of(rt.alloc(), &["sh_bench", "insert", "--mixed"])?;
+    let options = options_of(rt.alloc(), &["tool_bench", "insert", "--mixed"])?;
     agree(&rt, options.lengths, Lengths::Mixed);
     let options = options_of(
         rt.alloc(),
-        &["sh_bench", "insert", "--words", "3", "--mixed"],
+        &["tool_bench", "insert", "--words", "3", "--mixed"],
     )?;
     agree(&rt, options.lengths, Lengths::Mixed);
     Ok(())
@@ -185,32 +185,32 @@ fn other_words_are_refused(rt: HostRuntime) {
     let alloc = rt.alloc();
     agree(
         &rt,
-        refused(&rt, alloc, &["sh_bench"]),
+        refused(&rt, alloc, &["tool_bench"]),
         ErrorKind::MissingRequiredArgument,
     );
     agree(
         &rt,
-        refused(&rt, alloc, &["sh_bench", "table"]),
+        refused(&rt, alloc, &["tool_bench", "table"]),
         ErrorKind::InvalidValue,
     );
     agree(
         &rt,
-        refused(&rt, alloc, &["sh_bench", "get", "--layout", "tiny"]),
+        refused(&rt, alloc, &["tool_bench", "get", "--layout", "tiny"]),
         ErrorKind::InvalidValue,
     );
     agree(
         &rt,
-        refused(&rt, alloc, &["sh_bench", "get", "--speed", "1"]),
+        refused(&rt, alloc, &["tool_bench", "get", "--speed", "1"]),
         ErrorKind::UnknownArgument,
     );
     agree(
         &rt,
-        refused(&rt, alloc, &["sh_bench", "--help"]),
+        refused(&rt, alloc, &["tool_bench", "--help"]),
         ErrorKind::DisplayHelp,
     );
     agree(
         &rt,
-        refused(&rt, alloc, &["sh_bench", "--version"]),
+        refused(&rt, alloc, &["tool_bench", "--version"]),
         ErrorKind::DisplayVersion,
     );
 }

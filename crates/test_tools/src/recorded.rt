@@ -1,6 +1,6 @@
 //! Tests of the reading of recorded histories.
 use crate::assertions::agree;
-use sh_recorded::{Cause, Fault, Verdict, judge};
+use history_lines::{Cause, Fault, Verdict, judge};
 use std::alloc::Global;
 use std::io;
 use std::io::{BufReader, Read};

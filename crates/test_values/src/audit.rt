@@ -1,9 +1,9 @@
 //! Tests of the judge of histories that come entry by entry.
 ghost use Rattle.std.specs.Prelude.{◌<◌};
 
+use history_audit::{Audit, Clash, check};
 use rand_core::{Rng, SeedableRng};
 use rand_xoshiro::Xoshiro256PlusPlus;
-use sh_audit::{Audit, Clash, check};
 use sh_history::{Entry, Why};
 use sh_value::Value;
 use std::alloc::{AllocError, Global};

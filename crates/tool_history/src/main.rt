@@ -1,10 +1,10 @@
 //! The program `tool_history`: it reads a recorded history from the standard input, line by line, and writes whether it
-//! is that of a map whose keys are never used again. This file joins the process to `sh_recorded`.
+//! is that of a map whose keys are never used again. This file joins the process to `history_lines`.
 #![tactic(auto)]
 
 use clap::{Command, Error};
-use sh_recorded::{Fault, Verdict, judge};
-use sh_start::{show, with_words};
+use history_lines::{Fault, Verdict, judge};
+use script_start::{show, with_words};
 use std::alloc::Global;
 use std::io;
 use std::io::{BufReader, Write};

@@ -1,4 +1,4 @@
-/* A stand-in for libsh_c.a, over which the slab of the Rust crate is tried. For `stub.py`.
+/* A stand-in for libc_exports.a, over which the slab of the Rust crate is tried. For `stub.py`.
 
    It has the calls that the slab makes, for heaps of layout Tagged and values of no words. All calls on a heap are one
    after the other, by a lock. There are two things that no proved heap does:

@@ -63,7 +63,7 @@ fn pairs(threads: usize) {
 }
 
 #[test]
-fn two_threads() {
+fn example_two_threads() {
     pairs(2);
 }
 

@@ -75,7 +75,7 @@ fn pairs(pairs: u32) {
 }
 
 #[test]
-fn two_threads() {
+fn example_two_threads() {
     pairs(1);
 }
 

@@ -133,7 +133,7 @@ function addStory(name, text) {
 }
 
 function report(name, error) {
-  find("fault").textContent = `${name} is no trace of sh_trace: ${error.message}`;
+  find("fault").textContent = `${name} is no trace of script_trace: ${error.message}`;
 }
 
 async function openFile(event) {

@@ -1,4 +1,4 @@
-// Reads the text that sh_trace prints. A trace has a title, the lines of its header, and a frame for each event: the
+// Reads the text that script_trace prints. A trace has a title, the lines of its header, and a frame for each event: the
 // event, its answer, the pages and shards that it touched, as they are after it, and a line for each pass that has
 // begun, owns or holds something. docs/SCRIPTS.md, "Traces", has the format.
 

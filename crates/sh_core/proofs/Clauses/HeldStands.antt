@@ -1,11 +1,11 @@
 -- The value of a held key is in its slot, and what may be read of it is within the slot.
 use Rattle.std.proofs.Common.{◌≡◌, ℕ, ◌+◌, ◌-◌, ◌*◌, ◌<◌, ◌||◌, true, sym, refl, subst, arith}
-use Rattle.sh_slots.specs.declared.hand.Spot.{Spot}
+use Rattle.sh_slots.specs.declared.hand.SlotRef.{SlotRef}
 use Rattle.sh_word.specs.Fields.{Fields, fields_of}
 use Rattle.sh_step.specs.Plans.{Plan}
 use Rattle.sh_shape.specs.Classes.{width}
 use Rattle.sh_shape.proofs.ClassLaws.{slot_words_fit_page}
-use Rattle.sh_slots.specs.Slots.{spot_of}
+use Rattle.sh_slots.specs.Slots.{slot_ref_of}
 use Rattle.sh_step.specs.Collections.{if1}
 use Rattle.sh_core.specs.Lists.{PutLists}
 use Rattle.sh_core.specs.Placed.{Agreement}
@@ -37,7 +37,7 @@ module _ (plan : Plan) (w : World) (l : PutLists) (all : Agreement plan w l) (kn
       let u = (know a p at).classed k c width_is in
       let v = (know a p at).measured k m length_is in
       let h = held_stands plan w l all a p k n at u.0 name in
-      let x : Spot = spot_of n in
+      let x : SlotRef = slot_ref_of n in
       let st : Fields = fields_of (w.words.state_at n.page n.slot) in
       let there : (st.present || st.marked) ≡ true = rw h.0 refl in
       let f = all.sums.slots x in

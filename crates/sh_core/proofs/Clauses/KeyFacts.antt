@@ -1,7 +1,7 @@
 -- What the log says of keys and holds, in the counts of histories, from the sums that are kept.
 use Rattle.std.proofs.Common.{◌≡◌, ℕ, Bool, true, false, arith}
 use Rattle.sh_history.specs.History.{is_removed}
-use Rattle.sh_slots.specs.Slots.{spot_of}
+use Rattle.sh_slots.specs.Slots.{slot_ref_of}
 use Rattle.sh_step.specs.Collections.{if1}
 use Rattle.sh_step.specs.Plans.{Plan}
 use Rattle.sh_core.specs.Lists.{PutLists, state_of}
@@ -28,7 +28,7 @@ module _ (plan : Plan) (w : World) (l : PutLists) (all : Agreement plan w l) whe
   keys_told k n name = let story = all.sums.keys k n name in record {
     issued = λ now there. value_one k w.log (value_at w.words n.page n.slot) (story.value now there);
     empty = λ now none. value_none k w.log (story.fresh now none);
-    removed = λ now. removed_is k (state_of w (spot_of n)).marked (story.mark now);
+    removed = λ now. removed_is k (state_of w (slot_ref_of n)).marked (story.mark now);
     later = λ less. (value_none k w.log (story.later less).0, (removed_by k w.log).0 (story.later less).1);
   }
 

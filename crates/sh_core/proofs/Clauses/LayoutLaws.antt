@@ -9,19 +9,19 @@ use Rattle.sh_key.specs.Layout.{Layout, IsLayout, IsInRange, IsKeyOf, unpacked}
 use Rattle.sh_key.proofs.Packing.{unpacked-packed, unpacked_is}
 use Rattle.sh_shape.specs.Shape.{Numbers, IsShape, Fits, segment_pages}
 use Rattle.sh_shape.proofs.PlaceLaws.{few_pages}
-use Rattle.sh_slots.specs.declared.hand.Name.{Name}
+use Rattle.sh_slots.specs.declared.hand.KeyRef.{KeyRef}
 use Rattle.sh_step.specs.Plans.{name_in, keys_of, plan_of, Lawful}
 
-name_is : (m n : Name) → m.page ≡ n.page → m.slot ≡ n.slot → m.generation ≡ n.generation → m ≡ n
+name_is : (m n : KeyRef) → m.page ≡ n.page → m.slot ≡ n.slot → m.generation ≡ n.generation → m ≡ n
 name_is m n a b c = λ i. record { page = a i; slot = b i; generation = c i }
 
 -- what parts within the heap name
-record Names (shards pages : ℕ) (p : Parts) (n : Name) : Type 0 where
+record Names (shards pages : ℕ) (p : Parts) (n : KeyRef) : Type 0 where
   pub shard : p.shard < shards
   pub page : p.page < pages
   pub is : n ≡ record { page = p.shard * pages + p.page; slot = p.slot; generation = p.generation }
 
-names : (shards pages : ℕ) (p : Parts) (n : Name) → name_in shards pages p ≡ Some n → Names shards pages p n
+names : (shards pages : ℕ) (p : Parts) (n : KeyRef) → name_in shards pages p ≡ Some n → Names shards pages p n
 names shards pages p n h = go (nat_lt p.shard shards) (nat_lt p.page pages) refl refl h where
   go : (a b : Bool) → nat_lt p.shard shards ≡ a → nat_lt p.page pages ≡ b
       → cond (a && b) (Some (record { page = p.shard * pages + p.page; slot = p.slot; generation = p.generation })) None
@@ -31,34 +31,34 @@ names shards pages p n h = go (nat_lt p.shard shards) (nat_lt p.page pages) refl
   go false b i j h = absurd (let z : None ≡ Some n = h in cc)
 
 -- a key of the heap: its parts
-record IsKey (layout : Layout) (shards pages k : ℕ) (n : Name) : Type 0 where
+record IsKey (layout : Layout) (shards pages k : ℕ) (n : KeyRef) : Type 0 where
   pub parts : Parts
   pub is_key : IsKeyOf layout parts k
   pub named : Names shards pages parts n
 
-is_key : (layout : Layout) (shards pages k : ℕ) (n : Name) → (keys_of layout shards pages).unpack k ≡ Some n
+is_key : (layout : Layout) (shards pages k : ℕ) (n : KeyRef) → (keys_of layout shards pages).unpack k ≡ Some n
     → IsKey layout shards pages k n
 unfolding keys_of
 is_key layout shards pages k n h = go (unpacked layout k) refl h where
-  go : (o : Option Parts) → unpacked layout k ≡ o → (elim o as (λ _. Option Name)
+  go : (o : Option Parts) → unpacked layout k ≡ o → (elim o as (λ _. Option KeyRef)
       [ Some p ↦ name_in shards pages p | None ↦ None ]) ≡ Some n → IsKey layout shards pages k n
   go (Some p) e h = record { parts = p; is_key = unpacked_is layout k p e; named = names shards pages p n h }
   go None e h = absurd (let z : None ≡ Some n = h in cc)
 
-packs : (layout : Layout) (shards pages k : ℕ) (n : Name) → IsKey layout shards pages k n → k
+packs : (layout : Layout) (shards pages k : ℕ) (n : KeyRef) → IsKey layout shards pages k n → k
     ≡ (keys_of layout shards pages).pack n
 unfolding keys_of
 packs layout shards pages k n h =
     let p = h.parts in
-    let s : n.page / pages ≡ p.shard = ap (λ (m : Name). m.page / pages) h.named.is
+    let s : n.page / pages ≡ p.shard = ap (λ (m : KeyRef). m.page / pages) h.named.is
     ∙ div-mul-add p.shard pages p.page h.named.page in
-    let q : n.page % pages ≡ p.page = ap (λ (m : Name). m.page % pages) h.named.is
+    let q : n.page % pages ≡ p.page = ap (λ (m : KeyRef). m.page % pages) h.named.is
     ∙ mod-mul-add p.shard pages p.page h.named.page in
-    let g : n.generation ≡ p.generation = ap (λ (m : Name). m.generation) h.named.is in
-    let t : n.slot ≡ p.slot = ap (λ (m : Name). m.slot) h.named.is in
+    let g : n.generation ≡ p.generation = ap (λ (m : KeyRef). m.generation) h.named.is in
+    let t : n.slot ≡ p.slot = ap (λ (m : KeyRef). m.slot) h.named.is in
     rw (s, q, g, t) (sym h.is_key.is)
 
-unpacks : (layout : Layout) (shards pages : ℕ) (n : Name) → 0 < pages → shards ≤ 2 ^ layout.shard_bits
+unpacks : (layout : Layout) (shards pages : ℕ) (n : KeyRef) → 0 < pages → shards ≤ 2 ^ layout.shard_bits
     → pages ≤ 2 ^ layout.page_bits → 0 < n.generation → n.generation ≤ layout.gen_max → n.page < shards * pages
     → n.slot < 48
     → (keys_of layout shards pages).unpack ((keys_of layout shards pages).pack n) ≡ Some n
@@ -76,7 +76,7 @@ unpacks layout shards pages n some few_shards few_pages low high page slot =
       page_fits = omega arith;
       slot_fits = omega arith;
     } in
-    ap (λ (o : Option Parts). elim o as (λ _. Option Name) [ Some p ↦ name_in shards pages p | None ↦ None ])
+    ap (λ (o : Option Parts). elim o as (λ _. Option KeyRef) [ Some p ↦ name_in shards pages p | None ↦ None ])
     (unpacked-packed layout p r)
     ∙ rw (lt-ltb (n.page / pages) shards s, lt-ltb (n.page % pages) pages q, div-add-mod' n.page pages) refl
 
@@ -97,12 +97,12 @@ plan_lawful layout n l s f =
       last_generation = last;
       few_pages = few_pages n s;
     } where
-      gen_le : (m : Name) → m.generation ≤ (keys_of layout n.shards (segment_pages * n.segments)).gen_max
+      gen_le : (m : KeyRef) → m.generation ≤ (keys_of layout n.shards (segment_pages * n.segments)).gen_max
           → m.generation ≤ layout.gen_max
       gen_le m h = h
 
-      begins : (k : ℕ) (m : Name) → IsKey layout n.shards (segment_pages * n.segments) k m → 0 < m.generation
-      begins k m h = let g : m.generation ≡ h.parts.generation = ap (λ (u : Name). u.generation) h.named.is
+      begins : (k : ℕ) (m : KeyRef) → IsKey layout n.shards (segment_pages * n.segments) k m → 0 < m.generation
+      begins k m h = let g : m.generation ≡ h.parts.generation = ap (λ (u : KeyRef). u.generation) h.named.is
           in let r = h.is_key.in_range.some_generation in omega arith
 
       gens : 0 < (keys_of layout n.shards (segment_pages * n.segments)).gen_max

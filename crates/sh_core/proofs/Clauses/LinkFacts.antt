@@ -8,7 +8,7 @@ use Rattle.sh_core.specs.Reads.{AllReadsAgree}
 use Rattle.sh_core.specs.LinkWords.{LinksOn, EachLinked}
 use Rattle.sh_core.specs.Lists.{PutLists, times}
 use Rattle.sh_core.specs.Placed.{Agreement}
-use Rattle.sh_core.specs.Stacks.{Chained, spot, link_to, ties_of, ring_ties, bell_link}
+use Rattle.sh_core.specs.Stacks.{Chained, slot_ref, link_to, ties_of, ring_ties, bell_link}
 use Rattle.sh_core.specs.InHeap.{AllInHeap}
 use Rattle.sh_core.specs.Worlds.{World}
 use Rattle.sh_core.proofs.Kept.PlacesInHeap.{belled}
@@ -46,10 +46,10 @@ module _ (plan : Plan) (w : World) (l : PutLists) (laws : Lawful plan) (all : Ag
     (within : AllInHeap plan w) where
   -- a slot is at most once on its page
   slot_link : (q s : ℕ) → 0 < times s (l.stack q) + times s (l.chain q)
-      → if1 (not (w.words.link_at q s == 0)) + total (ties_of (spot q s)) w.parts ≡ 1
+      → if1 (not (w.words.link_at q s == 0)) + total (ties_of (slot_ref q s)) w.parts ≡ 1
   slot_link q s some =
-      let fine = all.sums.slots (spot q s) in
-      let few = room_few w.words (spot q s) in
+      let fine = all.sums.slots (slot_ref q s) in
+      let few = room_few w.words (slot_ref q s) in
       let ties = all.lists.stacks.ties q s in omega arith
 
   -- a page is at most once on its bell or that bell's chain
@@ -68,9 +68,9 @@ module _ (plan : Plan) (w : World) (l : PutLists) (laws : Lawful plan) (all : Ag
   pub each_linked : EachLinked plan w l
   each_linked = record {
     stack = λ q. links_on _ _ _ (l.stack q) (all.lists.stacks.stacks q) (λ s some. slot_link q s (omega arith))
-        (λ s. no_ties (spot q s) w.parts);
+        (λ s. no_ties (slot_ref q s) w.parts);
     chain = λ q. links_on _ _ _ (l.chain q) (all.lists.stacks.chains q) (λ s some. slot_link q s (omega arith))
-        (λ s. no_ties (spot q s) w.parts);
+        (λ s. no_ties (slot_ref q s) w.parts);
     bell = λ n. links_on _ _ _ (l.bells n) (all.lists.bells.stacks n) (λ q some. page_link n q (omega arith))
         (λ q. no_ring_ties plan n q w.parts);
     bell_chain = λ n. links_on _ _ _ (l.bell_chain n) (all.lists.bells.chains n) (λ q some. page_link n q (omega arith))

@@ -2,7 +2,7 @@
 use Rattle.std.proofs.Common.{◌≡◌, ◌≢◌, ℕ, ◌%◌, ◌<◌, ◌≤◌, ◌==◌, Bool, true, false, refl, sym, ap, ◌∙◌, arith, Option}
 use Rattle.std.proofs.Common.{Some, None, slice_get, eq-eqb, eqb-true}
 use Rattle.std.proofs.lemmas.Bool.Decides.{nat_tests}
-use Rattle.sh_slots.specs.declared.hand.Spot.{Spot}
+use Rattle.sh_slots.specs.declared.hand.SlotRef.{SlotRef}
 use Rattle.sh_step.specs.Collections.{total, if1, noted}
 use Rattle.sh_step.specs.declared.body.Body.{Body}
 use Rattle.sh_step.specs.Plans.{Plan, Lawful, heap_pages, home}
@@ -12,12 +12,12 @@ use Rattle.sh_core.specs.Reads.{AllReadsAgree}
 use Rattle.sh_core.specs.Lists.{PutLists, times, mine_at, slots_under}
 use Rattle.sh_core.specs.Placed.{Agreement}
 use Rattle.sh_core.specs.Refines.{OneOwner, ShardlessHaveNothing, OwnStands}
-use Rattle.sh_core.specs.Stacks.{spot, cursor_at, bell_cursor_at, is_at, first_is}
+use Rattle.sh_core.specs.Stacks.{slot_ref, cursor_at, bell_cursor_at, is_at, first_is}
 use Rattle.sh_core.specs.Tallies.{room}
 use Rattle.sh_core.specs.InHeap.{AllInHeap}
 use Rattle.sh_core.specs.Worlds.{World}
 use Rattle.sh_core.proofs.Sums.ClassSlots.{room_under, room_placed}
-use Rattle.sh_core.proofs.Sums.ListCounts.{once_only, no_spots, no_numbers, no_notes, none_noted, noted_once}
+use Rattle.sh_core.proofs.Sums.ListCounts.{once_only, no_slot_refs, no_numbers, no_notes, none_noted, noted_once}
 use Rattle.sh_core.proofs.Sums.ListCounts.{times_noted, first_few, first_one, first_times, noted_at}
 use Rattle.sh_core.proofs.Lists.ListsSteps.{alone_armed}
 use Rattle.sh_core.proofs.Slots.SlotSums.{room_few}
@@ -68,7 +68,7 @@ module _ (plan : Plan) (w : World) (l : PutLists) (all : Agreement plan w l) whe
   shardless a p at none =
       let h = all.lists.own_notes a p at in
       let off : (q : ℕ) → owned_by plan p.owned q ≡ false = λ q. ap (λ (o : Option ℕ). owned_by plan o q) none in (
-        no_spots p.mine (λ x. h.mines x (off x.page)),
+        no_slot_refs p.mine (λ x. h.mines x (off x.page)),
         no_notes p.cursors (λ q s. h.points q s (off q)),
         no_numbers p.armed (λ q. h.arms q (off q)),
         h.bell none,
@@ -85,11 +85,11 @@ module _ (plan : Plan) (w : World) (l : PutLists) (laws : Lawful plan) (all : Ag
   own_or false n some h = let z = h refl in absurd (omega arith)
 
   -- a slot that has room is one of a page of the heap
-  placed : (x : Spot) → 0 < room w.words x → (x.page < heap_pages plan)
+  placed : (x : SlotRef) → 0 < room w.words x → (x.page < heap_pages plan)
       × (x.slot < slots_under (w.words.class_at x.page))
   placed x some = ((room_placed plan w.words x all.bounds some).0, room_under w.words x some)
 
-  own_mine : (x : Spot) → 0 < mine_at x p → (mine_at x p ≡ 1) × (own plan p x.page ≡ true) × (x.page < heap_pages plan)
+  own_mine : (x : SlotRef) → 0 < mine_at x p → (mine_at x p ≡ 1) × (own plan p x.page ≡ true) × (x.page < heap_pages plan)
       × (x.slot < slots_under (w.words.class_at x.page))
   own_mine x some =
       let t = total_at (mine_at x) w.parts a p at in
@@ -108,15 +108,15 @@ module _ (plan : Plan) (w : World) (l : PutLists) (laws : Lawful plan) (all : Ag
       in omega arith
 
   own_cursor : (q s : ℕ) → noted q p.cursors ≡ Some s → (own plan p q ≡ true) × (q < heap_pages plan)
-      × (s < slots_under (w.words.class_at q)) × (mine_at (spot q s) p ≡ 0)
+      × (s < slots_under (w.words.class_at q)) × (mine_at (slot_ref q s) p ≡ 0)
   own_cursor q s is =
       let here = noted_at q s p.cursors is in
       let f = cursor_first q s in
       let t = first_times (l.chain q) s in
-      let fine = all.sums.slots (spot q s) in
-      let few = room_few w.words (spot q s) in
-      let there = placed (spot q s) (omega arith) in
-      let m = total_at (mine_at (spot q s)) w.parts a p at in (
+      let fine = all.sums.slots (slot_ref q s) in
+      let few = room_few w.words (slot_ref q s) in
+      let there = placed (slot_ref q s) (omega arith) in
+      let m = total_at (mine_at (slot_ref q s)) w.parts a p at in (
         own_or (own plan p q) (cursor_at q s p) here (λ e. (all.lists.own_notes a p at).points q s e),
         there.0,
         there.1,

@@ -3,24 +3,24 @@ use Rattle.std.proofs.Common.{◌≡◌, ℕ, ◌+◌, ◌-◌, ◌<◌, ◌≤�
 use Rattle.std.proofs.Common.{◌∙◌, subst, arith, Option, Some, None, slice_get, eqb-true, lt-ltb, le-ltb}
 use Rattle.std.specs.Prelude.{not, nat_lt}
 use Rattle.std.proofs.lemmas.Bool.Decides.{nat_tests}
-use Rattle.sh_slots.specs.declared.hand.Spot.{Spot}
-use Rattle.sh_slots.specs.declared.hand.Name.{Name}
+use Rattle.sh_slots.specs.declared.hand.SlotRef.{SlotRef}
+use Rattle.sh_slots.specs.declared.hand.KeyRef.{KeyRef}
 use Rattle.sh_word.specs.Fields.{Fields, fields_of}
 use Rattle.sh_step.specs.Plans.{Plan, home, Lawful, over_heap}
-use Rattle.sh_slots.specs.Slots.{spot_of, spots}
+use Rattle.sh_slots.specs.Slots.{slot_ref_of, slot_refs}
 use Rattle.sh_step.specs.Collections.{total, if1}
 use Rattle.sh_step.specs.declared.body.Body.{Body}
 use Rattle.sh_core.specs.Lists.{PutLists, times, mine_at, no_lists, state_of, accounts, slots_under}
-use Rattle.sh_core.specs.Stacks.{spot, ties_of, cursor_at, ring_ties, bell_cursor_at}
+use Rattle.sh_core.specs.Stacks.{slot_ref, ties_of, cursor_at, ring_ties, bell_cursor_at}
 use Rattle.sh_core.specs.Bells.{rings, armed_at, owns}
 use Rattle.sh_core.specs.Placed.{OwnNotesOf, Agreement}
 use Rattle.sh_step.specs.Rows.{owned_by}
 use Rattle.sh_core.specs.Worlds.{World, open_world, value_at}
-use Rattle.sh_core.specs.Tallies.{held, lost, at_spot, current, stale}
+use Rattle.sh_core.specs.Tallies.{held, lost, at_slot, current, stale}
 use Rattle.sh_core.specs.Stories.{values}
 use Rattle.sh_core.specs.Refines.{OneKind, KindsAddUp, Filled, Counted, holds_now, LeftEmpty}
 use Rattle.sh_core.proofs.Sums.Totals.{total_at, total_plus, zero_all, total_le}
-use Rattle.sh_core.proofs.Slots.Slots.{same_spot-refl}
+use Rattle.sh_core.proofs.Slots.Slots.{same_slot-refl}
 use Rattle.sh_core.proofs.Slots.CrowdedAndClass.{three, accounts_fill}
 use Rattle.sh_core.proofs.Sums.ClassSlots.{under_class, under_class_word, room_is}
 use Rattle.sh_core.proofs.Clauses.OpenSums.{sums_open, none_new, part_new}
@@ -37,7 +37,7 @@ all_open plan laws = record {
       stacks = λ q. tt;
       chains = λ q. tt;
       ties = λ q s. let z = none_new
-          (ties_of (spot q s)) plan.passes refl in omega arith;
+          (ties_of (slot_ref q s)) plan.passes refl in omega arith;
       cursors = λ q s. none_new (cursor_at q s) plan.passes refl;
     };
     bells = record {
@@ -78,7 +78,7 @@ all_open plan laws = record {
 -- a blank page has no slots to count
 blank_fills : (w : World) (l : PutLists) (q : ℕ) → w.words.class_at q ≡ 0 → let a = accounts w l q
     in a.live + (a.marked + (a.retired + (a.mine + (a.hand + a.queued)))) ≡ slots_under (w.words.class_at q)
-unfolding accounts total spots
+unfolding accounts total slot_refs
 blank_fills w l q e = rw e refl
 
 module _ (plan : Plan) (w : World) (l : PutLists) (all : Agreement plan w l) where
@@ -110,13 +110,13 @@ module _ (plan : Plan) (w : World) (l : PutLists) (all : Agreement plan w l) whe
       ≡ 0
   some_total f g h xs e = zero_all f g xs (λ j x _. h x) e
 
-  pub held_stands : (a : ℕ) (p : Body) (k : ℕ) (n : Name) → slice_get w.parts a ≡ Some p → 0 < times k p.holds
+  pub held_stands : (a : ℕ) (p : Body) (k : ℕ) (n : KeyRef) → slice_get w.parts a ≡ Some p → 0 < times k p.holds
       → plan.keys.unpack k ≡ Some n →
-      ((state_of w (spot_of n)).present ≡ true) × ((state_of w (spot_of n)).generation ≡ n.generation)
+      ((state_of w (slot_ref_of n)).present ≡ true) × ((state_of w (slot_ref_of n)).generation ≡ n.generation)
       × (values k w.log ≡ value_at w.words n.page n.slot ∷ [])
   held_stands a p k n at some name = go (current st (Some n)) refl where
-    x : Spot
-    x = spot_of n
+    x : SlotRef
+    x = slot_ref_of n
 
     st : Fields
     st = state_of w x
@@ -130,7 +130,7 @@ module _ (plan : Plan) (w : World) (l : PutLists) (all : Agreement plan w l) whe
       at_key false e = refl
       at_key true e =
           let i = eqb-true j k e in
-          let s : stale st x (plan.keys.unpack j) ≡ 1 = rw (i, name, same_spot-refl x, c) refl in absurd (omega arith)
+          let s : stale st x (plan.keys.unpack j) ≡ 1 = rw (i, name, same_slot-refl x, c) refl in absurd (omega arith)
 
     parts : (b : Bool) (g h : ℕ) → (b && (g == h)) ≡ true → (b ≡ true) × (h ≡ g)
     parts true g h e = (refl, sym (eqb-true g h e))
@@ -162,19 +162,19 @@ module _ (plan : Plan) (w : World) (l : PutLists) (all : Agreement plan w l) whe
         each : (p : Body) → held plan x p ≤ holds_now plan x (state_of w x) p + lost plan x (state_of w x) p
         each p =
             let st : Fields = state_of w x in
-            let t = total_le (λ k. if1 (at_spot x (plan.keys.unpack k)))
-            (λ k. if1 (at_spot x (plan.keys.unpack k) && current st (plan.keys.unpack k)) + stale st x
+            let t = total_le (λ k. if1 (at_slot x (plan.keys.unpack k)))
+            (λ k. if1 (at_slot x (plan.keys.unpack k) && current st (plan.keys.unpack k)) + stale st x
             (plan.keys.unpack k))
-            (λ k. let s = split (at_spot x (plan.keys.unpack k)) (current st (plan.keys.unpack k)) in omega arith)
+            (λ k. let s = split (at_slot x (plan.keys.unpack k)) (current st (plan.keys.unpack k)) in omega arith)
             p.holds in
-            let u = total_plus (λ k. if1 (at_spot x (plan.keys.unpack k) && current st (plan.keys.unpack k)))
+            let u = total_plus (λ k. if1 (at_slot x (plan.keys.unpack k) && current st (plan.keys.unpack k)))
             (λ k. stale st x (plan.keys.unpack k)) p.holds in omega arith
 
         fewer : (p : Body) → holds_now plan x (state_of w x) p ≤ held plan x p
         fewer p = let st : Fields = state_of w x in total_le
-            (λ k. if1 (at_spot x (plan.keys.unpack k) && current st (plan.keys.unpack k)))
-            (λ k. if1 (at_spot x (plan.keys.unpack k)))
-            (λ k. let s = split (at_spot x (plan.keys.unpack k)) (current st (plan.keys.unpack k)) in omega arith)
+            (λ k. if1 (at_slot x (plan.keys.unpack k) && current st (plan.keys.unpack k)))
+            (λ k. if1 (at_slot x (plan.keys.unpack k)))
+            (λ k. let s = split (at_slot x (plan.keys.unpack k)) (current st (plan.keys.unpack k)) in omega arith)
             p.holds
 
   pub left_empty : LeftEmpty plan w

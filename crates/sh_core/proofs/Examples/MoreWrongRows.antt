@@ -3,7 +3,7 @@ use Rattle.std.proofs.Common.{◌≡◌, ℕ, ◌+◌, ◌<◌, ◌≤◌, ◌�
 use Rattle.std.proofs.Common.{Option, Some, None, slice_get, ⊎_elim}
 use Rattle.std.specs.Prelude.{IsSome}
 use Rattle.sh_history.specs.History.{value_of}
-use Rattle.sh_slots.specs.declared.hand.Name.{Name}
+use Rattle.sh_slots.specs.declared.hand.KeyRef.{KeyRef}
 use Rattle.sh_slots.specs.declared.hand.Hand.TheVariants.{Leaving, Finishing, Filling}
 use Rattle.sh_step.specs.declared.action.Action.TheVariants.{EnterGet, EnterRemove, DropHold, FillSlot, Fill, Publish}
 use Rattle.sh_step.specs.declared.action.Action.TheVariants.{Drop, Mark, Finish, ReadClass, ReadLength, ReadPage}
@@ -19,7 +19,7 @@ use Rattle.sh_core.specs.Lists.{times}
 use Rattle.sh_core.specs.Refines.{KindsAddUp, Filled, HeldStands, NotesAreTrue, HoldsAreTold, CountIsFew, PastIsRemoved}
 use Rattle.sh_core.specs.Refines.{KeysAreTold, RetiredIsLast, OneOwner, LeftEmpty, ShardlessHaveNothing, Linked}
 use Rattle.sh_core.specs.Refines.{FillsAreKeys, ReadsWithin}
-use Rattle.sh_core.specs.Stacks.{spot}
+use Rattle.sh_core.specs.Stacks.{slot_ref}
 use Rattle.sh_core.specs.Variants.{step_by, run_from_by, run_by, list_step_by, lists_from_by, AlwaysBy}
 use Rattle.sh_core.specs.Worlds.{World, value_at}
 use Rattle.sh_core.specs.WrongRows.{ignores_room, forgets_last_slot, never_retires, leaves_slots, leaves_bell}
@@ -38,14 +38,14 @@ unfolding everything step_by run_from_by list_step_by lists_from_by retires_earl
     never_retires leaves_slots leaves_bell ties_first
 more_wrongly = 0
 
-abbrev first : ℕ → Name
+abbrev first : ℕ → KeyRef
 first g = record { page = 0; slot = 0; generation = g }
 
 pub first_is_not_last : ¬ AlwaysBy retires_early (λ plan w l. RetiredIsLast plan w)
 unfolding more_wrongly
 first_is_not_last = refuted retires_early (λ plan w l. RetiredIsLast plan w) 1 (omega arith) (omega arith)
     (three_slots ++ inserted 0 ++ removed 0 4096)
-    (λ h. let z : 1 ≡ 3 = h (spot 0 0) refl refl in absurd (omega arith))
+    (λ h. let z : 1 ≡ 3 = h (slot_ref 0 0) refl refl in absurd (omega arith))
 
 pub skipped_was_never_issued : ¬ AlwaysBy skips_generation (λ plan w l. PastIsRemoved plan w)
 unfolding more_wrongly
@@ -65,9 +65,9 @@ pub leaver_has_slots : ¬ AlwaysBy leaves_slots (λ plan w l. ShardlessHaveNothi
 unfolding more_wrongly
 leaver_has_slots = refuted leaves_slots (λ plan w l. ShardlessHaveNothing w) 1 (omega arith) (omega arith)
     (three_slots ++ ev 0 Leave ∷ [])
-    (λ h. let z : spot 0 0 ∷ spot 0 1 ∷ spot 0 2 ∷ [] ≡ [] = (h 0 (record newcomer {
+    (λ h. let z : slot_ref 0 0 ∷ slot_ref 0 1 ∷ slot_ref 0 2 ∷ [] ≡ [] = (h 0 (record newcomer {
       classes = (0, 8) ∷ (0, 0) ∷ [];
-      mine = spot 0 0 ∷ spot 0 1 ∷ spot 0 2 ∷ [];
+      mine = slot_ref 0 0 ∷ slot_ref 0 1 ∷ slot_ref 0 2 ∷ [];
     }) refl refl).0 in cc)
 
 pub left_page_is_armed : ¬ AlwaysBy leaves_bell (λ plan w l. LeftEmpty plan w)
@@ -95,14 +95,14 @@ released_is_held = refuted keeps_hold (λ plan w l. HoldsAreTold w) 1 (omega ari
     (λ h. let z : 1 ≡ 1 + 1 = h.together 4096 in absurd (omega arith))
 
 -- the words of a held key with this name are its value
-stored : (plan : Plan) (w : World) (a : ℕ) (p : Body) (k : ℕ) (n : Name) → HeldStands plan w → slice_get w.parts a
+stored : (plan : Plan) (w : World) (a : ℕ) (p : Body) (k : ℕ) (n : KeyRef) → HeldStands plan w → slice_get w.parts a
     ≡ Some p → 0 < times k p.holds → plan.keys.unpack k ≡ Some n
     → value_of w.log k ≡ Some (value_at w.words n.page n.slot)
 stored plan w a p k n h at some name =
     let s = h a p k at some in
     let e : Some s.name ≡ Some n = sym s.unpacks ∙ name in
     let i : s.name ≡ n = cc in
-    let P : Name → Type 0 = λ y. value_of w.log k ≡ Some (value_at w.words y.page y.slot) in subst P i s.value
+    let P : KeyRef → Type 0 = λ y. value_of w.log k ≡ Some (value_at w.words y.page y.slot) in subst P i s.value
 
 abbrev refilling : List Event
 refilling = three_slots ++ ev 0 (FillSlot (slot 0 0 0) (5 ∷ [])) ∷ ev 0 Fill ∷ ev 0 Publish ∷ ev 0 (EnterGet 4096) ∷
@@ -114,7 +114,7 @@ held_value_changes = refuted fills_any_slot (λ plan w l. HeldStands plan w) 1 (
     (λ h.
     let some : 0 < 1 = omega arith in
     let z : Some (5 ∷ []) ≡ Some (6 ∷ []) = stored (small 1) (run_by fills_any_slot (small 1) refilling) 0
-    (record owner { holds = 4096 ∷ []; hand = Filling (spot 0 0) (6 ∷ []) 1 }) 4096 (first 1) h refl some refl in
+    (record owner { holds = 4096 ∷ []; hand = Filling (slot_ref 0 0) (6 ∷ []) 1 }) 4096 (first 1) h refl some refl in
     absurd (let no : ⊥ = cc in no))
 
 pub noted_class_is_not_its : ¬ AlwaysBy reads_wrong_class (λ plan w l. NotesAreTrue plan w)
@@ -136,15 +136,15 @@ abbrev latecomer : Body
 latecomer = record newcomer {
   owned = Some 0;
   classes = (0, 8) ∷ (0, 0) ∷ [];
-  mine = spot 0 0 ∷ spot 0 1 ∷ spot 0 2 ∷ [];
-  hand = Leaving (spot 0 0);
+  mine = slot_ref 0 0 ∷ slot_ref 0 1 ∷ slot_ref 0 2 ∷ [];
+  hand = Leaving (slot_ref 0 0);
 }
 
 pub count_goes_below_0 : ¬ AlwaysBy enters_uncounted (λ plan w l. CountsFit plan w)
 unfolding more_wrongly
 count_goes_below_0 = refuted enters_uncounted (λ plan w l. CountsFit plan w) 1 (omega arith) (omega arith)
     (three_slots ++ ev 0 (EnterGet 4096) ∷ [])
-    (λ h. let z : 1 ≤ 0 = h 0 latecomer Drop (drop_hand latecomer (spot 0 0)) refl refl in absurd (omega arith))
+    (λ h. let z : 1 ≤ 0 = h 0 latecomer Drop (drop_hand latecomer (slot_ref 0 0)) refl refl in absurd (omega arith))
 
 -- seventeen words
 abbrev long : List ℕ
@@ -158,7 +158,7 @@ unfolding more_wrongly
 long_value_does_not_fit = refuted fits_any_length (λ plan w l. ValuesFit plan w) 1 (omega arith) (omega arith)
     (three_slots ++ ev 0 (FillSlot (slot 0 0 0) long) ∷ ev 0 Fill ∷ four_fills ++ four_fills ++ four_fills
     ++ four_fills ++ ev 0 Publish ∷ [])
-    (λ h. let z : 17 ≤ 16 = (h (spot 0 0) refl).4 in absurd (omega arith))
+    (λ h. let z : 17 ≤ 16 = (h (slot_ref 0 0) refl).4 in absurd (omega arith))
 
 pub bell_names_no_page : ¬ AlwaysBy rings_far (λ plan w l. BellsAreSmall plan w)
 unfolding more_wrongly
@@ -167,13 +167,13 @@ bell_names_no_page = refuted rings_far (λ plan w l. BellsAreSmall plan w) 2 (om
     (λ h. let z : 101 ≤ 8 = h.0 0 in absurd (omega arith))
 
 abbrev stray : Body
-stray = record newcomer { hand = Leaving (spot 100 0) }
+stray = record newcomer { hand = Leaving (slot_ref 100 0) }
 
 pub step_is_outside : ¬ AlwaysBy leaves_elsewhere (λ plan w l. StepsWithin plan w)
 unfolding more_wrongly
 step_is_outside = refuted leaves_elsewhere (λ plan w l. StepsWithin plan w) 2 (omega arith) (omega arith)
     (three_slots ++ ev 1 (EnterRemove 4096) ∷ [])
-    (λ h. let z : 100 < 8 = (h 1 stray Drop (drop_hand stray (spot 100 0)) refl refl).0 in absurd (omega arith))
+    (λ h. let z : 100 < 8 = (h 1 stray Drop (drop_hand stray (slot_ref 100 0)) refl refl).0 in absurd (omega arith))
 
 -- two pages on one bell
 pub page_under_it_is_lost : ¬ AlwaysBy ties_ring_as_end (λ plan w l. Linked plan w l)
@@ -189,13 +189,13 @@ unfolding more_wrongly
 sixth_count_is_too_many = refuted ignores_room (λ plan w l. CountIsFew plan w) 1 (omega arith) (omega arith)
     (three_slots ++ inserted 0 ++ ev 0 (EnterGet 4096) ∷ ev 0 (EnterGet 4096) ∷ ev 0 (EnterGet 4096) ∷
     ev 0 (EnterGet 4096) ∷ ev 0 (EnterGet 4096) ∷ ev 0 (EnterGet 4096) ∷ [])
-    (λ h. let z : 6 ≤ 5 = h (spot 0 0) in absurd (omega arith))
+    (λ h. let z : 6 ≤ 5 = h (slot_ref 0 0) in absurd (omega arith))
 
 pub forgotten_slot_adds_up_twice : ¬ AlwaysBy forgets_last_slot (λ plan w l. KindsAddUp w l)
 unfolding more_wrongly
 forgotten_slot_adds_up_twice = refuted forgets_last_slot (λ plan w l. KindsAddUp w l) 1 (omega arith) (omega arith)
     (three_slots ++ inserted 2 ++ ev 0 (SetClass (page 0 0) 6) ∷ [])
-    (λ h. let z : 2 ≡ 1 = h (spot 0 2) in absurd (omega arith))
+    (λ h. let z : 2 ≡ 1 = h (slot_ref 0 2) in absurd (omega arith))
 
 pub page_has_a_slot_too_many : ¬ AlwaysBy forgets_last_slot (λ plan w l. Filled w l)
 unfolding more_wrongly
@@ -208,7 +208,7 @@ unfolding more_wrongly
 fourth_generation_is_no_key = refuted never_retires (λ plan w l. FillsAreKeys plan w) 1 (omega arith) (omega arith)
     (three_slots ++ inserted 0 ++ removed 0 4096 ++ inserted 0 ++ removed 0 8192 ++ inserted 0 ++ removed 0 12288
     ++ ev 0 (FillSlot (slot 0 0 0) []) ∷ [])
-    (λ h. let z : None ≡ Some (first 4) = h 0 (record owner { hand = Filling (spot 0 0) [] 0 }) (spot 0 0) [] 0 refl
+    (λ h. let z : None ≡ Some (first 4) = h 0 (record owner { hand = Filling (slot_ref 0 0) [] 0 }) (slot_ref 0 0) [] 0 refl
     refl
     in cc)
 
@@ -234,14 +234,14 @@ noted_class_is_read_by = refuted reads_wrong_class (λ plan w l. ReadsWithin pla
 
 -- a value is about to be published in a fourth generation
 abbrev publisher : Body
-publisher = record owner { hand = Filling (spot 0 0) [] 0 }
+publisher = record owner { hand = Filling (slot_ref 0 0) [] 0 }
 
 pub fourth_generation_is_issued : ¬ AlwaysBy never_retires (λ plan w l. IssuesKeys plan w)
 unfolding more_wrongly
 fourth_generation_is_issued = refuted never_retires (λ plan w l. IssuesKeys plan w) 1 (omega arith) (omega arith)
     (three_slots ++ inserted 0 ++ removed 0 4096 ++ inserted 0 ++ removed 0 8192 ++ inserted 0 ++ removed 0 12288
     ++ ev 0 (FillSlot (slot 0 0 0) []) ∷ [])
-    (λ h. let z : None ≡ Some (first 4) = h 0 publisher Publish (publish (small 1) publisher (spot 0 0) []) 16384 [] 0 0
+    (λ h. let z : None ≡ Some (first 4) = h 0 publisher Publish (publish (small 1) publisher (slot_ref 0 0) []) 16384 [] 0 0
     refl refl refl refl in cc)
 
 -- the state word of a marked slot in its first generation, on which one pass is left
@@ -249,11 +249,11 @@ abbrev left_word : ℕ
 left_word = 7516192769
 
 abbrev finisher : Body
-finisher = record owner { hand = Finishing (spot 0 0) left_word }
+finisher = record owner { hand = Finishing (slot_ref 0 0) left_word }
 
 pub end_of_a_word_is_no_word : ¬ AlwaysBy ends_whole_word (λ plan w l. StoresWords plan w)
 unfolding more_wrongly
 end_of_a_word_is_no_word = refuted ends_whole_word (λ plan w l. StoresWords plan w) 1 (omega arith) (omega arith)
     (three_slots ++ inserted 0 ++ ev 0 (EnterRemove 4096) ∷ ev 0 Mark ∷ ev 0 Drop ∷ [])
     (λ h. let z : 32281802137581649920 < 18446744073709551616 = h 0 finisher Finish
-    (finish (small 1) finisher (spot 0 0) left_word) refl refl in absurd (omega arith))
+    (finish (small 1) finisher (slot_ref 0 0) left_word) refl refl in absurd (omega arith))

@@ -4,9 +4,9 @@ use Rattle.std.proofs.Common.{cond, Some, None, slice_get}
 use Rattle.sh_history.specs.declared.entry.Entry.TheVariants.{Insert, Crowded, Removed}
 use Rattle.sh_history.specs.History.{Legal}
 use Rattle.sh_key.specs.Layouts.{tiny, tiny_numbers}
-use Rattle.sh_slots.specs.declared.hand.Name.{Name}
+use Rattle.sh_slots.specs.declared.hand.KeyRef.{KeyRef}
 use Rattle.sh_slots.specs.declared.hand.Hand.TheVariants.{Removing, Finishing}
-use Rattle.sh_slots.specs.Slots.{spot_of, live_at}
+use Rattle.sh_slots.specs.Slots.{slot_ref_of, live_at}
 use Rattle.sh_step.specs.declared.action.Action.TheVariants.{EnterGet, EnterRemove, Mark, Drop, DropHold, Finish}
 use Rattle.sh_step.specs.declared.action.Action.TheVariants.{FillSlot, Publish, ReadClass, ReadPage, SetClass, Take}
 use Rattle.sh_step.specs.declared.action.Action.TheVariants.{Follow, Put, Tie, Adopt, Leave, Arm, Ring, RingTie}
@@ -20,7 +20,7 @@ use Rattle.sh_step.specs.Rows.{Row, enter_get}
 use Rattle.sh_core.specs.Worlds.{World, step, run_from, run, open_world}
 use Rattle.sh_step.specs.Parts.{newcomer}
 use Rattle.sh_core.specs.Lists.{PutLists, list_step, lists_from, lists_of, no_lists, state_of, times}
-use Rattle.sh_core.specs.Stacks.{spot}
+use Rattle.sh_core.specs.Stacks.{slot_ref}
 use Rattle.sh_core.specs.Refines.{Always, OneKind, HeldStands, NotesAreTrue, Counted, GenerationsEnd, Finished, Armed}
 use Rattle.sh_core.specs.Refines.{LeftEmpty, Linked, OwnPartsStand, ClassesAreKnown, HoldsAreFew, FlaggedAreEmpty}
 use Rattle.sh_core.specs.Refines.{KeysInHandName, GoesOn}
@@ -117,13 +117,13 @@ wrapped_generation_issues_twice = refuted wraps_generation IsLegal 1 (omega arit
     ≡ None = t.1.1.1.1.1.1.0 in cc)
 
 -- the value of a held key with this name is in its slot
-present : (plan : Plan) (w : World) (a : ℕ) (p : Body) (k : ℕ) (n : Name) → HeldStands plan w → slice_get w.parts a
-    ≡ Some p → 0 < times k p.holds → plan.keys.unpack k ≡ Some n → (state_of w (spot_of n)).present ≡ true
+present : (plan : Plan) (w : World) (a : ℕ) (p : Body) (k : ℕ) (n : KeyRef) → HeldStands plan w → slice_get w.parts a
+    ≡ Some p → 0 < times k p.holds → plan.keys.unpack k ≡ Some n → (state_of w (slot_ref_of n)).present ≡ true
 present plan w a p k n h at some name =
     let s = h a p k at some in
     let e : Some s.name ≡ Some n = sym s.unpacks ∙ name in
     let i : s.name ≡ n = cc in
-    let P : Name → Type 0 = λ y. (state_of w (spot_of y)).present ≡ true in subst P i s.present
+    let P : KeyRef → Type 0 = λ y. (state_of w (slot_ref_of y)).present ≡ true in subst P i s.present
 
 -- a held value is lost if a late end overwrites the state word
 abbrev overwriting : List Event
@@ -135,7 +135,7 @@ holder = record newcomer {
   holds = 8192 ∷ [];
   owned = Some 0;
   classes = (0, 8) ∷ (0, 0) ∷ [];
-  mine = spot 0 1 ∷ spot 0 2 ∷ [];
+  mine = slot_ref 0 1 ∷ slot_ref 0 2 ∷ [];
 }
 
 pub ignored_count_loses_held : ¬ AlwaysBy ignores_count (λ plan w l. HeldStands plan w)
@@ -189,7 +189,7 @@ silent_freer_loses_ring = refuted never_rings Armed 2 (omega arith) (omega arith
 pub leaver_keeps_slots : ¬ AlwaysBy leaves_slots (λ plan w l. LeftEmpty plan w)
 unfolding wrongly
 leaver_keeps_slots = refuted leaves_slots (λ plan w l. LeftEmpty plan w) 1 (omega arith) (omega arith)
-    (three_slots ++ ev 0 Leave ∷ []) (λ h. let z : 1 ≡ 0 = (h 0 refl).0 (spot 0 0) refl in absurd (omega arith))
+    (three_slots ++ ev 0 Leave ∷ []) (λ h. let z : 1 ≡ 0 = (h 0 refl).0 (slot_ref 0 0) refl in absurd (omega arith))
 
 -- a slot with a value is its owner's too if its page gets another class
 pub forgotten_slot_has_two_kinds : ¬ AlwaysBy forgets_last_slot (λ plan w l. OneKind w l)
@@ -197,7 +197,7 @@ unfolding wrongly
 forgotten_slot_has_two_kinds = refuted forgets_last_slot (λ plan w l. OneKind w l) 1 (omega arith) (omega arith)
     (three_slots ++ inserted 2 ++ ev 0 (SetClass (page 0 0) 6) ∷ []) (λ h.
     let small : 2 < 4 = omega arith in
-    let z : 2 ≡ 1 = (h (spot 0 2) 6 refl).0 small in absurd (omega arith))
+    let z : 2 ≡ 1 = (h (slot_ref 0 2) 6 refl).0 small in absurd (omega arith))
 
 -- a key with room for one more hold is not crowded if it may have four
 abbrev getting : List Event
@@ -232,14 +232,14 @@ pub stayed_count_is_nobodys : ¬ AlwaysBy marks_and_stays (λ plan w l. Counted 
 unfolding wrongly
 stayed_count_is_nobodys = refuted marks_and_stays (λ plan w l. Counted plan w) 1 (omega arith) (omega arith)
     (three_slots ++ inserted 0 ++ ev 0 (EnterRemove 4096) ∷ ev 0 Mark ∷ [])
-    (λ h. let z : 1 ≡ 0 = h (spot 0 0) in absurd (omega arith))
+    (λ h. let z : 1 ≡ 0 = h (slot_ref 0 0) in absurd (omega arith))
 
 -- a marked slot that no pass finishes
 pub forgotten_end_never_comes : ¬ AlwaysBy drops_and_forgets (λ plan w l. Finished plan w)
 unfolding wrongly
 forgotten_end_never_comes = refuted drops_and_forgets (λ plan w l. Finished plan w) 1 (omega arith) (omega arith)
     (three_slots ++ inserted 0 ++ ev 0 (EnterRemove 4096) ∷ ev 0 Mark ∷ ev 0 Drop ∷ [])
-    (λ h. let z : 0 < 0 = h (spot 0 0) refl refl refl in absurd (omega arith))
+    (λ h. let z : 0 < 0 = h (slot_ref 0 0) refl refl refl in absurd (omega arith))
 
 -- the class of a key that is no longer held
 abbrev knowing : List Event
@@ -249,7 +249,7 @@ abbrev knower : Body
 knower = record newcomer {
   owned = Some 0;
   classes = (0, 8) ∷ (0, 0) ∷ [];
-  mine = spot 0 1 ∷ spot 0 2 ∷ [];
+  mine = slot_ref 0 1 ∷ slot_ref 0 2 ∷ [];
   class_words =
       (4096, 8) ∷ [];
 }
@@ -264,7 +264,7 @@ pub unretired_slot_has_no_key : ¬ AlwaysBy never_retires (λ plan w l. Generati
 unfolding wrongly
 unretired_slot_has_no_key = refuted never_retires (λ plan w l. GenerationsEnd plan w) 1 (omega arith) (omega arith)
     (three_slots ++ inserted 0 ++ removed 0 4096 ++ inserted 0 ++ removed 0 8192 ++ inserted 0 ++ removed 0 12288)
-    (λ h. let z : 4 ≤ 3 = (h (spot 0 0)).1 in absurd (omega arith))
+    (λ h. let z : 4 ≤ 3 = (h (slot_ref 0 0)).1 in absurd (omega arith))
 
 -- a slot that is twice among its owner's
 abbrev collected : List Event
@@ -275,7 +275,7 @@ unfolding wrongly
 followed_twice_is_mine_twice = refuted follows_twice (λ plan w l. OneKind w l) 2 (omega arith) (omega arith) collected
     (λ h.
     let small : 0 < 3 = omega arith in
-    let z : 2 ≡ 1 = (h (spot 0 0) 7 refl).0 small in absurd (omega arith))
+    let z : 2 ≡ 1 = (h (slot_ref 0 0) 7 refl).0 small in absurd (omega arith))
 
 -- no pass follows what was rung for if its owner left
 abbrev pub ringing : List Event
@@ -315,7 +315,7 @@ flag_stays_over_slot = refuted keeps_flag (λ plan w l. FlaggedAreEmpty w l) 2 (
 
 -- what is in hand names nothing: generation 1 is no key
 abbrev pub owner : Body
-owner = record newcomer { owned = Some 0; classes = (0, 8) ∷ (0, 0) ∷ []; mine = spot 0 1 ∷ spot 0 2 ∷ [] }
+owner = record newcomer { owned = Some 0; classes = (0, 8) ∷ (0, 0) ∷ []; mine = slot_ref 0 1 ∷ slot_ref 0 2 ∷ [] }
 
 pub generation_is_no_key : ¬ AlwaysBy remembers_generation (λ plan w l. KeysInHandName plan w)
 unfolding wrongly
@@ -325,13 +325,13 @@ generation_is_no_key = refuted remembers_generation (λ plan w l. KeysInHandName
 
 -- an end that is tried again and again
 abbrev ender : Body
-ender = record owner { hand = Finishing (spot 0 0) 1 }
+ender = record owner { hand = Finishing (slot_ref 0 0) 1 }
 
 pub end_may_never_come : ¬ AlwaysBy tries_again (λ plan w l. GoesOn tries_again plan w)
 unfolding wrongly
 end_may_never_come = refuted tries_again (λ plan w l. GoesOn tries_again plan w) 1 (omega arith) (omega arith)
     (three_slots ++ inserted 0 ++ ev 0 (EnterRemove 4096) ∷ ev 0 Mark ∷ ev 0 Drop ∷ [])
-    (λ h. let z : 5 < 5 = (h 0 ender refl (λ e. cc)).1 Finish (finish_again (small 1) ender (spot 0 0) 1) refl 0
+    (λ h. let z : 5 < 5 = (h 0 ender refl (λ e. cc)).1 Finish (finish_again (small 1) ender (slot_ref 0 0) 1) refl 0
     in absurd (omega arith))
 
 -- a get that never returns

@@ -14,7 +14,7 @@ use Rattle.sh_shape.specs.declared.places.Place.TheVariants.{Bell}
 use Rattle.sh_slots.specs.declared.hand.Hand.TheVariants.{Removing}
 use Rattle.sh_slots.specs.declared.reply.Reply.{Reply}
 use Rattle.sh_slots.specs.declared.reply.Reply.TheVariants as reply
-use Rattle.sh_slots.specs.Slots.{spot_of, marked_word, retired_word, reusable_word}
+use Rattle.sh_slots.specs.Slots.{slot_ref_of, marked_word, retired_word, reusable_word}
 use Rattle.sh_step.specs.declared.body.Body.{Body}
 use Rattle.sh_step.specs.Operations.{operate}
 use Rattle.sh_step.specs.Plans.{Plan}
@@ -104,7 +104,7 @@ module _ (plan : Plan) (w : World) (l : PutLists) (all : Agreement plan w l) (a 
       let n : ℕ = w.words.state_at x.page x.slot in
       let here : slice_get w.parts a ≡ Some (hand p (Removing k)) = at
       ∙ ap (λ (u : Body). Some u) (λ j. record p { hand = is j }) in
-      let c = is_current _ _ (fields_of n) plan w.parts a p k x named.unpacks here (all.sums.slots (spot_of x)) in
+      let c = is_current _ _ (fields_of n) plan w.parts a p k x named.unpacks here (all.sums.slots (slot_ref_of x)) in
       λ none some. absurd (let f : (fields_of (bit_or n (2 ^ 31))).present
       ≡ (fields_of n).present = ap (λ (f : Fields). f.present) (fields_of-or_mark n) in let z : true
       ≡ false = sym c.0 ∙ (sym f ∙ none) in cc)

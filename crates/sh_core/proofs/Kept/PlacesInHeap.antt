@@ -5,25 +5,25 @@ use Rattle.std.proofs.Math.Nat.{div-lt_iff_lt-mul}
 use Rattle.sh_word.specs.Fields.{fields_of}
 use Rattle.sh_shape.specs.Classes.{width}
 use Rattle.sh_shape.proofs.ClassLaws.{slots_few, slot_words_fit_page}
-use Rattle.sh_slots.specs.declared.hand.Spot.{Spot}
-use Rattle.sh_slots.specs.declared.hand.Name.{Name}
+use Rattle.sh_slots.specs.declared.hand.SlotRef.{SlotRef}
+use Rattle.sh_slots.specs.declared.hand.KeyRef.{KeyRef}
 use Rattle.sh_slots.specs.declared.hand.Hand.{Hand}
 use Rattle.sh_slots.specs.declared.hand.Hand.TheVariants.{Removing, Leaving, Finishing, ToPut, Tying, Ringing}
 use Rattle.sh_slots.specs.declared.hand.Hand.TheVariants.{RingTying, Filling}
-use Rattle.sh_slots.specs.Slots.{spot_of, same_spot}
+use Rattle.sh_slots.specs.Slots.{slot_ref_of, same_slot}
 use Rattle.sh_step.specs.declared.body.Body.{Body}
 use Rattle.sh_step.specs.Collections.{if1, has, noted}
 use Rattle.sh_core.specs.Words.{read}
 use Rattle.sh_core.specs.Worlds.{World}
 use Rattle.sh_core.specs.Lists.{PutLists, times, in_hand}
-use Rattle.sh_core.specs.Tallies.{visits, held, at_spot}
-use Rattle.sh_core.specs.Stacks.{spot, first_is, cursor_at, bell_cursor_at, is_at}
+use Rattle.sh_core.specs.Tallies.{visits, held, at_slot}
+use Rattle.sh_core.specs.Stacks.{slot_ref, first_is, cursor_at, bell_cursor_at, is_at}
 use Rattle.sh_core.specs.Bells.{armed_at}
 use Rattle.sh_core.specs.Placed.{Agreement}
 use Rattle.sh_core.specs.Reads.{AllReadsAgree}
 use Rattle.sh_core.specs.InHeap.{AllInHeap, HasPlace, StepsWithin, CountFits, CountsFit}
 use Rattle.sh_core.proofs.Sums.Totals.{total_at, total_without, some_part}
-use Rattle.sh_core.proofs.Slots.Slots.{same_spot-refl}
+use Rattle.sh_core.proofs.Slots.Slots.{same_slot-refl}
 use Rattle.sh_core.proofs.Slots.SlotSums.{room_to_enter}
 use Rattle.sh_core.proofs.Clauses.HeldStands.{reads}
 use Rattle.sh_step.specs.declared.moves.Move.{Move}
@@ -57,13 +57,13 @@ module _ (plan : Plan) (w : World) (l : PutLists) (laws : Lawful plan) (all : Ag
       let one : times s (l.chain q) ≡ if1 (s == s) + times s (drop 1 (l.chain q)) = rw chain
       (times_cons s s (drop 1 (l.chain q))) in
       let two = if1_self s in
-      let f = all.sums.slots (spot q s) in
-      let r = room_placed plan w.words (spot q s) all.bounds (omega arith) in
+      let f = all.sums.slots (slot_ref q s) in
+      let r = room_placed plan w.words (slot_ref q s) all.bounds (omega arith) in
       let few = slots_few (w.words.class_at q - 1) in
       let r1 = r.1 in omega arith
 
   -- if a value is being filled in
-  filling : (a : ℕ) (p : Body) (x : Spot) (v : List ℕ) (i : ℕ) → slice_get w.parts a ≡ Some p → p.hand ≡ Filling x v i
+  filling : (a : ℕ) (p : Body) (x : SlotRef) (v : List ℕ) (i : ℕ) → slice_get w.parts a ≡ Some p → p.hand ≡ Filling x v i
       → i < length v → x.slot * width (class_word_noted p x.page - 1) + i < 48
   filling a p x v i at is less =
       let P : Hand → Type 0 = λ h. FillAgrees w.words p h in
@@ -71,12 +71,12 @@ module _ (plan : Plan) (w : World) (l : PutLists) (laws : Lawful plan) (all : Ag
       let fits = fine.fits in
       let t = total_at (in_hand x) w.parts a p at in
       let Q : Hand → Type 0 = λ h. (elim h as (λ _. ℕ) [
-        | ToPut y ↦ if1 (same_spot x y)
+        | ToPut y ↦ if1 (same_slot x y)
         | Filling y v n
-            ↦ if1 (same_spot x y)
+            ↦ if1 (same_slot x y)
         | _ ↦ 0
       ]) ≡ 1 in
-      let here : in_hand x p ≡ 1 = subst Q (sym is) (rw (same_spot-refl x) refl) in
+      let here : in_hand x p ≡ 1 = subst Q (sym is) (rw (same_slot-refl x) refl) in
       let f = all.sums.slots x in
       let r = room_placed plan w.words x all.bounds (omega arith) in
       rw fine.class_is (slot_words_fit_page (w.words.class_at x.page - 1) x.slot i r.1 (omega arith))
@@ -153,32 +153,32 @@ module _ (plan : Plan) (w : World) (l : PutLists) (laws : Lawful plan) (all : Ag
   steps_within a p x r at e = by_move plan p x r (λ u. HasPlace plan u.place) e (λ m may. place_of a p m at may)
 
   -- the count under a visit, and under a hold
-  visited : (a : ℕ) (p : Body) (x : Spot) → slice_get w.parts a ≡ Some p → p.hand ≡ Leaving x
+  visited : (a : ℕ) (p : Body) (x : SlotRef) → slice_get w.parts a ≡ Some p → p.hand ≡ Leaving x
       → 1 ≤ (fields_of (w.words.state_at x.page x.slot)).count
   visited a p x at is =
       let Q : Hand → Type 0 = λ h. (elim h as (λ _. ℕ) [
-        | Removing k ↦ if1 (at_spot x (plan.keys.unpack k))
+        | Removing k ↦ if1 (at_slot x (plan.keys.unpack k))
         | Leaving y
-            ↦ if1 (same_spot x y)
+            ↦ if1 (same_slot x y)
         | _ ↦ 0
       ]) ≡ 1 in
-      let here : visits plan x p ≡ 1 = subst Q (sym is) (rw (same_spot-refl x) refl) in
+      let here : visits plan x p ≡ 1 = subst Q (sym is) (rw (same_slot-refl x) refl) in
       let t = total_at (visits plan x) w.parts a p at in
       let f = all.sums.slots x in omega arith
 
-  held_count : (a : ℕ) (p : Body) (k : ℕ) (y : Name) → slice_get w.parts a ≡ Some p → plan.keys.unpack k ≡ Some y
+  held_count : (a : ℕ) (p : Body) (k : ℕ) (y : KeyRef) → slice_get w.parts a ≡ Some p → plan.keys.unpack k ≡ Some y
       → has (λ j. j == k) p.holds ≡ true → 1 ≤ (fields_of (w.words.state_at y.page y.slot)).count
   held_count a p k y at name is =
-      let x : Spot = spot_of y in
-      let here : if1 (at_spot x (plan.keys.unpack k)) ≡ 1 = rw (name, same_spot-refl x) refl in
-      let less = total_without (λ j. if1 (at_spot x (plan.keys.unpack j))) (λ j. j == k) 1
+      let x : SlotRef = slot_ref_of y in
+      let here : if1 (at_slot x (plan.keys.unpack k)) ≡ 1 = rw (name, same_slot-refl x) refl in
+      let less = total_without (λ j. if1 (at_slot x (plan.keys.unpack j))) (λ j. j == k) 1
       (λ j t. let i : j ≡ k = eqb-true j k t in rw i here) p.holds is in
       let t = total_at (held plan x) w.parts a p at in
       let f = all.sums.slots x in omega arith
 
   pub moves_count : (a : ℕ) (p : Body) → slice_get w.parts a ≡ Some p → MovesCount plan w p
-  moves_count a p at (EnterGet k x) may = room_to_enter plan w l (spot_of x) laws all.sums
-  moves_count a p at (EnterRemove k x) may = room_to_enter plan w l (spot_of x) laws all.sums
+  moves_count a p at (EnterGet k x) may = room_to_enter plan w l (slot_ref_of x) laws all.sums
+  moves_count a p at (EnterRemove k x) may = room_to_enter plan w l (slot_ref_of x) laws all.sums
   moves_count a p at (Drop x) is = visited a p x at is
   moves_count a p at (DropHold k x) (idle, named, is) = held_count a p k x at named.unpacks is
   moves_count a p at m may = tt

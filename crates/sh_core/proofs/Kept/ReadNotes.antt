@@ -1,14 +1,14 @@
 -- What a pass knows of its keys stays true.
 use Rattle.std.proofs.Common.{◌≡◌, ℕ, ◌+◌, ◌-◌, ◌<◌, ◌==◌, ◌&&◌, ◌||◌, ⊎_elim, Bool, true, false, cond, List, ◌∷◌, ◌++◌}
 use Rattle.std.proofs.Common.{length, sym, refl, ap, ◌∙◌, subst, arith, Some, slice_get, eqb-true}
-use Rattle.sh_slots.specs.declared.hand.Spot.{Spot}
-use Rattle.sh_slots.specs.declared.hand.Name.{Name}
+use Rattle.sh_slots.specs.declared.hand.SlotRef.{SlotRef}
+use Rattle.sh_slots.specs.declared.hand.KeyRef.{KeyRef}
 use Rattle.sh_slots.specs.declared.hand.Hand.{Hand}
 use Rattle.sh_core.specs.Words.{Words, write, put, put2, read}
 use Rattle.sh_shape.specs.declared.places.Place.TheVariants.{Class, State, Length}
 use Rattle.sh_word.specs.Fields.{fields_of}
 use Rattle.sh_shape.specs.Classes.{slots}
-use Rattle.sh_slots.specs.Slots.{same_spot, spots, live_at, has_room, spot_of, after_drop}
+use Rattle.sh_slots.specs.Slots.{same_slot, slot_refs, live_at, has_room, slot_ref_of, after_drop}
 use Rattle.sh_step.specs.Collections.{if1, has, without, noted, off}
 use Rattle.sh_step.specs.declared.body.Body.{Body}
 use Rattle.sh_core.specs.Lists.{PutLists, times, mine_at}
@@ -17,7 +17,7 @@ use Rattle.sh_step.specs.Operations.{operate}
 use Rattle.sh_core.specs.Worlds.{World, apply}
 use Rattle.sh_core.specs.Reads.{ReadsAgreeOf, AllReadsAgree}
 use Rattle.sh_core.proofs.Sums.Totals.{total_at, get_set}
-use Rattle.sh_core.proofs.Slots.Slots.{same_spot-true}
+use Rattle.sh_core.proofs.Slots.Slots.{same_slot-true}
 use Rattle.sh_core.proofs.Slots.SlotSums.{room_few}
 use Rattle.sh_core.proofs.Slots.ClassSums.{room_mine, empty_page}
 use Rattle.sh_core.proofs.Clauses.RunRefines.{held_stands}
@@ -42,7 +42,7 @@ Three p u = (u.holds ≡ p.holds) × (u.class_words ≡ p.class_words) × (u.len
 
 -- the words that a step leaves to the keys that passes hold
 abbrev HeldWordsStay : Plan → World → Words → Type 0
-HeldWordsStay plan w W = (b : ℕ) (u : Body) (k : ℕ) (n : Name) → slice_get w.parts b ≡ Some u → 0 < times k u.holds
+HeldWordsStay plan w W = (b : ℕ) (u : Body) (k : ℕ) (n : KeyRef) → slice_get w.parts b ≡ Some u → 0 < times k u.holds
     → plan.keys.unpack k ≡ Some n → (W.class_at n.page ≡ w.words.class_at n.page)
     × (W.length_at n.page n.slot ≡ w.words.length_at n.page n.slot)
 
@@ -94,12 +94,12 @@ module _ (plan : Plan) (w : World) (l : PutLists) (a : ℕ) (p : Body) (all : Ag
       }
 
   -- a held key's slot has a value
-  there : (b : ℕ) (u : Body) (k : ℕ) (n : Name) → slice_get w.parts b ≡ Some u → 0 < times k u.holds
+  there : (b : ℕ) (u : Body) (k : ℕ) (n : KeyRef) → slice_get w.parts b ≡ Some u → 0 < times k u.holds
       → plan.keys.unpack k ≡ Some n → (fields_of (w.words.state_at n.page n.slot)).present ≡ true
   there b u k n h s e = (held_stands plan w l all b u k n h s e).0
 
   -- one more hold
-  get_knows : (k : ℕ) (x : Name) → plan.keys.unpack k ≡ Some x → x.page < heap_pages plan → x.slot < 48 → (W : Words)
+  get_knows : (k : ℕ) (x : KeyRef) → plan.keys.unpack k ≡ Some x → x.page < heap_pages plan → x.slot < 48 → (W : Words)
       → W.class_at ≡ w.words.class_at → W.length_at ≡ w.words.length_at
       → ReadsAgreeOf plan W (record p { holds = k ∷ p.holds })
   get_knows k x name page slot W c d = let o = three_knows W p (same_words W c d) (refl, refl, refl) in record {
@@ -109,7 +109,7 @@ module _ (plan : Plan) (w : World) (l : PutLists) (a : ℕ) (p : Body) (all : Ag
     measured = λ j v h. let q = o.measured j v h in let t = times_cons j k p.holds in let q0 = q.0
         in (omega arith, q.1);
   } where
-    found : (j : ℕ) (b : Bool) → (k == j) ≡ b → 0 < times j (k ∷ p.holds) → ReadsAgreeOf plan W p → (n : Name)
+    found : (j : ℕ) (b : Bool) → (k == j) ≡ b → 0 < times j (k ∷ p.holds) → ReadsAgreeOf plan W p → (n : KeyRef)
         × (plan.keys.unpack j ≡ Some n) × (n.page < heap_pages plan) × (n.slot < 48)
     found j true e h o = let i = eqb-true k j e in (x, ap plan.keys.unpack (sym i) ∙ name, page, slot)
     found j false e h o = let t = times_cons j k p.holds in let z : if1 (k == j) ≡ 0 = rw e refl
@@ -141,7 +141,7 @@ module _ (plan : Plan) (w : World) (l : PutLists) (a : ℕ) (p : Body) (all : Ag
         (o.0, λ s. let t = times_without k j p.holds is in let z : if1 (k == j) ≡ 0 = rw o.1 refl in omega arith)
 
   -- the class of a held key is noted
-  notes_class : (k : ℕ) (x : Name) → plan.keys.unpack k ≡ Some x → has (λ j. j == k) p.holds ≡ true
+  notes_class : (k : ℕ) (x : KeyRef) → plan.keys.unpack k ≡ Some x → has (λ j. j == k) p.holds ≡ true
       → ReadsAgreeOf plan w.words (record p { class_words = (k, w.words.class_at x.page) ∷ p.class_words })
   unfolding noted
   notes_class k x name is = record { named = o.named; classed = λ j c h. go j c (k == j) refl h; measured = o.measured }
@@ -151,18 +151,18 @@ module _ (plan : Plan) (w : World) (l : PutLists) (a : ℕ) (p : Body) (all : Ag
 
       go : (j c : ℕ) (b : Bool) → (k == j) ≡ b
           → cond b (Some (w.words.class_at x.page)) (noted j p.class_words) ≡ Some c
-          → (0 < times j p.holds) × ((n : Name) → plan.keys.unpack j ≡ Some n → w.words.class_at n.page ≡ c)
+          → (0 < times j p.holds) × ((n : KeyRef) → plan.keys.unpack j ≡ Some n → w.words.class_at n.page ≡ c)
       go j c true e h =
           let i = eqb-true k j e in
           let t = has_some (λ j. j == k) p.holds is in
           let u : times k p.holds ≡ times j p.holds = ap (λ (z : ℕ). times z p.holds) i in (
             omega arith,
             λ n f. let g : Some x ≡ Some n = sym name ∙ ap plan.keys.unpack i ∙ f in let m : x ≡ n = cc
-                in let v : w.words.class_at x.page ≡ c = cc in ap (λ (y : Name). w.words.class_at y.page) (sym m) ∙ v,
+                in let v : w.words.class_at x.page ≡ c = cc in ap (λ (y : KeyRef). w.words.class_at y.page) (sym m) ∙ v,
           )
       go j c false e h = o.classed j c h
 
-  notes_length : (k : ℕ) (x : Name) → plan.keys.unpack k ≡ Some x → has (λ j. j == k) p.holds ≡ true
+  notes_length : (k : ℕ) (x : KeyRef) → plan.keys.unpack k ≡ Some x → has (λ j. j == k) p.holds ≡ true
       → ReadsAgreeOf plan w.words (record p { lengths = (k, w.words.length_at x.page x.slot) ∷ p.lengths })
   unfolding noted
   notes_length k x name is = record { named = o.named; classed = o.classed; measured = λ j c h. go j c (k == j) refl h }
@@ -171,7 +171,7 @@ module _ (plan : Plan) (w : World) (l : PutLists) (a : ℕ) (p : Body) (all : Ag
       o = old a p at
 
       go : (j c : ℕ) (b : Bool) → (k == j) ≡ b → cond b (Some (w.words.length_at x.page x.slot)) (noted j p.lengths)
-          ≡ Some c → (0 < times j p.holds) × ((n : Name) → plan.keys.unpack j ≡ Some n → w.words.length_at n.page n.slot
+          ≡ Some c → (0 < times j p.holds) × ((n : KeyRef) → plan.keys.unpack j ≡ Some n → w.words.length_at n.page n.slot
           ≡ c)
       go j c true e h =
           let i = eqb-true k j e in
@@ -180,7 +180,7 @@ module _ (plan : Plan) (w : World) (l : PutLists) (a : ℕ) (p : Body) (all : Ag
             omega arith,
             λ n f. let g : Some x ≡ Some n = sym name ∙ ap plan.keys.unpack i ∙ f in let m : x ≡ n = cc
                 in let v : w.words.length_at x.page x.slot ≡ c = cc
-                in ap (λ (y : Name). w.words.length_at y.page y.slot) (sym m) ∙ v,
+                in ap (λ (y : KeyRef). w.words.length_at y.page y.slot) (sym m) ∙ v,
           )
       go j c false e h = o.measured j c h
 
@@ -194,11 +194,11 @@ module _ (plan : Plan) (w : World) (l : PutLists) (a : ℕ) (p : Body) (all : Ag
       let P : Words → Type 0 = λ W. ReadsAgreeOf plan W (m.part (read w.words m.place)) in
       record { words = subst K (sym s) words_stay; part = subst P (sym s) k }
 
-  owes_fill_slot : (x : Spot) (v : List ℕ) → has (same_spot x) p.mine ≡ true → Owes plan w a p (fill_slot p x v)
+  owes_fill_slot : (x : SlotRef) (v : List ℕ) → has (same_slot x) p.mine ≡ true → Owes plan w a p (fill_slot p x v)
   owes_fill_slot x v is = record {
     words = stay;
     part = three_knows W
-        (hand (record p { mine = without (same_spot x) p.mine }) (Filling x v 0)) stay (refl, refl, refl);
+        (hand (record p { mine = without (same_slot x) p.mine }) (Filling x v 0)) stay (refl, refl, refl);
   } where
     W : Words
     W = write w.words (Length x.page x.slot) (length v)
@@ -207,19 +207,19 @@ module _ (plan : Plan) (w : World) (l : PutLists) (a : ℕ) (p : Body) (all : Ag
     none =
         let f = all.sums.slots x in
         let m = total_at (mine_at x) w.parts a p at in
-        let t = has_some (same_spot x) p.mine is in
+        let t = has_some (same_slot x) p.mine is in
         let r = room_few w.words x in (if1_neither (fields_of (w.words.state_at x.page x.slot)).present
         (fields_of (w.words.state_at x.page x.slot)).marked (omega arith)).0
 
     stay : HeldWordsStay plan w W
-    stay b u k n h s e = (refl, go (same_spot (spot_of n) x) refl) where
-      go : (c : Bool) → same_spot (spot_of n) x ≡ c → put2 w.words.length_at x.page x.slot (length v) n.page n.slot
+    stay b u k n h s e = (refl, go (same_slot (slot_ref_of n) x) refl) where
+      go : (c : Bool) → same_slot (slot_ref_of n) x ≡ c → put2 w.words.length_at x.page x.slot (length v) n.page n.slot
           ≡ w.words.length_at n.page n.slot
       go false f = put2_other w.words.length_at x.page x.slot (length v) n.page n.slot f
       go true f =
-          let i = same_spot-true x (spot_of n) f in
+          let i = same_slot-true x (slot_ref_of n) f in
           let t = there b u k n h s e in
-          let z : true ≡ false = sym t ∙ ap (λ (y : Spot). (fields_of (w.words.state_at y.page y.slot)).present) i
+          let z : true ≡ false = sym t ∙ ap (λ (y : SlotRef). (fields_of (w.words.state_at y.page y.slot)).present) i
           ∙ none in absurd (cc)
 
   owes_set_class : (q n c : ℕ) → own plan p q ≡ true → noted q p.classes ≡ Some n → ((n == 0) || all_mine p q n) ≡ true
@@ -227,7 +227,7 @@ module _ (plan : Plan) (w : World) (l : PutLists) (a : ℕ) (p : Body) (all : Ag
   owes_set_class q n c mine is full = record {
     words = stay;
     part = three_knows W
-        (record p { classes = (q, c + 1) ∷ p.classes; mine = spots q 0 (slots c) ++ off (λ x. x.page == q) p.mine })
+        (record p { classes = (q, c + 1) ∷ p.classes; mine = slot_refs q 0 (slots c) ++ off (λ x. x.page == q) p.mine })
         stay (refl, refl, refl);
   } where
     W : Words
@@ -240,7 +240,7 @@ module _ (plan : Plan) (w : World) (l : PutLists) (a : ℕ) (p : Body) (all : Ag
       go true f =
           let t = there b u k m h s e in
           let r = room_mine w.words p q n ((all.lists.own_notes a p at).notes q n mine is).0 full in
-          let z = (empty_page plan w l a p q c all.sums at r (spot_of m) (eqb-true m.page q f)).0 in
+          let z = (empty_page plan w l a p q c all.sums at r (slot_ref_of m) (eqb-true m.page q f)).0 in
           let y = (if1_neither (fields_of (w.words.state_at m.page m.slot)).present
           (fields_of (w.words.state_at m.page m.slot)).marked z).0 in
           let v : true ≡ false = sym t ∙ y in absurd (cc)
@@ -252,14 +252,14 @@ module _ (plan : Plan) (w : World) (l : PutLists) (a : ℕ) (p : Body) (all : Ag
       record {
         words = same_words W refl refl;
         part = cond_either (ReadsAgreeOf plan W) (live_at x.generation n && has_room plan.keys.guard_max n)
-            (record p { holds = k ∷ p.holds }) (hand p (Leaving (spot_of x)))
+            (record p { holds = k ∷ p.holds }) (hand p (Leaving (slot_ref_of x)))
             (get_knows k x named.unpacks named.page named.slot W refl refl)
-            (three_knows W (hand p (Leaving (spot_of x))) (same_words W refl refl) (refl, refl, refl));
+            (three_knows W (hand p (Leaving (slot_ref_of x))) (same_words W refl refl) (refl, refl, refl));
       }
   owes (DropHold k x) (idle, named, is) =
       let n : ℕ = w.words.state_at x.page x.slot in
       let W : Words = write w.words (State x.page x.slot) (n - 1) in
-      record { words = same_words W refl refl; part = drop_knows k is (after_drop (spot_of x) n) W refl refl }
+      record { words = same_words W refl refl; part = drop_knows k is (after_drop (slot_ref_of x) n) W refl refl }
   owes (FillSlot x v) (idle, inside, mine, is, classed, fits) = owes_fill_slot x v is
   owes (ReadClass k x) (idle, named, is) = owes_read (read_class p k x) refl (notes_class k x named.unpacks is)
   owes (ReadLength k x) (idle, named, is) = owes_read (read_length p k x) refl (notes_length k x named.unpacks is)

@@ -6,8 +6,8 @@ use Rattle.std.proofs.lemmas.Bool.Decides.{nat_tests}
 use Rattle.std.specs.Prelude.{nat_lt}
 use Rattle.sh_word.specs.Fields.{fields_of, word_of}
 use Rattle.sh_shape.specs.declared.places.Place.TheVariants.{State}
-use Rattle.sh_slots.specs.declared.hand.Spot.{Spot}
-use Rattle.sh_slots.specs.declared.hand.Name.{Name}
+use Rattle.sh_slots.specs.declared.hand.SlotRef.{SlotRef}
+use Rattle.sh_slots.specs.declared.hand.KeyRef.{KeyRef}
 use Rattle.sh_slots.specs.declared.hand.Hand.TheVariants.{Finishing, ToPut, Ringing, Filling}
 use Rattle.sh_slots.specs.declared.reply.Reply.{Reply}
 use Rattle.sh_slots.specs.declared.reply.Reply.TheVariants as reply
@@ -64,7 +64,7 @@ module _ (plan : Plan) (w : World) (laws : Lawful plan) (fills : FillsAreKeys pl
   bit_is_word : (n : ℕ) → n ≤ 1 → n < 2 ^ 64
   bit_is_word n h = omega arith
 
-  names_slot : (x : Spot) → x.slot < 48 → (x.slot + 1) * 2 < 2 ^ 64
+  names_slot : (x : SlotRef) → x.slot < 48 → (x.slot + 1) * 2 < 2 ^ 64
   names_slot x h = omega arith
 
   names_page : (q : ℕ) → q < heap_pages plan → local plan q + 1 < 2 ^ 64
@@ -107,13 +107,13 @@ module _ (plan : Plan) (w : World) (laws : Lawful plan) (fills : FillsAreKeys pl
         generation = (fields_of (read w.words r.place)).generation;
       })
 
-  published : (a : ℕ) (p : Body) (x : Spot) (v : List ℕ) (i : ℕ) → slice_get w.parts a ≡ Some p
+  published : (a : ℕ) (p : Body) (x : SlotRef) (v : List ℕ) (i : ℕ) → slice_get w.parts a ≡ Some p
       → p.hand ≡ Filling x v i → Issues (publish plan p x v)
   published a p x v i at is k u q s = go where
     g : ℕ
     g = (fields_of (w.words.state_at x.page x.slot)).generation
 
-    name_is : (y z : ℕ) → x.page ≡ y → x.slot ≡ z → ◌≡◌ {A = Name} (name_at x g)
+    name_is : (y z : ℕ) → x.page ≡ y → x.slot ≡ z → ◌≡◌ {A = KeyRef} (name_at x g)
         (record { page = y; slot = z; generation = g })
     name_is y z a b = λ i. record { page = a i; slot = b i; generation = g }
 
@@ -124,7 +124,7 @@ module _ (plan : Plan) (w : World) (laws : Lawful plan) (fills : FillsAreKeys pl
         let page : x.page ≡ q = cc in
         let slot : x.slot ≡ s = cc in
         let f : plan.keys.unpack (plan.keys.pack (name_at x g)) ≡ Some (name_at x g) = fills a p x v i at is in
-        ap plan.keys.unpack (sym key) ∙ (f ∙ ap (λ (n : Name). Some n) (name_is q s page slot))
+        ap plan.keys.unpack (sym key) ∙ (f ∙ ap (λ (n : KeyRef). Some n) (name_is q s page slot))
 
   issued : (a : ℕ) (p : Body) (m : Move) → slice_get w.parts a ≡ Some p → May plan p m → Issues (row_of plan p m)
   issued a p (EnterGet k x) at may = λ j u q s r d. nothing _ j u (get_issues_none k

@@ -3,9 +3,9 @@ use Rattle.std.proofs.Common.{◌≡◌, ℕ, ◌+◌, ◌%◌, ◌<◌, ◌≤�
 use Rattle.std.proofs.Common.{sym, ◌∙◌, subst, arith, Some, None, slice_get, eqb-true}
 use Rattle.std.specs.Prelude.{not, nat_lt}
 use Rattle.sh_word.specs.Fields.{fields_of}
-use Rattle.sh_slots.specs.declared.hand.Spot.{Spot}
+use Rattle.sh_slots.specs.declared.hand.SlotRef.{SlotRef}
 use Rattle.sh_slots.specs.declared.hand.Hand.{Hand}
-use Rattle.sh_slots.specs.Slots.{spot_of, live_at, after_drop, marked_word}
+use Rattle.sh_slots.specs.Slots.{slot_ref_of, live_at, after_drop, marked_word}
 use Rattle.sh_step.specs.declared.body.Body.{Body}
 use Rattle.sh_step.specs.Collections.{if1, without}
 use Rattle.sh_core.specs.Worlds.{World, apply, open_world}
@@ -27,7 +27,7 @@ use Rattle.sh_step.specs.declared.moves.Move.TheVariants.{Arm, Ring, RingTie, Fo
 use Rattle.sh_step.specs.Moves.{row_of}
 use Rattle.sh_step.specs.Plans.{Plan, heap_pages}
 use Rattle.sh_step.specs.Rows.{Row, own, hand as in_hand}
-use Rattle.sh_step.specs.Conditions.{May, SpotWithin}
+use Rattle.sh_step.specs.Conditions.{May, SlotWithin}
 use Rattle.sh_core.proofs.Sums.ListCounts.{times_cons, times_none, times_less}
 use Rattle.sh_core.proofs.Sums.Tests.{cond_either}
 
@@ -50,7 +50,7 @@ module _ (plan : Plan) (p : Body) (old : InHeap plan p) where
         in old.armed q (omega arith);
   }
 
-  within_drop : (x : Spot) (n : ℕ) → SpotWithin plan x → (fields_of n).generation ≤ plan.keys.gen_max
+  within_drop : (x : SlotRef) (n : ℕ) → SlotWithin plan x → (fields_of n).generation ≤ plan.keys.gen_max
       → HandWithin plan (after_drop x n)
   within_drop x n w few = go ((fields_of n).present && (fields_of n).marked && ((fields_of n).count == 1)) where
     go : (b : Bool) → HandWithin plan (cond b (Finishing x (fields_of n).generation) Idle)
@@ -65,19 +65,19 @@ module _ (plan : Plan) (p : Body) (old : InHeap plan p) where
       → InHeap plan ((row_of plan p m).part n)
   within_part (EnterGet k x) (idle, named, few) n f =
       cond_either (InHeap plan) (live_at x.generation n && nat_lt (fields_of n).count plan.keys.guard_max)
-      (record p { holds = k ∷ p.holds }) (in_hand p (Leaving (spot_of x)))
+      (record p { holds = k ∷ p.holds }) (in_hand p (Leaving (slot_ref_of x)))
       (stays (record p { holds = k ∷ p.holds }) old.hand refl (λ q. omega arith))
-      (stays (in_hand p (Leaving (spot_of x))) (named.page, named.slot) refl (λ q. omega arith))
+      (stays (in_hand p (Leaving (slot_ref_of x))) (named.page, named.slot) refl (λ q. omega arith))
   within_part (EnterRemove k x) (idle, named) n f = go (live_at x.generation n) where
-    go : (b : Bool) → InHeap plan (in_hand p (cond b (Removing k) (Leaving (spot_of x))))
+    go : (b : Bool) → InHeap plan (in_hand p (cond b (Removing k) (Leaving (slot_ref_of x))))
     go true = stays (in_hand p (Removing k)) (x, named) refl (λ q. omega arith)
-    go false = stays (in_hand p (Leaving (spot_of x))) (named.page, named.slot) refl (λ q. omega arith)
+    go false = stays (in_hand p (Leaving (slot_ref_of x))) (named.page, named.slot) refl (λ q. omega arith)
   within_part (Mark k x) (is, named) n f =
-      stays (in_hand p (Leaving (spot_of x))) (named.page, named.slot) refl (λ q. omega arith)
+      stays (in_hand p (Leaving (slot_ref_of x))) (named.page, named.slot) refl (λ q. omega arith)
   within_part (Drop x) is n f = stays (in_hand p (after_drop x n))
       (within_drop x n (hand_within plan p (Leaving x) old is) (f x.page x.slot refl)) refl (λ q. omega arith)
   within_part (DropHold k x) (idle, named, is) n f = record {
-    hand = within_drop (spot_of x) n (named.page, named.slot) (f x.page x.slot refl);
+    hand = within_drop (slot_ref_of x) n (named.page, named.slot) (f x.page x.slot refl);
     owned = old.owned;
     armed = old.armed;
   }

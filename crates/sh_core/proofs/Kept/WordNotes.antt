@@ -7,9 +7,9 @@ use Rattle.sh_history.specs.declared.entry.Entry.{Entry}
 use Rattle.sh_history.specs.History.{value_of}
 use Rattle.sh_history.proofs.LogLaws.{value_of-append_some}
 use Rattle.sh_shape.specs.Classes.{width}
-use Rattle.sh_slots.specs.declared.hand.Name.{Name}
+use Rattle.sh_slots.specs.declared.hand.KeyRef.{KeyRef}
 use Rattle.sh_slots.specs.declared.hand.Hand.TheVariants.{Leaving}
-use Rattle.sh_slots.specs.Slots.{spot_of, live_at}
+use Rattle.sh_slots.specs.Slots.{slot_ref_of, live_at}
 use Rattle.sh_step.specs.declared.body.Body.{Body}
 use Rattle.sh_step.specs.Collections.{if1, has, without, off, noted}
 use Rattle.sh_word.specs.Fields.{fields_of}
@@ -149,7 +149,7 @@ module _ (plan : Plan) (w : World) (l : PutLists) (a : ℕ) (p : Body) (all : Ag
         ∙ eq-eqb k k refl in let n : true ≡ false = sym y ∙ r.2 in absurd (cc)) (old r.0 x r.1)
 
   -- a word read of a held key's value
-  read_told : (k i : ℕ) (n : Name) (c m : ℕ) → plan.keys.unpack k ≡ Some n → noted k p.class_words ≡ Some c
+  read_told : (k i : ℕ) (n : KeyRef) (c m : ℕ) → plan.keys.unpack k ≡ Some n → noted k p.class_words ≡ Some c
       → noted k p.lengths ≡ Some m → has (λ j. j == k) p.holds ≡ true → i < m
       → WordNote w.log p.holds (k, i, w.words.payload_at n.page (n.slot * width (c - 1) + i))
   unfolding value_at
@@ -176,7 +176,7 @@ module _ (plan : Plan) (w : World) (l : PutLists) (a : ℕ) (p : Body) (all : Ag
 
   tells : (m : Move) → May plan p m → Tells (row_of plan p m)
   tells (EnterGet k x) may = get_tells k (live_at x.generation (w.words.state_at x.page x.slot) && nat_lt
-      (fields_of (w.words.state_at x.page x.slot)).count plan.keys.guard_max) (hand p (Leaving (spot_of x)))
+      (fields_of (w.words.state_at x.page x.slot)).count plan.keys.guard_max) (hand p (Leaving (slot_ref_of x)))
       (refl, refl)
   tells (DropHold k x) (idle, named, is) = drop_tells k is
   tells (ReadClass k x) may = same_told (record p { class_words = (k, w.words.class_at x.page) ∷ p.class_words })
@@ -233,7 +233,7 @@ notes plan w l all know told a p at = record {
   some_same u v h = cc
 
   value_length : (k m : ℕ) (v : List ℕ) → 0 < times k p.holds →
-      ((n : Name) → plan.keys.unpack k ≡ Some n → w.words.length_at n.page n.slot ≡ m) → value_of w.log k ≡ Some v
+      ((n : KeyRef) → plan.keys.unpack k ≡ Some n → w.words.length_at n.page n.slot ≡ m) → value_of w.log k ≡ Some v
       → length v ≡ m
   value_length k m v some measured is =
       let n = (know a p at).named k some in

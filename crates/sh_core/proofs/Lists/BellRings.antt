@@ -8,7 +8,7 @@ use Rattle.sh_step.specs.Plans.{Plan, home, local, over_heap}
 use Rattle.sh_step.specs.Collections.{total, if1}
 use Rattle.sh_step.specs.declared.body.Body.{Body}
 use Rattle.sh_core.specs.Lists.{PutLists, times}
-use Rattle.sh_core.specs.Stacks.{spot, tying, ties_of, cursor_at, ring_tying, ring_ties, bell_cursor_at, bell_link}
+use Rattle.sh_core.specs.Stacks.{slot_ref, tying, ties_of, cursor_at, ring_tying, ring_ties, bell_cursor_at, bell_link}
 use Rattle.sh_core.specs.Stacks.{bell_head}
 use Rattle.sh_core.specs.Bells.{rings, armed_at, owns}
 use Rattle.sh_core.specs.Placed.{ListsAgreeOf}
@@ -82,8 +82,8 @@ module _ (plan : Plan) (w : Words) (ps : List Body) (l : PutLists) (a : ℕ) (p 
   pub ring_agrees : ListsAgreeOf plan (write w (Bell ring_bell) (local plan q + 1)) (set ps a ring_after) ring_lists
   ring_agrees = record {
     stacks = chains_same _ _ _ _ _ _ _ _ _ _ _ _ _ _ old.stacks (λ q. refl) (λ q s. refl)
-        (λ q s. total_same (tying (spot q s)) ps a ring_before ring_after at refl)
-        (λ q s. total_same (ties_of (spot q s)) ps a ring_before ring_after at refl)
+        (λ q s. total_same (tying (slot_ref q s)) ps a ring_before ring_after at refl)
+        (λ q s. total_same (ties_of (slot_ref q s)) ps a ring_before ring_after at refl)
         (λ q s. total_same (cursor_at q s) ps a ring_before ring_after at refl) (λ q. refl) (λ q. refl);
     bells = chains_push (bell_head plan w.bell_at) (bell_head plan (put w.bell_at ring_bell (local plan q + 1)))
         (bell_link plan w.page_link_at) (λ m k. total (ring_tying plan m k) ps)
@@ -157,8 +157,8 @@ module _ (plan : Plan) (w : Words) (ps : List Body) (l : PutLists) (a : ℕ) (p 
   pub ring_tie_agrees : ListsAgreeOf plan (write w (PageLink q) n) (set ps a ring_tie_after) l
   ring_tie_agrees = record {
     stacks = chains_same _ _ _ _ _ _ _ _ _ _ _ _ _ _ old.stacks (λ q. refl) (λ q s. refl)
-        (λ q s. total_same (tying (spot q s)) ps a ring_tie_before ring_tie_after at refl)
-        (λ q s. total_same (ties_of (spot q s)) ps a ring_tie_before ring_tie_after at refl)
+        (λ q s. total_same (tying (slot_ref q s)) ps a ring_tie_before ring_tie_after at refl)
+        (λ q s. total_same (ties_of (slot_ref q s)) ps a ring_tie_before ring_tie_after at refl)
         (λ q s. total_same (cursor_at q s) ps a ring_tie_before ring_tie_after at refl) (λ q. refl) (λ q. refl);
     bells = chains_tie (bell_head plan w.bell_at) (bell_link plan w.page_link_at)
         (bell_link plan (put w.page_link_at q n)) (λ m k. total (ring_tying plan m k) ps)

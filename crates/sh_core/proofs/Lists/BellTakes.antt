@@ -11,7 +11,7 @@ use Rattle.sh_step.specs.Plans.{Plan, home, over_heap}
 use Rattle.sh_step.specs.Collections.{total, if1, without}
 use Rattle.sh_step.specs.declared.body.Body.{Body}
 use Rattle.sh_core.specs.Lists.{PutLists, times, bells_taken}
-use Rattle.sh_core.specs.Stacks.{spot, top, link_to, first_is, tying, ties_of, cursor_at, ring_tying, ring_ties, is_at}
+use Rattle.sh_core.specs.Stacks.{slot_ref, top, link_to, first_is, tying, ties_of, cursor_at, ring_tying, ring_ties, is_at}
 use Rattle.sh_core.specs.Stacks.{bell_cursor_at, bell_link, bell_head}
 use Rattle.sh_core.specs.Bells.{rings, armed_at, owns}
 use Rattle.sh_core.specs.Placed.{ListsAgreeOf}
@@ -68,8 +68,8 @@ module _ (plan : Plan) (w : Words) (ps : List Body) (l : PutLists) (a : ℕ) (p 
   unfolding total
   take_bell_agrees = record {
     stacks = chains_same _ _ _ _ _ _ _ _ _ _ _ _ _ _ old.stacks (λ q. refl) (λ q s. refl)
-        (λ q s. total_same (tying (spot q s)) ps a p take_bell_after at refl)
-        (λ q s. total_same (ties_of (spot q s)) ps a p take_bell_after at refl)
+        (λ q s. total_same (tying (slot_ref q s)) ps a p take_bell_after at refl)
+        (λ q s. total_same (ties_of (slot_ref q s)) ps a p take_bell_after at refl)
         (λ q s. total_same (cursor_at q s) ps a p take_bell_after at refl) (λ q. refl) (λ q. refl);
     bells = chains_take (bell_head plan w.bell_at) (bell_head plan (put w.bell_at n 0)) (bell_link plan w.page_link_at)
         (λ m k. total (ring_tying plan m k) ps) (λ m k. total (ring_tying plan m k) (set ps a take_bell_after))
@@ -238,8 +238,8 @@ module _ (plan : Plan) (w : Words) (ps : List Body) (l : PutLists) (a : ℕ) (p 
       (record l { bell_chain = put l.bell_chain n bell_left })
   follow_bell_agrees = record {
     stacks = chains_same _ _ _ _ _ _ _ _ _ _ _ _ _ _ old.stacks (λ q. refl) (λ q s. refl)
-        (λ q s. total_same (tying (spot q s)) ps a p follow_bell_after at refl)
-        (λ q s. total_same (ties_of (spot q s)) ps a p follow_bell_after at refl)
+        (λ q s. total_same (tying (slot_ref q s)) ps a p follow_bell_after at refl)
+        (λ q s. total_same (ties_of (slot_ref q s)) ps a p follow_bell_after at refl)
         (λ q s. total_same (cursor_at q s) ps a p follow_bell_after at refl) (λ q. refl) (λ q. refl);
     bells = chains_follow (bell_head plan w.bell_at) (bell_link plan w.page_link_at)
         (bell_link plan (put w.page_link_at q 0)) (λ m k. total (ring_tying plan m k) ps)

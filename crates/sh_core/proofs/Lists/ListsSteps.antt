@@ -3,15 +3,15 @@ use Rattle.std.proofs.Common.{◌≡◌, ◌≢◌, ℕ, ◌+◌, ◌-◌, ◌�
 use Rattle.std.proofs.Common.{set, sym, refl, ap, ◌∙◌, subst, arith, Option, Some, None, slice_get, eq-eqb}
 use Rattle.std.specs.Prelude.{nat_lt}
 use Rattle.std.proofs.lemmas.Bool.Decides.{nat_tests}
-use Rattle.sh_slots.specs.declared.hand.Spot.{Spot}
+use Rattle.sh_slots.specs.declared.hand.SlotRef.{SlotRef}
 use Rattle.sh_slots.specs.declared.hand.Hand.{Hand}
 use Rattle.sh_slots.specs.declared.hand.Hand.TheVariants.{Tying, RingTying}
 use Rattle.sh_step.specs.Plans.{Plan, home, over_heap}
-use Rattle.sh_slots.specs.Slots.{same_spot}
+use Rattle.sh_slots.specs.Slots.{same_slot}
 use Rattle.sh_step.specs.Collections.{total, if1}
 use Rattle.sh_step.specs.declared.body.Body.{Body}
 use Rattle.sh_core.specs.Lists.{PutLists}
-use Rattle.sh_core.specs.Stacks.{spot, top, link_to, first_is, tying, ties_of, cursor_at, ring_tying, ring_ties, is_at}
+use Rattle.sh_core.specs.Stacks.{slot_ref, top, link_to, first_is, tying, ties_of, cursor_at, ring_tying, ring_ties, is_at}
 use Rattle.sh_core.specs.Stacks.{bell_cursor_at}
 use Rattle.sh_core.specs.Bells.{rings, armed_at, owns}
 use Rattle.sh_core.specs.Placed.{OwnNotesOf, ListsAgreeOf}
@@ -36,8 +36,8 @@ pub record Face : Type 0 where
 
 abbrev pub face : Plan → Body → Face
 face plan p = record {
-  owed = λ q s. tying (spot q s) p;
-  tied = λ q s. ties_of (spot q s) p;
+  owed = λ q s. tying (slot_ref q s) p;
+  tied = λ q s. ties_of (slot_ref q s) p;
   cursor = λ q s. cursor_at q s p;
   bell_owed = λ n q. ring_tying plan n q p;
   bell_tied = λ n q. ring_ties plan n q p;
@@ -59,8 +59,8 @@ pub lists_frame : (plan : Plan) (w : Words) (ps : List Body) (l : PutLists) (a :
     → ListsAgreeOf plan w (set ps a p') l
 lists_frame plan w ps l a p p' r at same mine = record {
   stacks = chains_same _ _ _ _ _ _ _ _ _ _ _ _ _ _ r.stacks (λ q. refl) (λ q s. refl)
-      (λ q s. total_same (tying (spot q s)) ps a p p' at (ap (λ (f : Face). f.owed q s) same))
-      (λ q s. total_same (ties_of (spot q s)) ps a p p' at (ap (λ (f : Face). f.tied q s) same))
+      (λ q s. total_same (tying (slot_ref q s)) ps a p p' at (ap (λ (f : Face). f.owed q s) same))
+      (λ q s. total_same (ties_of (slot_ref q s)) ps a p p' at (ap (λ (f : Face). f.tied q s) same))
       (λ q s. total_same (cursor_at q s) ps a p p' at (ap (λ (f : Face). f.cursor q s) same)) (λ q. refl) (λ q. refl);
   bells = chains_same _ _ _ _ _ _ _ _ _ _ _ _ _ _ r.bells (λ q. refl) (λ q s. refl)
       (λ q s. total_same (ring_tying plan q s) ps a p p' at (ap (λ (f : Face). f.bell_owed q s) same))
@@ -125,13 +125,13 @@ module _ (plan : Plan) (w : Words) (ps : List Body) (l : PutLists) (a : ℕ) (p 
       owns_none plan u.owned q (omega arith)
 
 -- a pass that ties nothing has no link to store
-pub no_ties : (x : Spot) (ps : List Body) → total (ties_of x) ps ≡ 0 → total (tying x) ps ≡ 0
+pub no_ties : (x : SlotRef) (ps : List Body) → total (ties_of x) ps ≡ 0 → total (tying x) ps ≡ 0
 unfolding total
 no_ties x [] h = refl
 no_ties x (p ∷ ps) h = let one = each (p.hand) in let rest = no_ties x ps (omega arith) in let here = one (omega arith)
     in omega arith where
       each : (h : Hand) → ties_of x (hand p h) ≡ 0 → tying x (hand p h) ≡ 0
-      each (Tying y l r) e = go (same_spot x y) e where
+      each (Tying y l r) e = go (same_slot x y) e where
         go : (b : Bool) → if1 b ≡ 0 → cond b l 0 ≡ 0
         go true c = absurd (omega arith)
         go false c = refl

@@ -3,16 +3,16 @@ use Rattle.std.proofs.Common.{◌≡◌, ◌≢◌, ℕ, zero, suc, ◌+◌, ◌
 use Rattle.std.proofs.Common.{◌∷◌, ◌++◌, set, sym, refl, ap, ◌∙◌, subst, arith, Option, Some, None, slice_get, eqb-true}
 use Rattle.std.proofs.Common.{eq-eqb}
 use Rattle.std.proofs.lemmas.Bool.Decides.{nat_tests}
-use Rattle.sh_slots.specs.declared.hand.Spot.{Spot}
+use Rattle.sh_slots.specs.declared.hand.SlotRef.{SlotRef}
 use Rattle.sh_core.specs.Words.{Words, write, put}
 use Rattle.sh_shape.specs.declared.places.Place.TheVariants.{Class, Owner}
 use Rattle.sh_step.specs.Plans.{Plan, heap_pages}
 use Rattle.sh_shape.specs.Classes.{slots}
-use Rattle.sh_slots.specs.Slots.{same_spot, spots}
+use Rattle.sh_slots.specs.Slots.{same_slot, slot_refs}
 use Rattle.sh_step.specs.Collections.{total, if1, noted, off}
 use Rattle.sh_step.specs.declared.body.Body.{Body}
 use Rattle.sh_core.specs.Lists.{PutLists}
-use Rattle.sh_core.specs.Stacks.{spot, tying, ties_of, cursor_at, ring_tying, ring_ties, is_at, bell_cursor_at}
+use Rattle.sh_core.specs.Stacks.{slot_ref, tying, ties_of, cursor_at, ring_tying, ring_ties, is_at, bell_cursor_at}
 use Rattle.sh_core.specs.Bells.{rings, armed_at, owns}
 use Rattle.sh_core.specs.Placed.{OwnNotesOf, ListsAgreeOf}
 use Rattle.sh_step.specs.Rows.{own, owned_by}
@@ -32,8 +32,8 @@ pub lists_owner : (plan : Plan) (w : Words) (ps : List Body) (l : PutLists) (a :
     → OwnNotesOf plan w.class_at p' → ListsAgreeOf plan (write w (Owner n) m) (set ps a p') l
 lists_owner plan w ps l a p p' n m r at same cs bs arms own mine = record {
   stacks = chains_same _ _ _ _ _ _ _ _ _ _ _ _ _ _ r.stacks (λ q. refl) (λ q s. refl)
-      (λ q s. total_same (tying (spot q s)) ps a p p' at (rw same refl))
-      (λ q s. total_same (ties_of (spot q s)) ps a p p' at (rw same refl))
+      (λ q s. total_same (tying (slot_ref q s)) ps a p p' at (rw same refl))
+      (λ q s. total_same (ties_of (slot_ref q s)) ps a p p' at (rw same refl))
       (λ q s. total_same (cursor_at q s) ps a p p' at (cs q s)) (λ q. refl) (λ q. refl);
   bells = chains_same _ _ _ _ _ _ _ _ _ _ _ _ _ _ r.bells (λ q. refl) (λ q s. refl)
       (λ q s. total_same (ring_tying plan q s) ps a p p' at (rw same refl))
@@ -168,42 +168,42 @@ read_page_agrees plan w ps l a p q r at small =
           in (ap w.class_at (sym i) ∙ z, omega arith)
       go k c e false f h = (r.own_notes a p at).notes k c e h
 
-pub times_drop : (x : Spot) (q : ℕ) (xs : List Spot) → total (λ y. if1 (same_spot x y)) (off (λ y. y.page == q) xs)
-    ≡ cond (x.page == q) 0 (total (λ y. if1 (same_spot x y)) xs)
+pub times_drop : (x : SlotRef) (q : ℕ) (xs : List SlotRef) → total (λ y. if1 (same_slot x y)) (off (λ y. y.page == q) xs)
+    ≡ cond (x.page == q) 0 (total (λ y. if1 (same_slot x y)) xs)
 unfolding total off
 times_drop x q [] = go (x.page == q) where
   go : (b : Bool) → 0 ≡ cond {A = ℕ} b 0 0
   go true = refl
   go false = refl
 times_drop x q (y ∷ ys) = go (y.page == q) (x.page == q) refl refl (times_drop x q ys) where
-  apart : (x.page == q) ≡ false → (y.page == q) ≡ true → same_spot x y ≡ false
+  apart : (x.page == q) ≡ false → (y.page == q) ≡ true → same_slot x y ≡ false
   apart a b = let i = eqb-true y.page q b in let z : (x.page == y.page) ≡ false = rw i a in rw z refl
 
-  apart2 : (x.page == q) ≡ true → (y.page == q) ≡ false → same_spot x y ≡ false
+  apart2 : (x.page == q) ≡ true → (y.page == q) ≡ false → same_slot x y ≡ false
   apart2 a b = let i = eqb-true x.page q a in let z : (x.page == y.page) ≡ false = rw (eqb-comm x.page y.page, i) b
       in rw z refl
 
-  go : (b c : Bool) → (y.page == q) ≡ b → (x.page == q) ≡ c → total (λ y. if1 (same_spot x y))
-      (off (λ y. y.page == q) ys) ≡ cond c 0 (total (λ y. if1 (same_spot x y)) ys)
-      → total (λ y. if1 (same_spot x y)) (cond b (off (λ y. y.page == q) ys) (y ∷ off (λ y. y.page == q) ys))
-      ≡ cond c 0 (if1 (same_spot x y) + total (λ y. if1 (same_spot x y)) ys)
+  go : (b c : Bool) → (y.page == q) ≡ b → (x.page == q) ≡ c → total (λ y. if1 (same_slot x y))
+      (off (λ y. y.page == q) ys) ≡ cond c 0 (total (λ y. if1 (same_slot x y)) ys)
+      → total (λ y. if1 (same_slot x y)) (cond b (off (λ y. y.page == q) ys) (y ∷ off (λ y. y.page == q) ys))
+      ≡ cond c 0 (if1 (same_slot x y) + total (λ y. if1 (same_slot x y)) ys)
   go true true e f h = h
-  go true false e f h = let z : if1 (same_spot x y) ≡ 0 = rw (apart f e) refl in omega arith
-  go false true e f h = let z : if1 (same_spot x y) ≡ 0 = rw (apart2 f e) refl in omega arith
+  go true false e f h = let z : if1 (same_slot x y) ≡ 0 = rw (apart f e) refl in omega arith
+  go false true e f h = let z : if1 (same_slot x y) ≡ 0 = rw (apart2 f e) refl in omega arith
   go false false e f h = omega arith
 
 abbrev pub classed : Body → ℕ → ℕ → Body
 classed p q c = record p {
   classes = (q, c + 1) ∷ p.classes;
-  mine = spots q 0 (slots c)
+  mine = slot_refs q 0 (slots c)
       ++ off (λ x. x.page == q) p.mine;
 }
 
-pub spots_else : (x : Spot) (q s n : ℕ) → (x.page == q) ≡ false → total (λ y. if1 (same_spot x y)) (spots q s n) ≡ 0
-unfolding total spots
-spots_else x q s zero h = refl
-spots_else x q s (suc n) h = let r = spots_else x q (s + 1) n h in let z : if1
-    (same_spot x (record { page = q; slot = s })) ≡ 0 = rw h refl in omega arith
+pub slots_else : (x : SlotRef) (q s n : ℕ) → (x.page == q) ≡ false → total (λ y. if1 (same_slot x y)) (slot_refs q s n) ≡ 0
+unfolding total slot_refs
+slots_else x q s zero h = refl
+slots_else x q s (suc n) h = let r = slots_else x q (s + 1) n h in let z : if1
+    (same_slot x (record { page = q; slot = s })) ≡ 0 = rw h refl in omega arith
 
 pub set_class_agrees : (plan : Plan) (w : Words) (ps : List Body) (l : PutLists) (a : ℕ) (p : Body) (q c : ℕ)
     → ListsAgreeOf plan w ps l → slice_get ps a ≡ Some p → own plan p q ≡ true → q < heap_pages plan
@@ -212,8 +212,8 @@ unfolding total noted
 set_class_agrees plan w ps l a p q c r at mine small =
     record {
       stacks = chains_same _ _ _ _ _ _ _ _ _ _ _ _ _ _ r.stacks (λ q. refl) (λ q s. refl)
-          (λ q s. total_same (tying (spot q s)) ps a p p' at refl)
-          (λ q s. total_same (ties_of (spot q s)) ps a p p' at refl)
+          (λ q s. total_same (tying (slot_ref q s)) ps a p p' at refl)
+          (λ q s. total_same (ties_of (slot_ref q s)) ps a p p' at refl)
           (λ q s. total_same (cursor_at q s) ps a p p' at refl) (λ q. refl) (λ q. refl);
       bells = chains_same _ _ _ _ _ _ _ _ _ _ _ _ _ _ r.bells (λ q. refl) (λ q s. refl)
           (λ q s. total_same (ring_tying plan q s) ps a p p' at refl)
@@ -239,12 +239,12 @@ set_class_agrees plan w ps l a p q c r at mine small =
       here = record {
         mines = λ x e.
             let k : (x.page == q) ≡ false = eqb-comm x.page q ∙ apart_pages plan p.owned q x.page mine e in
-            let m : total (λ y. if1 (same_spot x y)) (off (λ y. y.page == q) p.mine)
-            ≡ total (λ y. if1 (same_spot x y)) p.mine = times_drop x q p.mine
-            ∙ ap (λ (b : Bool). cond b 0 (total (λ y. if1 (same_spot x y)) p.mine)) k in
+            let m : total (λ y. if1 (same_slot x y)) (off (λ y. y.page == q) p.mine)
+            ≡ total (λ y. if1 (same_slot x y)) p.mine = times_drop x q p.mine
+            ∙ ap (λ (b : Bool). cond b 0 (total (λ y. if1 (same_slot x y)) p.mine)) k in
             let z = o.mines x e in
-            let s = spots_else x q 0 (slots c) k in
-            let t = total_append (λ y. if1 (same_spot x y)) (spots q 0 (slots c)) (off (λ y. y.page == q) p.mine)
+            let s = slots_else x q 0 (slots c) k in
+            let t = total_append (λ y. if1 (same_slot x y)) (slot_refs q 0 (slots c)) (off (λ y. y.page == q) p.mine)
             in omega arith;
         points = o.points;
         arms = o.arms;

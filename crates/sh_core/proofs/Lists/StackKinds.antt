@@ -1,23 +1,23 @@
 -- What is kept of lists, bells, duties and owners, over Put, Tie, Take, Arm and Follow.
 use Rattle.std.proofs.Common.{◌≡◌, ℕ, ◌+◌, ◌*◌, ◌/◌, ◌%◌, ◌<◌, ◌≤◌, ◌==◌, ◌&&◌, Bool, true, false, cond, List, [], ◌∷◌}
 use Rattle.std.proofs.Common.{set, drop, sym, refl, ap, ◌∙◌, arith, Option, Some, None, slice_get, eqb-true, eq-eqb}
-use Rattle.sh_slots.specs.declared.hand.Spot.{Spot}
+use Rattle.sh_slots.specs.declared.hand.SlotRef.{SlotRef}
 use Rattle.sh_slots.specs.declared.hand.Hand.TheVariants.{Idle, Tying, Ringing}
 use Rattle.sh_core.specs.Words.{Words, write, put, put2}
 use Rattle.sh_shape.specs.declared.places.Place.TheVariants.{Head, Link}
 use Rattle.sh_step.specs.Plans.{Plan, home}
-use Rattle.sh_slots.specs.Slots.{same_spot}
+use Rattle.sh_slots.specs.Slots.{same_slot}
 use Rattle.sh_step.specs.Collections.{total, if1, noted}
 use Rattle.sh_step.specs.declared.body.Body.{Body}
 use Rattle.sh_core.specs.Lists.{PutLists, times, pushed, taken}
-use Rattle.sh_core.specs.Stacks.{spot, link_to, first_is, tying, ties_of, cursor_at, ring_tying, ring_ties}
+use Rattle.sh_core.specs.Stacks.{slot_ref, link_to, first_is, tying, ties_of, cursor_at, ring_tying, ring_ties}
 use Rattle.sh_core.specs.Stacks.{bell_cursor_at}
 use Rattle.sh_core.specs.Bells.{rings, armed_at, owns, Duty}
 use Rattle.sh_core.specs.Placed.{ListsAgreeOf}
 use Rattle.sh_step.specs.Rows.{hand, own, owned_by, point, unpoint}
 use Rattle.sh_core.specs.Tallies.{queued}
 use Rattle.sh_core.proofs.Sums.Totals.{total_same, total_set, total_at}
-use Rattle.sh_core.proofs.Slots.Slots.{same_spot-refl, if1_same_spot}
+use Rattle.sh_core.proofs.Slots.Slots.{same_slot-refl, if1_same_slot}
 use Rattle.sh_core.proofs.Lists.StackSteps.{chains_same, chains_push, chains_tie, chains_take, chains_follow}
 use Rattle.sh_core.proofs.Lists.StackSteps.{chain_link, tied_owes}
 use Rattle.sh_core.proofs.Lists.ListsSteps.{homed_set, alone_cursor, alone_armed, no_ties, point_total, point_link}
@@ -26,7 +26,7 @@ use Rattle.sh_core.proofs.Sums.ListCounts.{is_note, total_unnoted, not_noted, no
 use Rattle.sh_core.proofs.Sums.Writes.{put2_same, put2_other, put_same, put_other}
 
 -- Put takes the flag over, and owes the link to the old top
-module _ (plan : Plan) (w : Words) (ps : List Body) (l : PutLists) (a : ℕ) (p : Body) (x : Spot)
+module _ (plan : Plan) (w : Words) (ps : List Body) (l : PutLists) (a : ℕ) (p : Body) (x : SlotRef)
     (old : ListsAgreeOf plan w ps l) (at : slice_get ps a ≡ Some (hand p Idle)) (none : queued l x ≡ 0) where
   abbrev put_word : ℕ
   put_word = (x.slot + 1) * 2
@@ -37,13 +37,13 @@ module _ (plan : Plan) (w : Words) (ps : List Body) (l : PutLists) (a : ℕ) (p 
   put_owed : total (tying x) (set ps a put_after) ≡ total (tying x) ps + (w.head_at x.page / 2 + 1)
   put_owed =
       let m = total_set (tying x) ps a (hand p Idle) put_after at in
-      let e = same_spot-refl x in
-      let here : cond (same_spot x x) (w.head_at x.page / 2 + 1) 0 ≡ w.head_at x.page / 2 + 1 = rw e refl in omega arith
+      let e = same_slot-refl x in
+      let here : cond (same_slot x x) (w.head_at x.page / 2 + 1) 0 ≡ w.head_at x.page / 2 + 1 = rw e refl in omega arith
 
   put_tied : total (ties_of x) (set ps a put_after) ≡ total (ties_of x) ps + 1
   put_tied =
       let m = total_set (ties_of x) ps a (hand p Idle) put_after at in
-      let here = if1_same_spot x in omega arith
+      let here = if1_same_slot x in omega arith
 
   put_duty : Duty plan (put w.head_at x.page put_word) (set ps a put_after) (pushed l x)
   put_duty q = go (q == x.page) refl where
@@ -80,15 +80,15 @@ module _ (plan : Plan) (w : Words) (ps : List Body) (l : PutLists) (a : ℕ) (p 
   pub put_agrees : ListsAgreeOf plan (write w (Head x.page) put_word) (set ps a put_after) (pushed l x)
   put_agrees = record {
     stacks = chains_push (λ q. w.head_at q / 2) (λ q. put w.head_at x.page put_word q / 2) w.link_at
-        (λ q s. total (tying (spot q s)) ps) (λ q s. total (tying (spot q s)) (set ps a put_after))
-        (λ q s. total (ties_of (spot q s)) ps) (λ q s. total (ties_of (spot q s)) (set ps a put_after))
+        (λ q s. total (tying (slot_ref q s)) ps) (λ q s. total (tying (slot_ref q s)) (set ps a put_after))
+        (λ q s. total (ties_of (slot_ref q s)) ps) (λ q s. total (ties_of (slot_ref q s)) (set ps a put_after))
         (λ q s. total (cursor_at q s) ps) (λ q s. total (cursor_at q s) (set ps a put_after)) l.stack l.chain x.page
         x.slot old.stacks (no_ties x ps) none (let e = put_same w.head_at x.page put_word in omega arith)
         (λ g e. let f = put_other w.head_at x.page g put_word e in ap (λ (m : ℕ). m / 2) f) put_owed put_tied
         (λ g i e. (
-          total_same (tying (spot g i)) ps a (hand p Idle) put_after at (rw e refl),
+          total_same (tying (slot_ref g i)) ps a (hand p Idle) put_after at (rw e refl),
           total_same
-              (ties_of (spot g i)) ps a (hand p Idle) put_after at (rw e refl),
+              (ties_of (slot_ref g i)) ps a (hand p Idle) put_after at (rw e refl),
         ))
         (λ g i. total_same (cursor_at g i) ps a (hand p Idle) put_after at refl);
     bells = chains_same _ _ _ _ _ _ _ _ _ _ _ _ _ _ old.bells (λ q. refl) (λ q s. refl)
@@ -102,7 +102,7 @@ module _ (plan : Plan) (w : Words) (ps : List Body) (l : PutLists) (a : ℕ) (p 
   }
 
 -- Tie stores the link, and hands the duty on to the hand that rings
-module _ (plan : Plan) (w : Words) (ps : List Body) (l : PutLists) (a : ℕ) (p : Body) (x : Spot) (n : ℕ) (r : Bool)
+module _ (plan : Plan) (w : Words) (ps : List Body) (l : PutLists) (a : ℕ) (p : Body) (x : SlotRef) (n : ℕ) (r : Bool)
     (old : ListsAgreeOf plan w ps l) (at : slice_get ps a ≡ Some (hand p (Tying x n r))) (once : queued l x ≤ 1) where
   abbrev tie_before : Body
   tie_before = hand p (Tying x n r)
@@ -110,7 +110,7 @@ module _ (plan : Plan) (w : Words) (ps : List Body) (l : PutLists) (a : ℕ) (p 
   abbrev tie_after : Body
   tie_after = hand p (cond r (Ringing x.page) Idle)
 
-  ties_no_slot : (b : Bool) (y : Spot) → (tying y (hand p (cond b (Ringing x.page) Idle)) ≡ 0)
+  ties_no_slot : (b : Bool) (y : SlotRef) → (tying y (hand p (cond b (Ringing x.page) Idle)) ≡ 0)
       × (ties_of y (hand p (cond b (Ringing x.page) Idle)) ≡ 0)
   ties_no_slot true y = (refl, refl)
   ties_no_slot false y = (refl, refl)
@@ -128,21 +128,21 @@ module _ (plan : Plan) (w : Words) (ps : List Body) (l : PutLists) (a : ℕ) (p 
   tie_tied =
       let m = total_set (ties_of x) ps a tie_before tie_after at in
       let z = (ties_no_slot r x).1 in
-      let one = if1_same_spot x in omega arith
+      let one = if1_same_slot x in omega arith
 
   tie_owed : total (tying x) (set ps a tie_after) + n ≡ total (tying x) ps
   tie_owed =
       let m = total_set (tying x) ps a tie_before tie_after at in
       let z = (ties_no_slot r x).0 in
-      let e = same_spot-refl x in
-      let one : cond (same_spot x x) n 0 ≡ n = rw e refl in omega arith
+      let e = same_slot-refl x in
+      let one : cond (same_slot x x) n 0 ≡ n = rw e refl in omega arith
 
   tie_some : 0 < n
   tie_some =
       let t = tie_tied in
       let o = tie_owed in
-      let k = tied_owes (λ q. w.head_at q / 2) w.link_at (λ q s. total (tying (spot q s)) ps)
-      (λ q s. total (ties_of (spot q s)) ps) (λ q s. total (cursor_at q s) ps) l.stack l.chain x.page x.slot
+      let k = tied_owes (λ q. w.head_at q / 2) w.link_at (λ q s. total (tying (slot_ref q s)) ps)
+      (λ q s. total (ties_of (slot_ref q s)) ps) (λ q s. total (cursor_at q s) ps) l.stack l.chain x.page x.slot
       old.stacks once (omega arith) in
       let tt' = old.stacks.ties x.page x.slot in
       let z = no_ties x (set ps a tie_after) (omega arith) in omega arith
@@ -150,16 +150,16 @@ module _ (plan : Plan) (w : Words) (ps : List Body) (l : PutLists) (a : ℕ) (p 
   pub tie_agrees : ListsAgreeOf plan (write w (Link x.page x.slot) n) (set ps a tie_after) l
   tie_agrees = record {
     stacks = chains_tie (λ q. w.head_at q / 2) w.link_at (put2 w.link_at x.page x.slot n)
-        (λ q s. total (tying (spot q s)) ps) (λ q s. total (tying (spot q s)) (set ps a tie_after))
-        (λ q s. total (ties_of (spot q s)) ps) (λ q s. total (ties_of (spot q s)) (set ps a tie_after))
+        (λ q s. total (tying (slot_ref q s)) ps) (λ q s. total (tying (slot_ref q s)) (set ps a tie_after))
+        (λ q s. total (ties_of (slot_ref q s)) ps) (λ q s. total (ties_of (slot_ref q s)) (set ps a tie_after))
         (λ q s. total (cursor_at q s) ps) (λ q s. total (cursor_at q s) (set ps a tie_after)) l.stack l.chain x.page
         x.slot n old.stacks once tie_some (put2_same w.link_at x.page x.slot n) tie_owed tie_tied
         (λ g i e. (
           put2_other w.link_at x.page x.slot n g i e,
-          total_same (tying (spot g i)) ps a tie_before tie_after at
-              ((ties_no_slot r (spot g i)).0 ∙ sym (let z : cond (same_spot (spot g i) x) n 0 ≡ 0 = rw e refl in z)),
-          total_same (ties_of (spot g i)) ps a tie_before tie_after at
-              ((ties_no_slot r (spot g i)).1 ∙ sym (let z : if1 (same_spot (spot g i) x) ≡ 0 = rw e refl in z)),
+          total_same (tying (slot_ref g i)) ps a tie_before tie_after at
+              ((ties_no_slot r (slot_ref g i)).0 ∙ sym (let z : cond (same_slot (slot_ref g i) x) n 0 ≡ 0 = rw e refl in z)),
+          total_same (ties_of (slot_ref g i)) ps a tie_before tie_after at
+              ((ties_no_slot r (slot_ref g i)).1 ∙ sym (let z : if1 (same_slot (slot_ref g i) x) ≡ 0 = rw e refl in z)),
         ))
         (λ g i. total_same (cursor_at g i) ps a tie_before tie_after at refl);
     bells = chains_same _ _ _ _ _ _ _ _ _ _ _ _ _ _ old.bells (λ q. refl) (λ q s. refl)
@@ -237,14 +237,14 @@ module _ (plan : Plan) (w : Words) (ps : List Body) (l : PutLists) (a : ℕ) (p 
   pub taken_agrees : ListsAgreeOf plan (write w (Head q) m) (set ps a taken_after) (taken l q)
   taken_agrees = record {
     stacks = chains_take (λ k. w.head_at k / 2) (λ k. put w.head_at q m k / 2) w.link_at
-        (λ q s. total (tying (spot q s)) ps) (λ q s. total (tying (spot q s)) (set ps a taken_after))
-        (λ q s. total (ties_of (spot q s)) ps) (λ q s. total (ties_of (spot q s)) (set ps a taken_after))
+        (λ q s. total (tying (slot_ref q s)) ps) (λ q s. total (tying (slot_ref q s)) (set ps a taken_after))
+        (λ q s. total (ties_of (slot_ref q s)) ps) (λ q s. total (ties_of (slot_ref q s)) (set ps a taken_after))
         (λ q s. total (cursor_at q s) ps) (λ q s. total (cursor_at q s) (set ps a taken_after)) l.stack l.chain q
         old.stacks no_chain (let e = put_same w.head_at q m in omega arith)
         (λ g e. let f = put_other w.head_at q g m e
         in ap (λ (m : ℕ). m / 2) f)
-        (λ g i. total_same (tying (spot g i)) ps a p taken_after at refl)
-        (λ g i. total_same (ties_of (spot g i)) ps a p taken_after at refl)
+        (λ g i. total_same (tying (slot_ref g i)) ps a p taken_after at refl)
+        (λ g i. total_same (ties_of (slot_ref g i)) ps a p taken_after at refl)
         (λ i. let t = total_set (cursor_at q i) ps a p taken_after at in let u = added q i
         in let v : cond (q == q) (first_is (l.stack q) i) 0 ≡ first_is (l.stack q) i = rw (eq-eqb q q refl) refl
         in omega arith)
@@ -280,19 +280,19 @@ module _ (plan : Plan) (w : Words) (ps : List Body) (l : PutLists) (a : ℕ) (p 
   chain_is = let c = cursor_one in let e = old.stacks.cursors q s in a_first (l.chain q) s (omega arith)
 
   abbrev follow_after : Body
-  follow_after = record p { cursors = point 2 q (w.link_at q s) (unpoint q p.cursors); mine = spot q s ∷ p.mine }
+  follow_after = record p { cursors = point 2 q (w.link_at q s) (unpoint q p.cursors); mine = slot_ref q s ∷ p.mine }
 
-  pub follow_agrees : queued l (spot q s) ≤ 1 → (w.link_at q s == 0) ≡ false
+  pub follow_agrees : queued l (slot_ref q s) ≤ 1 → (w.link_at q s == 0) ≡ false
       → ListsAgreeOf plan (write w (Link q s) 0) (set ps a follow_after)
       (record l { chain = put l.chain q (drop 1 (l.chain q)) })
   unfolding total
   follow_agrees once found =
       record {
         stacks = chains_follow (λ k. w.head_at k / 2) w.link_at (put2 w.link_at q s 0)
-            (λ q s. total (tying (spot q s)) ps) (λ q s. total (tying (spot q s)) (set ps a follow_after))
-            (λ q s. total (ties_of (spot q s)) ps) (λ q s. total (ties_of (spot q s)) (set ps a follow_after))
+            (λ q s. total (tying (slot_ref q s)) ps) (λ q s. total (tying (slot_ref q s)) (set ps a follow_after))
+            (λ q s. total (ties_of (slot_ref q s)) ps) (λ q s. total (ties_of (slot_ref q s)) (set ps a follow_after))
             (λ q s. total (cursor_at q s) ps) (λ q s. total (cursor_at q s) (set ps a follow_after)) l.stack l.chain q s
-            rest old.stacks chain_is (no_ties (spot q s) ps) once found (put2_same w.link_at q s 0)
+            rest old.stacks chain_is (no_ties (slot_ref q s) ps) once found (put2_same w.link_at q s 0)
             (λ g i e. put2_other w.link_at q s 0 g i e) owed_same tied_same
             (λ i.
             let t = total_set (cursor_at q i) ps a p follow_after at in
@@ -319,7 +319,7 @@ module _ (plan : Plan) (w : Words) (ps : List Body) (l : PutLists) (a : ℕ) (p 
             in (d.0 ∙ sym z, d.1);
         own_notes = let o = old.own_notes a p at in homed_set plan w.class_at ps a follow_after old.own_notes (record {
           mines = λ y e. let f = apart_pages plan p.owned q y.page mine e in let x = o.mines y e
-              in let g : if1 (same_spot y (spot q s)) ≡ 0 = rw (eqb-comm y.page q, f) refl in omega arith;
+              in let g : if1 (same_slot y (slot_ref q s)) ≡ 0 = rw (eqb-comm y.page q, f) refl in omega arith;
           points = λ k t e. let f = apart_pages plan p.owned q k mine e in let x = changed k t in let y = o.points k t e
               in let v : cond (q == k) (first_is rest t) 0 ≡ 0 = rw f refl in omega arith;
           arms = o.arms;
@@ -330,18 +330,18 @@ module _ (plan : Plan) (w : Words) (ps : List Body) (l : PutLists) (a : ℕ) (p 
         rest : List ℕ
         rest = drop 1 (l.chain q)
 
-        owed_same : (g i : ℕ) → total (tying (spot g i)) (set ps a follow_after) ≡ total (tying (spot g i)) ps
-        owed_same g i = total_same (tying (spot g i)) ps a p follow_after at refl
+        owed_same : (g i : ℕ) → total (tying (slot_ref g i)) (set ps a follow_after) ≡ total (tying (slot_ref g i)) ps
+        owed_same g i = total_same (tying (slot_ref g i)) ps a p follow_after at refl
 
-        tied_same : (g i : ℕ) → total (ties_of (spot g i)) (set ps a follow_after) ≡ total (ties_of (spot g i)) ps
-        tied_same g i = total_same (ties_of (spot g i)) ps a p follow_after at refl
+        tied_same : (g i : ℕ) → total (ties_of (slot_ref g i)) (set ps a follow_after) ≡ total (ties_of (slot_ref g i)) ps
+        tied_same g i = total_same (ties_of (slot_ref g i)) ps a p follow_after at refl
 
         link_is : w.link_at q s ≡ link_to rest
         link_is = chain_link (λ k. w.head_at k / 2) w.link_at (put2 w.link_at q s 0)
-            (λ q s. total (tying (spot q s)) ps) (λ q s. total (tying (spot q s)) (set ps a follow_after))
-            (λ q s. total (ties_of (spot q s)) ps) (λ q s. total (ties_of (spot q s)) (set ps a follow_after))
+            (λ q s. total (tying (slot_ref q s)) ps) (λ q s. total (tying (slot_ref q s)) (set ps a follow_after))
+            (λ q s. total (ties_of (slot_ref q s)) ps) (λ q s. total (ties_of (slot_ref q s)) (set ps a follow_after))
             (λ q s. total (cursor_at q s) ps) (λ q s. total (cursor_at q s) (set ps a follow_after)) l.stack l.chain q s
-            rest old.stacks chain_is (no_ties (spot q s) ps) once found (put2_same w.link_at q s 0)
+            rest old.stacks chain_is (no_ties (slot_ref q s) ps) once found (put2_same w.link_at q s 0)
             (λ g i e. put2_other w.link_at q s 0 g i e) owed_same tied_same
 
         changed : (k t : ℕ) → cursor_at k t follow_after + if1 ((q == k) && (s == t))

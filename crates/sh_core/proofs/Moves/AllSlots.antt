@@ -3,8 +3,8 @@ use Rattle.std.proofs.Common.{◌≡◌, ◌≢◌, ℕ, ◌+◌, ◌-◌, ◌^�
 use Rattle.std.proofs.Common.{◌∷◌, length, sym, refl, ap, ◌∙◌, subst, arith, Option, Some, None, slice_get, eqb-true}
 use Rattle.std.proofs.Common.{eq-eqb}
 use Rattle.std.specs.Prelude.{not, nat_lt, bit_or}
-use Rattle.sh_slots.specs.declared.hand.Spot.{Spot}
-use Rattle.sh_slots.specs.declared.hand.Name.{Name}
+use Rattle.sh_slots.specs.declared.hand.SlotRef.{SlotRef}
+use Rattle.sh_slots.specs.declared.hand.KeyRef.{KeyRef}
 use Rattle.sh_slots.specs.declared.hand.Hand.{Hand}
 use Rattle.sh_slots.specs.declared.hand.Hand.TheVariants.{Idle, Removing, Leaving, Finishing, ToPut, Filling}
 use Rattle.sh_core.specs.Words.{Words, write}
@@ -13,7 +13,7 @@ use Rattle.sh_word.specs.Fields.{Fields, fields_of, word_of}
 use Rattle.sh_step.specs.Plans.{Plan, Lawful}
 use Rattle.sh_shape.specs.Classes.{width}
 use Rattle.sh_shape.proofs.ClassLaws.{slots_few}
-use Rattle.sh_slots.specs.Slots.{same_spot, spot_of, name_at, live_at, marked_word}
+use Rattle.sh_slots.specs.Slots.{same_slot, slot_ref_of, name_at, live_at, marked_word}
 use Rattle.sh_step.specs.Collections.{total, if1, has, without, noted}
 use Rattle.sh_step.specs.declared.body.Body.{Body}
 use Rattle.sh_core.specs.Lists.{PutLists, mine_at, in_hand}
@@ -24,11 +24,11 @@ use Rattle.sh_slots.specs.declared.reply.Reply.{Reply}
 use Rattle.sh_step.specs.Rows.{Row, hand, own, freed, class_word_noted, enter_get, enter_remove, mark, drop_hand}
 use Rattle.sh_step.specs.Rows.{drop_key, finish, fill_slot, fill, publish}
 use Rattle.sh_core.specs.Worlds.{World, apply}
-use Rattle.sh_core.specs.Tallies.{held, at_spot}
+use Rattle.sh_core.specs.Tallies.{held, at_slot}
 use Rattle.sh_core.specs.Sums.{Sums}
 use Rattle.sh_core.proofs.Sums.Totals.{total_at, total_without}
 use Rattle.sh_word.proofs.Words.{fields_of-sub, fields_of-or_mark, fields_of-or_present, fields_of-word_of}
-use Rattle.sh_core.proofs.Slots.Slots.{same_spot-refl, same_spot-true, if1_same_spot}
+use Rattle.sh_core.proofs.Slots.Slots.{same_slot-refl, same_slot-true, if1_same_slot}
 use Rattle.sh_core.proofs.Slots.SlotSteps.{leaving, reused_fields, fields_of-entered}
 use Rattle.sh_core.proofs.Slots.MarkStep.{sums_mark, is_current}
 use Rattle.sh_core.proofs.Slots.SlotSums.{sums_drop, sums_publish, sums_gone, sums_got, room_to_enter, room_few}
@@ -52,7 +52,7 @@ pub plain_hand : (plan : Plan) (class : ℕ → ℕ) (p q : Body) (b : Bool) (h 
 plain_hand plan class p q b h k = cond_either (λ u. Plain plan class p (hand q u)) b h k
 
 -- a step on a state word by a part that shows the same
-pub all_state : (plan : Plan) (w : World) (l : PutLists) (a : ℕ) (p : Body) (x : Spot) (operation : Operation)
+pub all_state : (plan : Plan) (w : World) (l : PutLists) (a : ℕ) (p : Body) (x : SlotRef) (operation : Operation)
     (part : ℕ → Body) (reply : ℕ → Option Reply) → Agreement plan w l → slice_get w.parts a ≡ Some p
     → (let m : Row = record { place = State x.page x.slot; operation = operation; part = part; reply = reply }
     in Sums plan (apply w a m) l) → Plain plan w.words.class_at p (part (w.words.state_at x.page x.slot))
@@ -66,23 +66,23 @@ all_state plan w l a p x operation part reply old at sums plain bounds = record 
   bounds = bounds;
 }
 
-bounds_count : (plan : Plan) (w : Words) (x : Spot) (n : ℕ) (c : ℕ) → BoundsOf plan w → fields_of n
+bounds_count : (plan : Plan) (w : Words) (x : SlotRef) (n : ℕ) (c : ℕ) → BoundsOf plan w → fields_of n
     ≡ record (fields_of (w.state_at x.page x.slot)) { count = c } → BoundsOf plan (write w (State x.page x.slot) n)
 bounds_count plan w x n c old e = bounds_still plan w x n old (ap (λ (t : Fields). t.generation) e)
     (ap (λ (t : Fields). t.marked) e) (ap (λ (t : Fields). t.present) e)
 
-pub all_enter_get : (plan : Plan) (w : World) (l : PutLists) (a : ℕ) (p : Body) (k : ℕ) (y : Name) → Lawful plan
+pub all_enter_get : (plan : Plan) (w : World) (l : PutLists) (a : ℕ) (p : Body) (k : ℕ) (y : KeyRef) → Lawful plan
     → Agreement plan w l → slice_get w.parts a ≡ Some (hand p Idle) → plan.keys.unpack k ≡ Some y → length p.holds < 16
     → Agreement plan (apply w a (enter_get plan (hand p Idle) k y)) l
 all_enter_get plan w l a p k y laws old at name fewer =
     let h = old.lists.own_notes a (hand p Idle) at in
-    all_state plan w l a (hand p Idle) (spot_of y) _ _ _ old at
+    all_state plan w l a (hand p Idle) (slot_ref_of y) _ _ _ old at
     (sums (live_at y.generation n) (nat_lt (fields_of n).count plan.keys.guard_max) refl refl)
     (cond_either (Plain plan w.words.class_at (hand p Idle)) (live_at y.generation n && nat_lt (fields_of n).count
-    plan.keys.guard_max) (record p { holds = k ∷ p.holds; hand = Idle }) (hand p (Leaving (spot_of y))) (refl, h)
+    plan.keys.guard_max) (record p { holds = k ∷ p.holds; hand = Idle }) (hand p (Leaving (slot_ref_of y))) (refl, h)
     (refl, h))
-    (bounds_count plan w.words (spot_of y) (n + 1) _ old.bounds (fields_of-entered n
-    (room_to_enter plan w l (spot_of y) laws old.sums))) where
+    (bounds_count plan w.words (slot_ref_of y) (n + 1) _ old.bounds (fields_of-entered n
+    (room_to_enter plan w l (slot_ref_of y) laws old.sums))) where
       n : ℕ
       n = w.words.state_at y.page y.slot
 
@@ -92,16 +92,16 @@ all_enter_get plan w l a p k y laws old at name fewer =
       sums true true e f = sums_got plan w l a p k y laws old.sums at name fewer e f
       sums true false e f = sums_crowded plan w l a p k y laws old.sums at name e f
 
-pub all_enter_remove : (plan : Plan) (w : World) (l : PutLists) (a : ℕ) (p : Body) (k : ℕ) (y : Name) → Lawful plan
+pub all_enter_remove : (plan : Plan) (w : World) (l : PutLists) (a : ℕ) (p : Body) (k : ℕ) (y : KeyRef) → Lawful plan
     → Agreement plan w l → slice_get w.parts a ≡ Some (hand p Idle) → plan.keys.unpack k ≡ Some y
     → Agreement plan (apply w a (enter_remove plan (hand p Idle) k y)) l
 all_enter_remove plan w l a p k y laws old at name =
     let h = old.lists.own_notes a (hand p Idle) at in
-    all_state plan w l a (hand p Idle) (spot_of y) _ _ _ old at (sums (live_at y.generation n) refl)
-    (plain_hand plan w.words.class_at (hand p Idle) p (live_at y.generation n) (Removing k) (Leaving (spot_of y))
+    all_state plan w l a (hand p Idle) (slot_ref_of y) _ _ _ old at (sums (live_at y.generation n) refl)
+    (plain_hand plan w.words.class_at (hand p Idle) p (live_at y.generation n) (Removing k) (Leaving (slot_ref_of y))
     (refl, h) (refl, h))
-    (bounds_count plan w.words (spot_of y) (n + 1) _ old.bounds (fields_of-entered n
-    (room_to_enter plan w l (spot_of y) laws old.sums))) where
+    (bounds_count plan w.words (slot_ref_of y) (n + 1) _ old.bounds (fields_of-entered n
+    (room_to_enter plan w l (slot_ref_of y) laws old.sums))) where
       n : ℕ
       n = w.words.state_at y.page y.slot
 
@@ -109,19 +109,19 @@ all_enter_remove plan w l a p k y laws old at name =
       sums false e = sums_remove_gone plan w l a p k y laws old.sums at name e
       sums true e = sums_enter_remove plan w l a p k y laws old.sums at name e
 
-pub all_mark : (plan : Plan) (w : World) (l : PutLists) (a : ℕ) (p : Body) (k : ℕ) (y : Name) → Lawful plan
+pub all_mark : (plan : Plan) (w : World) (l : PutLists) (a : ℕ) (p : Body) (k : ℕ) (y : KeyRef) → Lawful plan
     → Agreement plan w l → slice_get w.parts a ≡ Some (hand p (Removing k)) → plan.keys.unpack k ≡ Some y
     → Agreement plan (apply w a (mark (hand p (Removing k)) k y)) l
 all_mark plan w l a p k y laws old at name =
     let n : ℕ = w.words.state_at y.page y.slot in
-    let c = is_current _ _ (fields_of n) plan w.parts a p k y name at (old.sums.slots (spot_of y)) in
-    all_state plan w l a (hand p (Removing k)) (spot_of y) _ _ _ old at
+    let c = is_current _ _ (fields_of n) plan w.parts a p k y name at (old.sums.slots (slot_ref_of y)) in
+    all_state plan w l a (hand p (Removing k)) (slot_ref_of y) _ _ _ old at
     (sums_mark plan w l a p k y laws old.sums at name) (refl, old.lists.own_notes a (hand p (Removing k)) at)
-    (bounds_state plan w.words (spot_of y) (bit_or n (2 ^ 31)) old.bounds
+    (bounds_state plan w.words (slot_ref_of y) (bit_or n (2 ^ 31)) old.bounds
     (let g = old.bounds.generations y.page y.slot in rw (fields_of-or_mark n) g)
     (λ _. old.bounds.lengths y.page y.slot (rw c.0 refl)))
 
-pub all_drop_hand : (plan : Plan) (w : World) (l : PutLists) (a : ℕ) (p : Body) (x : Spot) → Agreement plan w l
+pub all_drop_hand : (plan : Plan) (w : World) (l : PutLists) (a : ℕ) (p : Body) (x : SlotRef) → Agreement plan w l
     → slice_get w.parts a ≡ Some (hand p (Leaving x)) → Agreement plan (apply w a (drop_hand (hand p (Leaving x)) x)) l
 all_drop_hand plan w l a p x old at =
     let n : ℕ = w.words.state_at x.page x.slot in
@@ -135,17 +135,17 @@ all_drop_hand plan w l a p x old at =
     (Finishing x (fields_of n).generation) Idle (refl, h) (refl, h))
     (bounds_count plan w.words x (n - 1) _ old.bounds (fields_of-sub n some))
 
-pub all_drop_key : (plan : Plan) (w : World) (l : PutLists) (a : ℕ) (p : Body) (k : ℕ) (y : Name) → Agreement plan w l
+pub all_drop_key : (plan : Plan) (w : World) (l : PutLists) (a : ℕ) (p : Body) (k : ℕ) (y : KeyRef) → Agreement plan w l
     → slice_get w.parts a ≡ Some (hand p Idle) → plan.keys.unpack k ≡ Some y → has (λ j. j == k) p.holds ≡ true
     → Agreement plan (apply w a (drop_key (hand p Idle) k y)) l
 all_drop_key plan w l a p k y old at name is =
     let n : ℕ = w.words.state_at y.page y.slot in
-    let x : Spot = spot_of y in
+    let x : SlotRef = slot_ref_of y in
     let h = old.lists.own_notes a (hand p Idle) at in
     let f = old.sums.slots x in
-    let e = same_spot-refl x in
-    let here : if1 (at_spot x (plan.keys.unpack k)) ≡ 1 = rw (name, e) refl in
-    let less = total_without (λ j. if1 (at_spot x (plan.keys.unpack j))) (λ j. j == k) 1
+    let e = same_slot-refl x in
+    let here : if1 (at_slot x (plan.keys.unpack k)) ≡ 1 = rw (name, e) refl in
+    let less = total_without (λ j. if1 (at_slot x (plan.keys.unpack j))) (λ j. j == k) 1
     (λ j t. let i = eqb-true j k t in rw i here) p.holds is in
     let v = total_at (held plan x) w.parts a (hand p Idle) at in
     let some : 0 < (fields_of n).count = omega arith in
@@ -156,12 +156,12 @@ all_drop_key plan w l a p k y old at name is =
     (bounds_count plan w.words x (n - 1) _ old.bounds (fields_of-sub n some))
 
 -- one more of `mine`, on a page of the own shard
-pub mine_more : (plan : Plan) (class : ℕ → ℕ) (p : Body) (x : Spot) → own plan p x.page ≡ true → OwnNotesOf plan class p
+pub mine_more : (plan : Plan) (class : ℕ → ℕ) (p : Body) (x : SlotRef) → own plan p x.page ≡ true → OwnNotesOf plan class p
     → OwnNotesOf plan class (record p { mine = x ∷ p.mine })
 unfolding total
 mine_more plan class p x mine h = record {
   mines = λ y e. let z = h.mines y e
-      in let f = apart_pages plan p.owned x.page y.page mine e in let g : if1 (same_spot y x)
+      in let f = apart_pages plan p.owned x.page y.page mine e in let g : if1 (same_slot y x)
       ≡ 0 = rw (eqb-comm y.page x.page, f) refl in omega arith;
   points = h.points;
   arms = h.arms;
@@ -170,12 +170,12 @@ mine_more plan class p x mine h = record {
       h.notes;
 }
 
-pub mine_less : (plan : Plan) (class : ℕ → ℕ) (p : Body) (x : Spot) → has (same_spot x) p.mine ≡ true
-    → OwnNotesOf plan class p → OwnNotesOf plan class (record p { mine = without (same_spot x) p.mine })
+pub mine_less : (plan : Plan) (class : ℕ → ℕ) (p : Body) (x : SlotRef) → has (same_slot x) p.mine ≡ true
+    → OwnNotesOf plan class p → OwnNotesOf plan class (record p { mine = without (same_slot x) p.mine })
 mine_less plan class p x is h = record {
   mines = λ y e. let z = h.mines y e
-      in let t = total_without (λ u. if1 (same_spot y u)) (same_spot x) (if1 (same_spot y x))
-      (λ u k. let i = same_spot-true u x k in ap (λ (v : Spot). if1 (same_spot y v)) (sym i)) p.mine is
+      in let t = total_without (λ u. if1 (same_slot y u)) (same_slot x) (if1 (same_slot y x))
+      (λ u k. let i = same_slot-true u x k in ap (λ (v : SlotRef). if1 (same_slot y v)) (sym i)) p.mine is
       in omega arith;
   points = h.points;
   arms = h.arms;
@@ -189,7 +189,7 @@ finish_next plan g n = cond (n == marked_word g)
     (word_of (record { generation = g + 1; marked = false; present = false; count = 0 })))
     n
 
-pub all_finish : (plan : Plan) (w : World) (l : PutLists) (a : ℕ) (p : Body) (x : Spot) (g : ℕ) → Agreement plan w l
+pub all_finish : (plan : Plan) (w : World) (l : PutLists) (a : ℕ) (p : Body) (x : SlotRef) (g : ℕ) → Agreement plan w l
     → slice_get w.parts a ≡ Some (hand p (Finishing x g)) → Agreement plan
     (apply w a (finish plan (hand p (Finishing x g)) x g)) l
 all_finish plan w l a p x g old at = go (n == marked_word g) (g == plan.keys.gen_max) (own plan p x.page) refl refl
@@ -259,13 +259,13 @@ all_finish plan w l a p x g old at = go (n == marked_word g) (g == plan.keys.gen
           sums true o = sums_finish_mine plan w l a p x g old.sums at e f o
           sums false o = sums_finish_hand plan w l a p x g old.sums at e f o
 
-pub all_publish : (plan : Plan) (w : World) (l : PutLists) (a : ℕ) (p : Body) (x : Spot) (v : List ℕ) (i : ℕ)
+pub all_publish : (plan : Plan) (w : World) (l : PutLists) (a : ℕ) (p : Body) (x : SlotRef) (v : List ℕ) (i : ℕ)
     → Lawful plan → Agreement plan w l → slice_get w.parts a ≡ Some (hand p (Filling x v i)) → length v ≤ i
     → Agreement plan (apply w a (publish plan (hand p (Filling x v i)) x v)) l
 all_publish plan w l a p x v i laws old at all =
     let n : ℕ = w.words.state_at x.page x.slot in
     let f = old.sums.slots x in
-    let one = if1_same_spot x in
+    let one = if1_same_slot x in
     let t = total_at (in_hand x) w.parts a (hand p (Filling x v i)) at in
     let g = old.bounds.generations x.page x.slot in
     let s = room_placed plan w.words x old.bounds (omega arith) in
@@ -290,9 +290,9 @@ pub class_noted : (plan : Plan) (w : World) (l : PutLists) (a : ℕ) (p : Body) 
 class_noted plan w l a p q old at mine some = sym ((old.lists.own_notes a p at).notes q (class_word_noted p q) mine
     (noted_class (noted q p.classes) some)).0
 
-pub all_fill_slot : (plan : Plan) (w : World) (l : PutLists) (a : ℕ) (p : Body) (x : Spot) (v : List ℕ)
+pub all_fill_slot : (plan : Plan) (w : World) (l : PutLists) (a : ℕ) (p : Body) (x : SlotRef) (v : List ℕ)
     → Agreement plan w l
-    → slice_get w.parts a ≡ Some (hand p Idle) → own plan p x.page ≡ true → has (same_spot x) p.mine ≡ true
+    → slice_get w.parts a ≡ Some (hand p Idle) → own plan p x.page ≡ true → has (same_slot x) p.mine ≡ true
     → 0 < class_word_noted p x.page → length v ≤ width (class_word_noted p x.page - 1)
     → Agreement plan (apply w a (fill_slot (hand p Idle) x v)) l
 unfolding apply
@@ -300,13 +300,13 @@ all_fill_slot plan w l a p x v old at mine is some fits =
     let c = class_noted plan w l a (hand p Idle) x.page old at mine some in
     let f = old.sums.slots x in
     let m = total_at (mine_at x) w.parts a (hand p Idle) at in
-    let t = has_some (same_spot x) p.mine is in
+    let t = has_some (same_slot x) p.mine is in
     let r = room_few w.words x in
     let P : ℕ → Type 0 = λ k. length v ≤ width (k - 1) in
     record {
       sums = sums_fill_slot plan w l a p x v old.sums at is c (subst P c fits);
       lists = lists_frame plan w.words w.parts l a (hand p Idle)
-          (hand (record p { mine = without (same_spot x) p.mine })
+          (hand (record p { mine = without (same_slot x) p.mine })
           (Filling x v 0)) old.lists at refl
           (mine_less plan w.words.class_at p x is (old.lists.own_notes a (hand p Idle) at));
       bounds = bounds_length plan w.words x (length v) old.bounds
@@ -314,7 +314,7 @@ all_fill_slot plan w l a p x v old at mine is some fits =
           (fields_of (w.words.state_at x.page x.slot)).marked (omega arith));
     }
 
-pub all_fill : (plan : Plan) (w : World) (l : PutLists) (a : ℕ) (p : Body) (x : Spot) (v : List ℕ) (i : ℕ)
+pub all_fill : (plan : Plan) (w : World) (l : PutLists) (a : ℕ) (p : Body) (x : SlotRef) (v : List ℕ) (i : ℕ)
     → Agreement plan w l → slice_get w.parts a ≡ Some (hand p (Filling x v i)) → i < length v
     → Agreement plan (apply w a (fill (hand p (Filling x v i)) x v i)) l
 unfolding apply

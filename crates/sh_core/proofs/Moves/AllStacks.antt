@@ -1,16 +1,16 @@
 -- All that holds, over the moves of stacks: Take, Arm, Follow, PutSlot, Put and Tie.
 use Rattle.std.proofs.Common.{◌≡◌, ℕ, ◌+◌, ◌*◌, ◌/◌, ◌%◌, ◌≤◌, ◌==◌, Bool, true, false, cond, List, ◌∷◌, set, drop, sym}
 use Rattle.std.proofs.Common.{refl, ap, ◌∙◌, subst, arith, Some, slice_get, eqb-true, eq-eqb, None}
-use Rattle.sh_slots.specs.declared.hand.Spot.{Spot}
+use Rattle.sh_slots.specs.declared.hand.SlotRef.{SlotRef}
 use Rattle.sh_slots.specs.declared.hand.Hand.TheVariants.{Idle, ToPut, Tying, Ringing}
 use Rattle.sh_core.specs.Words.{write, put, put2}
 use Rattle.sh_shape.specs.declared.places.Place.TheVariants.{Head, Link}
 use Rattle.sh_step.specs.Plans.{Plan, home}
-use Rattle.sh_slots.specs.Slots.{same_spot}
+use Rattle.sh_slots.specs.Slots.{same_slot}
 use Rattle.sh_step.specs.Collections.{total, if1, has, without, noted, off}
 use Rattle.sh_step.specs.declared.body.Body.{Body}
 use Rattle.sh_core.specs.Lists.{PutLists, times, mine_at, in_hand, pushed, taken}
-use Rattle.sh_core.specs.Stacks.{spot}
+use Rattle.sh_core.specs.Stacks.{slot_ref}
 use Rattle.sh_core.specs.Bells.{rings}
 use Rattle.sh_core.specs.Placed.{ListsAgreeOf, Agreement}
 use Rattle.std.proofs.lemmas.List.{set-set}
@@ -19,7 +19,7 @@ use Rattle.sh_core.specs.Worlds.{World, apply}
 use Rattle.sh_core.specs.Tallies.{due, queued}
 use Rattle.sh_core.specs.Sums.{FillAgrees}
 use Rattle.sh_core.proofs.Sums.Totals.{total_at, total_without, get_set_here}
-use Rattle.sh_core.proofs.Slots.Slots.{same_spot-true, if1_same_spot}
+use Rattle.sh_core.proofs.Slots.Slots.{same_slot-true, if1_same_slot}
 use Rattle.sh_core.proofs.Slots.SlotSums.{room_few}
 use Rattle.sh_core.proofs.Slots.SumsKinds.{with, sums_quiet, sums_put, queued_taken, sums_follow, tied}
 use Rattle.sh_core.proofs.Lists.ListsSteps.{lists_frame, alone_armed}
@@ -122,7 +122,7 @@ module _ (plan : Plan) (w : World) (l : PutLists) (a : ℕ) (p : Body) (old : Ag
   all_follow q s mine is = go (w.words.link_at q s == 0) refl where
     go : (b : Bool) → (w.words.link_at q s == 0) ≡ b → Agreement plan
         (with w (write w.words (Link q s) 0) a (cond b (idled p) (record (idled p)
-        { cursors = point 2 q (w.words.link_at q s) (unpoint q p.cursors); mine = spot q s ∷ p.mine })))
+        { cursors = point 2 q (w.words.link_at q s) (unpoint q p.cursors); mine = slot_ref q s ∷ p.mine })))
         (cond b l (record l { chain = put l.chain q (drop 1 (l.chain q)) }))
     go true e = all_load plan w l a (idled p) (idled p) (Link q s) 0 old at (eqb-true (w.words.link_at q s) 0 e)
         (λ y st. refl) refl tt
@@ -131,23 +131,23 @@ module _ (plan : Plan) (w : World) (l : PutLists) (a : ℕ) (p : Body) (old : Ag
     go false e = record {
       sums = sums_follow plan w l a (idled p) (record (idled p) {
         cursors = point 2 q (w.words.link_at q s) (unpoint q p.cursors);
-        mine = spot q s ∷ p.mine;
+        mine = slot_ref q s ∷ p.mine;
       }) q s (put2 w.words.link_at q s 0) old.sums at
           (chain_is plan w.words w.parts l a (idled p) q s old.lists at mine is) (λ y st. refl) refl tt;
       lists = follow_agrees plan w.words w.parts l a (idled p) q s old.lists at mine is
-          (let f = old.sums.slots (spot q s) in let r = room_few w.words (spot q s) in omega arith) e;
+          (let f = old.sums.slots (slot_ref q s) in let r = room_few w.words (slot_ref q s) in omega arith) e;
       bounds = old.bounds;
     }
 
-  pub all_put_slot : (x : Spot) → has (same_spot x) p.mine ≡ true
-      → Agreement plan (apply w a (put_at (hand (record p { mine = without (same_spot x) p.mine }) Idle) x))
+  pub all_put_slot : (x : SlotRef) → has (same_slot x) p.mine ≡ true
+      → Agreement plan (apply w a (put_at (hand (record p { mine = without (same_slot x) p.mine }) Idle) x))
       (pushed l x)
   unfolding apply
   all_put_slot x is = record {
     sums = sums_put plan w l a (idled p) p1 x (w.words.head_at x.page / 2 + 1) (w.words.head_at x.page % 2 == 1)
         (put w.words.head_at x.page ((x.slot + 1) * 2)) old.sums at refl
-        (λ y st. let t = total_without (λ u. if1 (same_spot y u)) (same_spot x) (if1 (same_spot y x))
-        (λ u k. let i = same_spot-true u x k in ap (λ (v : Spot). if1 (same_spot y v)) (sym i)) p.mine is
+        (λ y st. let t = total_without (λ u. if1 (same_slot y u)) (same_slot x) (if1 (same_slot y x))
+        (λ u k. let i = same_slot-true u x k in ap (λ (v : SlotRef). if1 (same_slot y v)) (sym i)) p.mine is
         in omega arith) (λ y st. (refl, refl, refl, refl));
     lists = let P : List Body → Type 0 = λ us. ListsAgreeOf plan (write w.words (Head x.page) ((x.slot + 1) * 2)) us
         (pushed l x) in
@@ -160,16 +160,16 @@ module _ (plan : Plan) (w : World) (l : PutLists) (a : ℕ) (p : Body) (old : Ag
     bounds = old.bounds;
   } where
     p1 : Body
-    p1 = record p { mine = without (same_spot x) p.mine }
+    p1 = record p { mine = without (same_slot x) p.mine }
 
     none : queued l x ≡ 0
     none =
         let f = old.sums.slots x in
         let r = room_few w.words x in
         let t = total_at (mine_at x) w.parts a (idled p) at in
-        let m = has_some (same_spot x) p.mine is in omega arith
+        let m = has_some (same_slot x) p.mine is in omega arith
 
-pub all_put : (plan : Plan) (w : World) (l : PutLists) (a : ℕ) (p : Body) (x : Spot) → Agreement plan w l
+pub all_put : (plan : Plan) (w : World) (l : PutLists) (a : ℕ) (p : Body) (x : SlotRef) → Agreement plan w l
     → slice_get w.parts a ≡ Some (hand p (ToPut x))
     → Agreement plan (apply w a (put_at (hand p (ToPut x)) x)) (pushed l x)
 unfolding apply
@@ -192,10 +192,10 @@ all_put plan w l a p x old at = record {
   none =
       let f = old.sums.slots x in
       let r = room_few w.words x in
-      let one = if1_same_spot x in
+      let one = if1_same_slot x in
       let t = total_at (in_hand x) w.parts a (hand p (ToPut x)) at in omega arith
 
-pub all_tie : (plan : Plan) (w : World) (l : PutLists) (a : ℕ) (p : Body) (x : Spot) (n : ℕ) (r : Bool)
+pub all_tie : (plan : Plan) (w : World) (l : PutLists) (a : ℕ) (p : Body) (x : SlotRef) (n : ℕ) (r : Bool)
     → Agreement plan w l
     → slice_get w.parts a ≡ Some (hand p (Tying x n r))
     → Agreement plan (apply w a (tie (hand p (Tying x n r)) x n r)) l

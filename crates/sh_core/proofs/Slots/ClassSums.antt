@@ -4,7 +4,7 @@ use Rattle.std.proofs.Common.{true, false, cond, set, sym, refl, ap, ◌∙◌, 
 use Rattle.std.proofs.Common.{eq-eqb, ltb-true}
 use Rattle.std.specs.Prelude.{not, nat_lt}
 use Rattle.std.proofs.lemmas.Bool.Decides.{nat_tests}
-use Rattle.sh_slots.specs.declared.hand.Spot.{Spot}
+use Rattle.sh_slots.specs.declared.hand.SlotRef.{SlotRef}
 use Rattle.sh_slots.specs.declared.hand.Hand.{Hand}
 use Rattle.sh_slots.specs.declared.hand.Hand.TheVariants.{Filling}
 use Rattle.sh_core.specs.Words.{Words, write, put, put2}
@@ -12,35 +12,35 @@ use Rattle.sh_shape.specs.declared.places.Place.TheVariants.{Class, State, Lengt
 use Rattle.sh_word.specs.Fields.{Fields, fields_of}
 use Rattle.sh_step.specs.Plans.{Plan, heap_pages}
 use Rattle.sh_shape.specs.Classes.{width, slots}
-use Rattle.sh_slots.specs.Slots.{same_spot, spots}
+use Rattle.sh_slots.specs.Slots.{same_slot, slot_refs}
 use Rattle.sh_step.specs.Collections.{total, if1, has, off, every}
 use Rattle.sh_step.specs.declared.body.Body.{Body}
 use Rattle.sh_core.specs.Lists.{PutLists, mine_at, in_hand}
-use Rattle.sh_core.specs.Stacks.{spot}
+use Rattle.sh_core.specs.Stacks.{slot_ref}
 use Rattle.sh_core.specs.Placed.{BoundsOf}
 use Rattle.sh_step.specs.Rows.{all_mine}
 use Rattle.sh_core.specs.Worlds.{World, value_at, words_from}
 use Rattle.sh_core.specs.Tallies.{room, queued, SlotsAddUp}
 use Rattle.sh_core.specs.Sums.{Sums, FillAgrees}
 use Rattle.sh_core.proofs.Sums.Totals.{total_set, total_at, total_append}
-use Rattle.sh_core.proofs.Slots.Slots.{tally_set, same_spot-true, if1_same_spot}
+use Rattle.sh_core.proofs.Slots.Slots.{tally_set, same_slot-true, if1_same_slot}
 use Rattle.sh_core.proofs.Slots.SumsStep.{sums_at}
 use Rattle.sh_core.proofs.Slots.FillSums.{keys_value}
-use Rattle.sh_core.proofs.Slots.CrowdedAndClass.{spots_total}
+use Rattle.sh_core.proofs.Slots.CrowdedAndClass.{slots_total}
 use Rattle.sh_core.proofs.Lists.OwnerKinds.{times_drop, classed}
 use Rattle.sh_core.proofs.Slots.SumsKinds.{with}
 use Rattle.sh_core.proofs.Sums.Tests.{if1_neither}
 use Rattle.sh_core.proofs.Sums.ListCounts.{has_some}
 use Rattle.sh_core.proofs.Sums.Writes.{put2_same, put2_other, put_same, put_other}
 
-every_spots : (f : Spot → Bool) (q s m : ℕ) → every f (spots q s m) ≡ true → (t : ℕ) → s ≤ t → t < s + m → f (spot q t)
+every_slots : (f : SlotRef → Bool) (q s m : ℕ) → every f (slot_refs q s m) ≡ true → (t : ℕ) → s ≤ t → t < s + m → f (slot_ref q t)
     ≡ true
-unfolding every spots
-every_spots f q s zero h t a b = absurd (omega arith)
-every_spots f q s (suc m) h t a b = go (f (spot q s)) refl h (t == s) refl (λ g c d. every_spots f q (s + 1) m g t c d)
+unfolding every slot_refs
+every_slots f q s zero h t a b = absurd (omega arith)
+every_slots f q s (suc m) h t a b = go (f (slot_ref q s)) refl h (t == s) refl (λ g c d. every_slots f q (s + 1) m g t c d)
   where
-    go : (b : Bool) → f (spot q s) ≡ b → (b && every f (spots q (s + 1) m)) ≡ true → (c : Bool) → (t == s) ≡ c
-        → (every f (spots q (s + 1) m) ≡ true → s + 1 ≤ t → t < s + 1 + m → f (spot q t) ≡ true) → f (spot q t) ≡ true
+    go : (b : Bool) → f (slot_ref q s) ≡ b → (b && every f (slot_refs q (s + 1) m)) ≡ true → (c : Bool) → (t == s) ≡ c
+        → (every f (slot_refs q (s + 1) m) ≡ true → s + 1 ≤ t → t < s + 1 + m → f (slot_ref q t) ≡ true) → f (slot_ref q t) ≡ true
     go false e h c d rest = absurd (let z : false ≡ true = h in cc)
     go true e h true d rest = let i = eqb-true t s d in rw i e
     go true e h false d rest = rest h (let n : s ≢ t = (λ x. let z : (t == s) ≡ true = rw x (eq-eqb t t refl)
@@ -49,22 +49,22 @@ every_spots f q s (suc m) h t a b = go (f (spot q s)) refl h (t == s) refl (λ g
 
 -- what SetClass asks of a page with a class: each slot of its class is in `mine`
 pub room_mine : (w : Words) (p : Body) (q n : ℕ) → w.class_at q ≡ n → ((n == 0) || all_mine p q n) ≡ true → (s : ℕ)
-    → room w (spot q s) ≤ mine_at (spot q s) p
+    → room w (slot_ref q s) ≤ mine_at (slot_ref q s) p
 room_mine w p q n is h s = rw is (go (nat_lt 0 n) (nat_lt s (slots (n - 1))) refl refl) where
   some : (b : Bool) → (n == 0) ≡ b → nat_lt 0 n ≡ true → nat_lt s (slots (n - 1)) ≡ true → (b || all_mine p q n) ≡ true
-      → 1 ≤ mine_at (spot q s) p
+      → 1 ≤ mine_at (slot_ref q s) p
   some true e a b h = absurd (let i = eqb-true n 0 e in let z : 0 < n = grind (arith, nat_tests) in omega arith)
-  some false e a b h = has_some (same_spot (spot q s)) p.mine
-      (every_spots (λ x. has (same_spot x) p.mine) q 0 (slots (n - 1)) h s (omega arith)
+  some false e a b h = has_some (same_slot (slot_ref q s)) p.mine
+      (every_slots (λ x. has (same_slot x) p.mine) q 0 (slots (n - 1)) h s (omega arith)
       (let z : s < slots (n - 1) = ltb-true s (slots (n - 1)) b in omega arith))
 
-  go : (a b : Bool) → nat_lt 0 n ≡ a → nat_lt s (slots (n - 1)) ≡ b → cond (a && b) 1 0 ≤ mine_at (spot q s) p
+  go : (a b : Bool) → nat_lt 0 n ≡ a → nat_lt s (slots (n - 1)) ≡ b → cond (a && b) 1 0 ≤ mine_at (slot_ref q s) p
   go true true a b = some (n == 0) refl a b h
   go true false a b = omega arith
   go false b a c = omega arith
 
 module _ (plan : Plan) (w : World) (l : PutLists) (a : ℕ) (p : Body) (q c : ℕ) (g : Sums plan w l)
-    (at : slice_get w.parts a ≡ Some p) (all : (s : ℕ) → room w.words (spot q s) ≤ mine_at (spot q s) p) where
+    (at : slice_get w.parts a ≡ Some p) (all : (s : ℕ) → room w.words (slot_ref q s) ≤ mine_at (slot_ref q s) p) where
   abbrev class_words : Words
   class_words = write w.words (Class q) (c + 1)
 
@@ -72,14 +72,14 @@ module _ (plan : Plan) (w : World) (l : PutLists) (a : ℕ) (p : Body) (q c : �
   class_part = classed p q c
 
   -- each of the page's slots is in `mine`
-  pub empty_page : (x : Spot) → x.page ≡ q → (if1 ((fields_of (w.words.state_at x.page x.slot)).present ||
+  pub empty_page : (x : SlotRef) → x.page ≡ q → (if1 ((fields_of (w.words.state_at x.page x.slot)).present ||
       (fields_of (w.words.state_at x.page x.slot)).marked) ≡ 0) × (total (in_hand x) w.parts ≡ 0) × (queued l x ≡ 0)
       × (total (mine_at x) w.parts ≡ mine_at x p)
   empty_page x e =
       let f = g.slots x in
       let m = total_at (mine_at x) w.parts a p at in
-      let r : room w.words x ≤ mine_at x p = (let P : ℕ → Type 0 = λ k. room w.words (spot k x.slot) ≤ mine_at
-      (spot k x.slot) p in subst P (sym e) (all x.slot)) in
+      let r : room w.words x ≤ mine_at x p = (let P : ℕ → Type 0 = λ k. room w.words (slot_ref k x.slot) ≤ mine_at
+      (slot_ref k x.slot) p in subst P (sym e) (all x.slot)) in
       (omega arith, omega arith, omega arith, omega arith)
 
   class_slots : SlotsAddUp plan class_words (set w.parts a class_part) l
@@ -96,10 +96,10 @@ module _ (plan : Plan) (w : World) (l : PutLists) (a : ℕ) (p : Body) (q c : �
     mine_new : mine_at x class_part ≡ if1 ((x.page == q) && nat_lt x.slot (slots c)) +
         cond (x.page == q) 0 (mine_at x p)
     mine_new =
-        let u = total_append (λ y. if1 (same_spot x y)) (spots q 0 (slots c)) (off (λ y. y.page == q) p.mine) in
+        let u = total_append (λ y. if1 (same_slot x y)) (slot_refs q 0 (slots c)) (off (λ y. y.page == q) p.mine) in
         let t = times_drop x q p.mine in
-        let s : total (λ y. if1 (same_spot x y)) (spots q 0 (slots c))
-        ≡ if1 ((x.page == q) && nat_lt x.slot (slots c)) = spots_total x q 0 (slots c) ∙ above (x.page == q)
+        let s : total (λ y. if1 (same_slot x y)) (slot_refs q 0 (slots c))
+        ≡ if1 ((x.page == q) && nat_lt x.slot (slots c)) = slots_total x q 0 (slots c) ∙ above (x.page == q)
         in omega arith where
           above : (b : Bool) → if1 (b && not (nat_lt x.slot 0) && nat_lt x.slot (0 + slots c))
               ≡ if1 (b && nat_lt x.slot (slots c))
@@ -141,7 +141,7 @@ module _ (plan : Plan) (w : World) (l : PutLists) (a : ℕ) (p : Body) (q c : �
   sums_set_class fill = sums_at plan w l l a p class_part class_words None g at class_slots
       (keys_value plan w.words class_words w.log g.keys (λ k s. refl) (λ y. value (y.page == q) y refl)) tt (λ k. refl)
       ((g.parts a p at).0, fill) (λ b u n h f. others b u h u.hand refl f) where
-        value : (b : Bool) (y : Spot) → (y.page == q) ≡ b
+        value : (b : Bool) (y : SlotRef) → (y.page == q) ≡ b
             → (value_at class_words y.page y.slot ≡ value_at w.words y.page y.slot)
             ⊎ (((fields_of (w.words.state_at y.page y.slot)).present ≡ false)
             × ((fields_of (w.words.state_at y.page y.slot)).marked ≡ false))
@@ -156,8 +156,8 @@ module _ (plan : Plan) (w : World) (l : PutLists) (a : ℕ) (p : Body) (q c : �
           go : (d : Bool) → (y.page == q) ≡ d → FillAgrees class_words u (Filling y v i)
           go true d =
               let t = (empty_page y (eqb-true y.page q d)).1 in
-              let k : in_hand y u ≡ if1 (same_spot y y) = rw e refl in
-              let one = if1_same_spot y in
+              let k : in_hand y u ≡ if1 (same_slot y y) = rw e refl in
+              let one = if1_same_slot y in
               let m = total_at (in_hand y) w.parts b u at' in absurd (omega arith)
           go false d =
               let same = put_other w.words.class_at q y.page (c + 1) d in
@@ -171,40 +171,40 @@ module _ (plan : Plan) (w : World) (l : PutLists) (a : ℕ) (p : Body) (q c : �
         others b u at' _ e f = f
 
 -- the words stay within their bounds
-pub bounds_state : (plan : Plan) (w : Words) (x : Spot) (n : ℕ) → BoundsOf plan w → (0 < (fields_of n).generation)
+pub bounds_state : (plan : Plan) (w : Words) (x : SlotRef) (n : ℕ) → BoundsOf plan w → (0 < (fields_of n).generation)
     × ((fields_of n).generation ≤ plan.keys.gen_max) → (((fields_of n).present || (fields_of n).marked) ≡ true
     → w.length_at x.page x.slot ≤ width (w.class_at x.page - 1)) → BoundsOf plan (write w (State x.page x.slot) n)
 bounds_state plan w x n old gen len = record {
-  generations = λ q s. gens q s (same_spot (spot q s) x) refl;
+  generations = λ q s. gens q s (same_slot (slot_ref q s) x) refl;
   classes = old.classes;
-  lengths = λ q s. lens q s (same_spot (spot q s) x) refl;
+  lengths = λ q s. lens q s (same_slot (slot_ref q s) x) refl;
 } where
-  gens : (q s : ℕ) (b : Bool) → same_spot (spot q s) x ≡ b →
+  gens : (q s : ℕ) (b : Bool) → same_slot (slot_ref q s) x ≡ b →
       (0 < (fields_of (put2 w.state_at x.page x.slot n q s)).generation)
       × ((fields_of (put2 w.state_at x.page x.slot n q s)).generation ≤ plan.keys.gen_max)
-  gens q s true e = let i = same_spot-true x (spot q s) e in let P : ℕ → Type 0 = λ m. (0 < (fields_of m).generation)
+  gens q s true e = let i = same_slot-true x (slot_ref q s) e in let P : ℕ → Type 0 = λ m. (0 < (fields_of m).generation)
       × ((fields_of m).generation ≤ plan.keys.gen_max) in
-      subst P (sym (ap (λ (y : Spot). put2 w.state_at x.page x.slot n y.page y.slot) i
+      subst P (sym (ap (λ (y : SlotRef). put2 w.state_at x.page x.slot n y.page y.slot) i
       ∙ put2_same w.state_at x.page x.slot n)) gen
   gens q s false e = let P : ℕ → Type 0 = λ m. (0 < (fields_of m).generation)
       × ((fields_of m).generation ≤ plan.keys.gen_max) in subst P (sym (put2_other w.state_at x.page x.slot n q s e))
       (old.generations q s)
 
-  lens : (q s : ℕ) (b : Bool) → same_spot (spot q s) x ≡ b →
+  lens : (q s : ℕ) (b : Bool) → same_slot (slot_ref q s) x ≡ b →
       ((fields_of (put2 w.state_at x.page x.slot n q s)).present ||
       (fields_of (put2 w.state_at x.page x.slot n q s)).marked) ≡ true → w.length_at q s ≤ width (w.class_at q - 1)
   lens q s true e h =
-      let i = same_spot-true x (spot q s) e in
-      let j : put2 w.state_at x.page x.slot n q s ≡ n = ap (λ (y : Spot). put2 w.state_at x.page x.slot n y.page y.slot)
+      let i = same_slot-true x (slot_ref q s) e in
+      let j : put2 w.state_at x.page x.slot n q s ≡ n = ap (λ (y : SlotRef). put2 w.state_at x.page x.slot n y.page y.slot)
       i ∙ put2_same w.state_at x.page x.slot n in
       let k : ((fields_of n).present || (fields_of n).marked) ≡ true = sym
       (ap (λ (m : ℕ). (fields_of m).present || (fields_of m).marked) j) ∙ h in
-      let P : Spot → Type 0 = λ y. w.length_at y.page y.slot ≤ width (w.class_at y.page - 1) in subst P (sym i) (len k)
+      let P : SlotRef → Type 0 = λ y. w.length_at y.page y.slot ≤ width (w.class_at y.page - 1) in subst P (sym i) (len k)
   lens q s false e h = old.lengths q s (sym (ap (λ (m : ℕ). (fields_of m).present || (fields_of m).marked)
       (put2_other w.state_at x.page x.slot n q s e)) ∙ h)
 
 -- if generation, M and P stay
-pub bounds_still : (plan : Plan) (w : Words) (x : Spot) (n : ℕ) → BoundsOf plan w → (fields_of n).generation
+pub bounds_still : (plan : Plan) (w : Words) (x : SlotRef) (n : ℕ) → BoundsOf plan w → (fields_of n).generation
     ≡ (fields_of (w.state_at x.page x.slot)).generation → (fields_of n).marked
     ≡ (fields_of (w.state_at x.page x.slot)).marked → (fields_of n).present
     ≡ (fields_of (w.state_at x.page x.slot)).present → BoundsOf plan (write w (State x.page x.slot) n)
@@ -212,23 +212,23 @@ bounds_still plan w x n old a b c = bounds_state plan w x n old (let g = old.gen
     (λ h. old.lengths x.page x.slot (sym (ap (λ (m : Bool). m || (fields_of n).marked) c
     ∙ ap (λ (m : Bool). (fields_of (w.state_at x.page x.slot)).present || m) b) ∙ h))
 
-pub bounds_length : (plan : Plan) (w : Words) (x : Spot) (n : ℕ) → BoundsOf plan w
+pub bounds_length : (plan : Plan) (w : Words) (x : SlotRef) (n : ℕ) → BoundsOf plan w
     → ((fields_of (w.state_at x.page x.slot)).present ≡ false) × ((fields_of (w.state_at x.page x.slot)).marked ≡ false)
     → BoundsOf plan (write w (Length x.page x.slot) n)
 bounds_length plan w x n old none = record {
   generations = old.generations;
   classes = old.classes;
   lengths = λ q s. lens
-      q s (same_spot (spot q s) x) refl;
+      q s (same_slot (slot_ref q s) x) refl;
 } where
-  lens : (q s : ℕ) (b : Bool) → same_spot (spot q s) x ≡ b →
+  lens : (q s : ℕ) (b : Bool) → same_slot (slot_ref q s) x ≡ b →
       ((fields_of (w.state_at q s)).present || (fields_of (w.state_at q s)).marked) ≡ true
       → put2 w.length_at x.page x.slot n q s ≤ width (w.class_at q - 1)
   lens q s true e h =
-      let i = same_spot-true x (spot q s) e in
+      let i = same_slot-true x (slot_ref q s) e in
       let k : ((fields_of (w.state_at q s)).present || (fields_of (w.state_at q s)).marked)
       ≡ ((fields_of (w.state_at x.page x.slot)).present || (fields_of (w.state_at x.page x.slot)).marked) = ap
-      (λ (y : Spot). (fields_of (w.state_at y.page y.slot)).present ||
+      (λ (y : SlotRef). (fields_of (w.state_at y.page y.slot)).present ||
       (fields_of (w.state_at y.page y.slot)).marked) i in
       let m : ((fields_of (w.state_at x.page x.slot)).present || (fields_of (w.state_at x.page x.slot)).marked)
       ≡ false = rw (none.0, none.1) refl in

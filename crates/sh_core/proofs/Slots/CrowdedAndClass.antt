@@ -4,41 +4,41 @@ use Rattle.std.proofs.Common.{[], ◌∷◌, length, sym, refl, ap, ◌∙◌, a
 use Rattle.std.specs.Prelude.{not, nat_lt}
 use Rattle.std.proofs.lemmas.Bool.Decides.{nat_tests}
 use Rattle.sh_history.specs.declared.entry.Entry.TheVariants.{Crowded}
-use Rattle.sh_slots.specs.declared.hand.Spot.{Spot}
-use Rattle.sh_slots.specs.declared.hand.Name.{Name}
+use Rattle.sh_slots.specs.declared.hand.SlotRef.{SlotRef}
+use Rattle.sh_slots.specs.declared.hand.KeyRef.{KeyRef}
 use Rattle.sh_slots.specs.declared.hand.Hand.TheVariants.{Idle}
 use Rattle.sh_word.specs.Fields.{Fields, fields_of}
 use Rattle.sh_step.specs.Plans.{Plan, Lawful}
 use Rattle.sh_shape.specs.Classes.{slots}
-use Rattle.sh_slots.specs.Slots.{same_spot, spots, spot_of, live_at}
+use Rattle.sh_slots.specs.Slots.{same_slot, slot_refs, slot_ref_of, live_at}
 use Rattle.sh_step.specs.Collections.{total, if1}
 use Rattle.sh_step.specs.declared.body.Body.{Body}
 use Rattle.sh_step.specs.Rows.{hand}
 use Rattle.sh_core.specs.Worlds.{World, value_at}
 use Rattle.std.proofs.lemmas.Bool.{lt-ltb}
 use Rattle.sh_core.specs.Lists.{slots_under, PutLists, mine_at, in_hand, times, state_of, accounts}
-use Rattle.sh_core.specs.Tallies.{held, visits, lost, room, SlotsAddUp, at_spot, stale}
+use Rattle.sh_core.specs.Tallies.{held, visits, lost, room, SlotsAddUp, at_slot, stale}
 use Rattle.sh_core.specs.Stories.{values}
 use Rattle.sh_core.proofs.Slots.Permits.{Permits}
 use Rattle.sh_core.specs.Sums.{Sums}
 use Rattle.sh_core.proofs.Sums.Totals.{total_le, total_plus, total_length}
-use Rattle.sh_core.proofs.Slots.Slots.{same_spot-true}
+use Rattle.sh_core.proofs.Slots.Slots.{same_slot-true}
 use Rattle.sh_core.proofs.Slots.Logs.{live_parts}
 use Rattle.sh_core.proofs.Slots.MarkStep.{same_key}
 use Rattle.sh_core.proofs.Slots.SlotSums.{visits_few}
 
 -- how often a slot is among the n slots of page q from s on
-pub spots_total : (x : Spot) (q s n : ℕ) → total (λ y. if1 (same_spot x y)) (spots q s n)
+pub slots_total : (x : SlotRef) (q s n : ℕ) → total (λ y. if1 (same_slot x y)) (slot_refs q s n)
     ≡ if1 ((x.page == q) && not (nat_lt x.slot s) && nat_lt x.slot (s + n))
-unfolding total spots
-spots_total x q s zero = go (x.page == q) where
+unfolding total slot_refs
+slots_total x q s zero = go (x.page == q) where
   go : (b : Bool) → 0 ≡ if1 (b && not (nat_lt x.slot s) && nat_lt x.slot (s + 0))
   go true = grind (arith, nat_tests)
   go false = refl
-spots_total x q s (suc n) = go (x.page == q) (spots_total x q (s + 1) n) where
-  go : (b : Bool) → total (λ y. if1 (same_spot x y)) (spots q (s + 1) n)
+slots_total x q s (suc n) = go (x.page == q) (slots_total x q (s + 1) n) where
+  go : (b : Bool) → total (λ y. if1 (same_slot x y)) (slot_refs q (s + 1) n)
       ≡ if1 (b && not (nat_lt x.slot (s + 1)) && nat_lt x.slot (s + 1 + n))
-      → if1 (b && (x.slot == s)) + total (λ y. if1 (same_spot x y)) (spots q (s + 1) n)
+      → if1 (b && (x.slot == s)) + total (λ y. if1 (same_slot x y)) (slot_refs q (s + 1) n)
       ≡ if1 (b && not (nat_lt x.slot s) && nat_lt x.slot (s + suc n))
   go true h = rw h (grind (arith, nat_tests))
   go false h = omega arith
@@ -54,30 +54,30 @@ but_one f h (x ∷ xs) zero v e z =
 but_one f h (x ∷ xs) (suc i) v e z = let one = h x in let r = but_one f h xs i v e z in omega arith
 
 -- a hold on the slot is on the present key, or lost
-on_key : (plan : Plan) (st : Fields) (k : ℕ) (y : Name) → Lawful plan → plan.keys.unpack k ≡ Some y → y.generation
-    ≡ st.generation → (j : ℕ) → if1 (at_spot (spot_of y) (plan.keys.unpack j)) ≤ if1 (j == k) + stale st (spot_of y)
+on_key : (plan : Plan) (st : Fields) (k : ℕ) (y : KeyRef) → Lawful plan → plan.keys.unpack k ≡ Some y → y.generation
+    ≡ st.generation → (j : ℕ) → if1 (at_slot (slot_ref_of y) (plan.keys.unpack j)) ≤ if1 (j == k) + stale st (slot_ref_of y)
     (plan.keys.unpack j)
 on_key plan st k y laws name gen j = go (plan.keys.unpack j) refl where
-  go : (o : Option Name) → plan.keys.unpack j ≡ o → if1 (at_spot (spot_of y) o) ≤ if1 (j == k) + stale st (spot_of y) o
+  go : (o : Option KeyRef) → plan.keys.unpack j ≡ o → if1 (at_slot (slot_ref_of y) o) ≤ if1 (j == k) + stale st (slot_ref_of y) o
   go None e = omega arith
-  go (Some z) e = by (same_spot (spot_of y) (spot_of z)) st.present (z.generation == st.generation) refl refl where
-    by : (b c d : Bool) → same_spot (spot_of y) (spot_of z) ≡ b → (z.generation == st.generation) ≡ d
+  go (Some z) e = by (same_slot (slot_ref_of y) (slot_ref_of z)) st.present (z.generation == st.generation) refl refl where
+    by : (b c d : Bool) → same_slot (slot_ref_of y) (slot_ref_of z) ≡ b → (z.generation == st.generation) ≡ d
         → if1 b ≤ if1 (j == k) + cond b (if1 (not (c && d))) 0
     by true true true h f =
-        let s : spot_of z ≡ spot_of y = sym (same_spot-true (spot_of z) (spot_of y) h) in
+        let s : slot_ref_of z ≡ slot_ref_of y = sym (same_slot-true (slot_ref_of z) (slot_ref_of y) h) in
         let g : z.generation ≡ y.generation = eqb-true z.generation st.generation f ∙ sym gen in
         let t = same_key plan j k z y laws e name (sym s) (sym g) in omega arith
     by true true false h f = omega arith
     by true false d h f = omega arith
     by false c d h f = omega arith
 
-pub crowded_permitted : (plan : Plan) (w : World) (l : PutLists) (a : ℕ) (p : Body) (k : ℕ) (y : Name) → Lawful plan
+pub crowded_permitted : (plan : Plan) (w : World) (l : PutLists) (a : ℕ) (p : Body) (k : ℕ) (y : KeyRef) → Lawful plan
     → Sums plan w l → slice_get w.parts a ≡ Some (hand p Idle) → plan.keys.unpack k ≡ Some y
     → live_at y.generation (w.words.state_at y.page y.slot) ≡ true
     → nat_lt (fields_of (w.words.state_at y.page y.slot)).count plan.keys.guard_max ≡ false
     → Permits plan w.log (Crowded a k)
 crowded_permitted plan w l a p k y laws g at name live under =
-    let x : Spot = spot_of y in
+    let x : SlotRef = slot_ref_of y in
     let st : Fields = fields_of (w.words.state_at y.page y.slot) in
     let c = live_parts st.present st.marked st.generation y.generation live in
     let s = g.keys k y name in
@@ -92,15 +92,15 @@ crowded_permitted plan w l a p k y laws g at name live under =
     let r = but_one (visits plan x) (λ u. visits_few plan x u u.hand) w.parts a (hand p Idle) at refl in
     let h = g.all_holds k in
     let n = g.passes in (rw v (omega arith), omega arith, omega arith) where
-      each : (u : Body) → held plan (spot_of y) u ≤ times k u.holds + lost plan (spot_of y)
+      each : (u : Body) → held plan (slot_ref_of y) u ≤ times k u.holds + lost plan (slot_ref_of y)
           (fields_of (w.words.state_at y.page y.slot)) u
       each u =
           let st : Fields = fields_of (w.words.state_at y.page y.slot) in
           let c = live_parts st.present st.marked st.generation y.generation live in
-          let t = total_le (λ j. if1 (at_spot (spot_of y) (plan.keys.unpack j)))
-          (λ j. if1 (j == k) + stale st (spot_of y) (plan.keys.unpack j)) (on_key plan st k y laws name c.2) u.holds
+          let t = total_le (λ j. if1 (at_slot (slot_ref_of y) (plan.keys.unpack j)))
+          (λ j. if1 (j == k) + stale st (slot_ref_of y) (plan.keys.unpack j)) (on_key plan st k y laws name c.2) u.holds
           in
-          let q = total_plus (λ (j : ℕ). if1 (j == k)) (λ j. stale st (spot_of y) (plan.keys.unpack j)) u.holds
+          let q = total_plus (λ (j : ℕ). if1 (j == k)) (λ j. stale st (slot_ref_of y) (plan.keys.unpack j)) u.holds
           in omega arith
 
 -- Six kinds fill a page: each slot of the class is one of them
@@ -110,9 +110,9 @@ three true false = refl
 three false true = refl
 three false false = refl
 
-each_one : (f : Spot → ℕ) (q s n : ℕ) → ((t : ℕ) → s ≤ t → t < s + n → f (record { page = q; slot = t }) ≡ 1)
-    → total f (spots q s n) ≡ n
-unfolding total spots
+each_one : (f : SlotRef → ℕ) (q s n : ℕ) → ((t : ℕ) → s ≤ t → t < s + n → f (record { page = q; slot = t }) ≡ 1)
+    → total f (slot_refs q s n) ≡ n
+unfolding total slot_refs
 each_one f q s zero h = refl
 each_one f q s (suc n) h = let one = h s (omega arith) (omega arith)
     in let rest = each_one f q (s + 1) n (λ t a b. h t (omega arith) (omega arith)) in omega arith
@@ -126,13 +126,13 @@ accounts_fill plan w l q c fine is =
     let n = slots_under (w.words.class_at q) in
     let under : n ≡ slots (w.words.class_at q - 1) = let z : (w.words.class_at q == 0)
     ≡ false = grind (arith, nat_tests) in rw z refl in
-    let xs = spots q 0 n in
-    let live : Spot → ℕ = λ x. if1 ((state_of w x).present && not (state_of w x).marked) in
-    let marked : Spot → ℕ = λ x. if1 ((state_of w x).present && (state_of w x).marked) in
-    let retired : Spot → ℕ = λ x. if1 (not (state_of w x).present && (state_of w x).marked) in
-    let mine : Spot → ℕ = λ x. total (mine_at x) w.parts in
-    let inhand : Spot → ℕ = λ x. total (in_hand x) w.parts in
-    let queue : Spot → ℕ = λ x. times x.slot (l.stack q) + times x.slot (l.chain q) in
+    let xs = slot_refs q 0 n in
+    let live : SlotRef → ℕ = λ x. if1 ((state_of w x).present && not (state_of w x).marked) in
+    let marked : SlotRef → ℕ = λ x. if1 ((state_of w x).present && (state_of w x).marked) in
+    let retired : SlotRef → ℕ = λ x. if1 (not (state_of w x).present && (state_of w x).marked) in
+    let mine : SlotRef → ℕ = λ x. total (mine_at x) w.parts in
+    let inhand : SlotRef → ℕ = λ x. total (in_hand x) w.parts in
+    let queue : SlotRef → ℕ = λ x. times x.slot (l.stack q) + times x.slot (l.chain q) in
     let p1 = total_plus live (λ x. marked x + (retired x + (mine x + (inhand x + queue x)))) xs in
     let p2 = total_plus marked (λ x. retired x + (mine x + (inhand x + queue x))) xs in
     let p3 = total_plus retired (λ x. mine x + (inhand x + queue x)) xs in

@@ -4,7 +4,7 @@ use Rattle.std.proofs.Common.{false, List, length, get_or, sym, refl, ap, ◌∙
 use Rattle.std.proofs.Common.{eqb-true}
 use Rattle.std.proofs.lemmas.Bool.Decides.{nat_tests}
 use Rattle.sh_history.specs.declared.entry.Entry.{Entry}
-use Rattle.sh_slots.specs.declared.hand.Spot.{Spot}
+use Rattle.sh_slots.specs.declared.hand.SlotRef.{SlotRef}
 use Rattle.sh_slots.specs.declared.hand.Hand.{Hand}
 use Rattle.sh_slots.specs.declared.hand.Hand.TheVariants.{Idle, Filling}
 use Rattle.sh_core.specs.Words.{Words, write, put, put2}
@@ -12,7 +12,7 @@ use Rattle.sh_shape.specs.declared.places.Place.TheVariants.{Length, Payload}
 use Rattle.sh_word.specs.Fields.{Fields, fields_of}
 use Rattle.sh_step.specs.Plans.{Plan}
 use Rattle.sh_shape.specs.Classes.{width}
-use Rattle.sh_slots.specs.Slots.{same_spot, spot_of}
+use Rattle.sh_slots.specs.Slots.{same_slot, slot_ref_of}
 use Rattle.sh_step.specs.Collections.{if1, has, without}
 use Rattle.sh_step.specs.declared.body.Body.{Body}
 use Rattle.sh_step.specs.Rows.{hand, class_word_noted, fill_slot, fill}
@@ -23,7 +23,7 @@ use Rattle.sh_core.specs.Stories.{values, removals, KeysAgree}
 use Rattle.sh_core.specs.Sums.{Sums, FillAgrees}
 use Rattle.sh_core.specs.Placed.{BoundsOf}
 use Rattle.sh_core.proofs.Sums.Totals.{total_at, total_without, total_two}
-use Rattle.sh_core.proofs.Slots.Slots.{tally_same, slots_part, same_spot-refl, same_spot-true, tally_ext, if1_same_spot}
+use Rattle.sh_core.proofs.Slots.Slots.{tally_same, slots_part, same_slot-refl, same_slot-true, tally_ext, if1_same_slot}
 use Rattle.sh_core.proofs.Slots.SlotSteps.{fill_adds_up}
 use Rattle.sh_core.proofs.Slots.Logs.{story_fill}
 use Rattle.sh_core.proofs.Slots.SumsStep.{sums_at}
@@ -36,64 +36,64 @@ use Rattle.sh_core.proofs.Sums.Writes.{put2_same, put2_other, put_same, put_othe
 -- a step that changes only value words of Empty slots
 pub keys_value : (plan : Plan) (w W : Words) (log : List Entry) → KeysAgree plan w log
     → ((q s : ℕ) → W.state_at q s ≡ w.state_at q s)
-    → ((y : Spot) → (value_at W y.page y.slot ≡ value_at w y.page y.slot)
+    → ((y : SlotRef) → (value_at W y.page y.slot ≡ value_at w y.page y.slot)
     ⊎ (((fields_of (w.state_at y.page y.slot)).present ≡ false)
     × ((fields_of (w.state_at y.page y.slot)).marked ≡ false))) → KeysAgree plan W log
 keys_value plan w W log old state others k z name = rw (state z.page z.slot) (⊎_elim
     (λ e. rw e (old k z name))
     (λ n. story_fill (fields_of (w.state_at z.page z.slot)) z.generation (values k log) (removals k log)
     (value_at w z.page z.slot) (value_at W z.page z.slot) (old k z name) n.1 n.0)
-    (others (spot_of z)))
+    (others (slot_ref_of z)))
 
-fill_due : (plan : Plan) (p : Body) (x : Spot) (v : List ℕ) → has (same_spot x) p.mine ≡ true → (y : Spot) (st : Fields)
-    → same_spot y x ≡ false → due plan y st (hand (record p { mine = without (same_spot x) p.mine }) (Filling x v 0))
+fill_due : (plan : Plan) (p : Body) (x : SlotRef) (v : List ℕ) → has (same_slot x) p.mine ≡ true → (y : SlotRef) (st : Fields)
+    → same_slot y x ≡ false → due plan y st (hand (record p { mine = without (same_slot x) p.mine }) (Filling x v 0))
     ≡ due plan y st (hand p Idle)
 fill_due plan p x v is y st h =
-    let t = total_without (λ u. if1 (same_spot y u)) (same_spot x) 0
-    (λ u e. let i : x ≡ u = same_spot-true u x e in let f : same_spot y u ≡ false = ap (same_spot y) (sym i) ∙ h
+    let t = total_without (λ u. if1 (same_slot y u)) (same_slot x) 0
+    (λ u e. let i : x ≡ u = same_slot-true u x e in let f : same_slot y u ≡ false = ap (same_slot y) (sym i) ∙ h
     in rw f refl) p.mine is in
-    let n : if1 (same_spot y x) ≡ 0 = rw h refl in
-    tally_ext (due plan y st (hand (record p { mine = without (same_spot x) p.mine }) (Filling x v 0)))
+    let n : if1 (same_slot y x) ≡ 0 = rw h refl in
+    tally_ext (due plan y st (hand (record p { mine = without (same_slot x) p.mine }) (Filling x v 0)))
     (due plan y st (hand p Idle)) (omega arith) n refl refl refl refl
 
 -- a slot of `mine` is in no hand
-not_mine : (plan : Plan) (w : World) (l : PutLists) (a b : ℕ) (p q : Body) (x y : Spot) (u : List ℕ) (i : ℕ)
-    → Sums plan w l → slice_get w.parts a ≡ Some p → has (same_spot x) p.mine ≡ true → slice_get w.parts b ≡ Some q
-    → q.hand ≡ Filling y u i → same_spot y x ≡ false
-not_mine plan w l a b p q x y u i g at is at' e = go (same_spot y x) refl where
-  go : (c : Bool) → same_spot y x ≡ c → c ≡ false
+not_mine : (plan : Plan) (w : World) (l : PutLists) (a b : ℕ) (p q : Body) (x y : SlotRef) (u : List ℕ) (i : ℕ)
+    → Sums plan w l → slice_get w.parts a ≡ Some p → has (same_slot x) p.mine ≡ true → slice_get w.parts b ≡ Some q
+    → q.hand ≡ Filling y u i → same_slot y x ≡ false
+not_mine plan w l a b p q x y u i g at is at' e = go (same_slot y x) refl where
+  go : (c : Bool) → same_slot y x ≡ c → c ≡ false
   go false h = refl
   go true h =
-      let s : y ≡ x = same_spot-true x y h in
+      let s : y ≡ x = same_slot-true x y h in
       let f = g.slots x in
       let r = room_few w.words x in
-      let some = has_some (same_spot x) p.mine is in
+      let some = has_some (same_slot x) p.mine is in
       let mine = total_at (mine_at x) w.parts a p at in
       let hands = total_at (in_hand x) w.parts b q at' in
-      let k : in_hand x q ≡ if1 (same_spot x y) = rw e refl in
-      let t : same_spot x y ≡ true = ap (same_spot x) s ∙ same_spot-refl x in
-      let one : if1 (same_spot x y) ≡ 1 = rw t refl in absurd (omega arith)
+      let k : in_hand x q ≡ if1 (same_slot x y) = rw e refl in
+      let t : same_slot x y ≡ true = ap (same_slot x) s ∙ same_slot-refl x in
+      let one : if1 (same_slot x y) ≡ 1 = rw t refl in absurd (omega arith)
 
-pub sums_fill_slot : (plan : Plan) (w : World) (l : PutLists) (a : ℕ) (p : Body) (x : Spot) (v : List ℕ) → Sums plan w l
-    → slice_get w.parts a ≡ Some (hand p Idle) → has (same_spot x) p.mine ≡ true → class_word_noted p x.page
+pub sums_fill_slot : (plan : Plan) (w : World) (l : PutLists) (a : ℕ) (p : Body) (x : SlotRef) (v : List ℕ) → Sums plan w l
+    → slice_get w.parts a ≡ Some (hand p Idle) → has (same_slot x) p.mine ≡ true → class_word_noted p x.page
     ≡ w.words.class_at x.page → length v ≤ width (w.words.class_at x.page - 1)
     → Sums plan (apply w a (fill_slot (hand p Idle) x v)) l
 unfolding apply value_at
 sums_fill_slot plan w l a p x v g at is class fits =
     let f = g.slots x in
-    let one = if1_same_spot x in
-    let some = has_some (same_spot x) p.mine is in
+    let one = if1_same_slot x in
+    let some = has_some (same_slot x) p.mine is in
     let mine = total_at (mine_at x) w.parts a (hand p Idle) at in
     let r = room_few w.words x in
     let none = if1_neither (fields_of (w.words.state_at x.page x.slot)).present
     (fields_of (w.words.state_at x.page x.slot)).marked (omega arith) in
-    sums_at plan w l l a (hand p Idle) (hand (record p { mine = without (same_spot x) p.mine }) (Filling x v 0))
+    sums_at plan w l l a (hand p Idle) (hand (record p { mine = without (same_slot x) p.mine }) (Filling x v 0))
     (write w.words (Length x.page x.slot) (length v)) None g at
-    (slots_part plan w.words w.parts l l a (hand p Idle) (hand (record p { mine = without (same_spot x) p.mine })
+    (slots_part plan w.words w.parts l l a (hand p Idle) (hand (record p { mine = without (same_slot x) p.mine })
     (Filling x v 0)) x g.slots at (fill_due plan p x v is) (λ y h. refl)
     (fill_adds_up _ _ (fields_of (w.words.state_at x.page x.slot)) plan w.parts a p x v is at f))
     (keys_value plan w.words (write w.words (Length x.page x.slot) (length v)) w.log g.keys (λ q s. refl)
-    (λ y. apart y none (same_spot y x) refl))
+    (λ y. apart y none (same_slot y x) refl))
     tt (λ j. refl) (
       (g.parts a (hand p Idle) at).0,
       record {
@@ -117,36 +117,36 @@ sums_fill_slot plan w l a p x v g at is class fits =
       }
       others b q n at' _ e h = h
 
-      apart : (y : Spot) → ((fields_of (w.words.state_at x.page x.slot)).present ≡ false)
-          × ((fields_of (w.words.state_at x.page x.slot)).marked ≡ false) → (b : Bool) → same_spot y x ≡ b
+      apart : (y : SlotRef) → ((fields_of (w.words.state_at x.page x.slot)).present ≡ false)
+          × ((fields_of (w.words.state_at x.page x.slot)).marked ≡ false) → (b : Bool) → same_slot y x ≡ b
           → (value_at (write w.words (Length x.page x.slot) (length v)) y.page y.slot ≡ value_at w.words y.page y.slot)
           ⊎ (((fields_of (w.words.state_at y.page y.slot)).present ≡ false)
           × ((fields_of (w.words.state_at y.page y.slot)).marked ≡ false))
-      apart y none true h = let e = same_spot-true x y h in inr (rw e none)
+      apart y none true h = let e = same_slot-true x y h in inr (rw e none)
       apart y none false h = inl (ap (λ (n : ℕ). words_from (w.words.payload_at y.page)
           (y.slot * width (w.words.class_at y.page - 1)) n) (put2_other w.words.length_at x.page x.slot (length v)
           y.page y.slot h))
 
 -- a slot in a hand is in no other hand
-not_hand : (plan : Plan) (w : World) (l : PutLists) (a b : ℕ) (p q : Body) (x y : Spot) (v u : List ℕ) (i j : ℕ)
+not_hand : (plan : Plan) (w : World) (l : PutLists) (a b : ℕ) (p q : Body) (x y : SlotRef) (v u : List ℕ) (i j : ℕ)
     → Sums plan w l → b ≢ a → slice_get w.parts a ≡ Some p → p.hand ≡ Filling x v i → slice_get w.parts b ≡ Some q
-    → q.hand ≡ Filling y u j → same_spot y x ≡ false
-not_hand plan w l a b p q x y v u i j g n at d at' e = go (same_spot y x) refl where
-  go : (c : Bool) → same_spot y x ≡ c → c ≡ false
+    → q.hand ≡ Filling y u j → same_slot y x ≡ false
+not_hand plan w l a b p q x y v u i j g n at d at' e = go (same_slot y x) refl where
+  go : (c : Bool) → same_slot y x ≡ c → c ≡ false
   go false h = refl
   go true h =
-      let s : y ≡ x = same_spot-true x y h in
+      let s : y ≡ x = same_slot-true x y h in
       let f = g.slots x in
       let r = room_few w.words x in
       let both = total_two (in_hand x) w.parts b a q p n at' at in
-      let k : in_hand x q ≡ if1 (same_spot x y) = rw e refl in
-      let m : in_hand x p ≡ if1 (same_spot x x) = rw d refl in
-      let t : same_spot x y ≡ true = ap (same_spot x) s ∙ same_spot-refl x in
-      let one : if1 (same_spot x y) ≡ 1 = rw t refl in
-      let two = if1_same_spot x in absurd (omega arith)
+      let k : in_hand x q ≡ if1 (same_slot x y) = rw e refl in
+      let m : in_hand x p ≡ if1 (same_slot x x) = rw d refl in
+      let t : same_slot x y ≡ true = ap (same_slot x) s ∙ same_slot-refl x in
+      let one : if1 (same_slot x y) ≡ 1 = rw t refl in
+      let two = if1_same_slot x in absurd (omega arith)
 
 -- the words of another slot are different words
-row_other : (w : Words) (x y : Spot) (k v n W : ℕ) → same_spot y x ≡ false → k < W → n ≤ W
+row_other : (w : Words) (x y : SlotRef) (k v n W : ℕ) → same_slot y x ≡ false → k < W → n ≤ W
     → words_from ((write w (Payload x.page (x.slot * W + k)) v).payload_at y.page) (y.slot * W) n
     ≡ words_from (w.payload_at y.page) (y.slot * W) n
 unfolding put2
@@ -167,7 +167,7 @@ row_other w x y k v n W h a b = go (y.page == x.page) refl where
       ∙ ap (λ (q : ℕ). words_from (w.payload_at q) (y.slot * W) n) (sym i)
 
 -- the same if the pages may differ
-row_any : (w : Words) (x y : Spot) (k v n C D : ℕ) → same_spot y x ≡ false → k < C
+row_any : (w : Words) (x y : SlotRef) (k v n C D : ℕ) → same_slot y x ≡ false → k < C
     → (y.page ≡ x.page → (D ≡ C) × (n ≤ C)) → words_from ((write w (Payload x.page (x.slot * C + k)) v).payload_at
     y.page) (y.slot * D) n ≡ words_from (w.payload_at y.page) (y.slot * D) n
 unfolding put2
@@ -185,13 +185,13 @@ payload_here : (w : Words) (q k v : ℕ) → (write w (Payload q k) v).payload_a
 unfolding put2
 payload_here w q k v = put_same w.payload_at q (put (w.payload_at q) k v)
 
-pub sums_fill : (plan : Plan) (w : World) (l : PutLists) (a : ℕ) (p : Body) (x : Spot) (v : List ℕ) (i : ℕ)
+pub sums_fill : (plan : Plan) (w : World) (l : PutLists) (a : ℕ) (p : Body) (x : SlotRef) (v : List ℕ) (i : ℕ)
     → Sums plan w l → BoundsOf plan w.words → slice_get w.parts a ≡ Some (hand p (Filling x v i)) → i < length v
     → Sums plan (apply w a (fill (hand p (Filling x v i)) x v i)) l
 unfolding apply value_at
 sums_fill plan w l a p x v i g bounds at less =
     let f = g.slots x in
-    let one = if1_same_spot x in
+    let one = if1_same_slot x in
     let hands = total_at (in_hand x) w.parts a (hand p (Filling x v i)) at in
     let r = room_few w.words x in
     let none = if1_neither (fields_of (w.words.state_at x.page x.slot)).present
@@ -203,7 +203,7 @@ sums_fill plan w l a p x v i g bounds at less =
     rw fm.class_is (sums_at plan w l l a (hand p (Filling x v i)) (hand p (Filling x v (i + 1))) W None g at
     (slots_part plan w.words w.parts l l a (hand p (Filling x v i)) (hand p (Filling x v (i + 1))) x g.slots at
     (λ y st h. refl) (λ y h. refl) (rw due_same f))
-    (keys_value plan w.words W w.log g.keys (λ q s. refl) (λ y. apart y none (omega arith) (same_spot y x)
+    (keys_value plan w.words W w.log g.keys (λ q s. refl) (λ y. apart y none (omega arith) (same_slot y x)
     ((fields_of (w.words.state_at y.page y.slot)).present || (fields_of (w.words.state_at y.page y.slot)).marked)
     refl refl))
     tt (λ j. refl) (
@@ -225,20 +225,20 @@ sums_fill plan w l a p x v i g bounds at less =
       W : Words
       W = write w.words (Payload x.page (x.slot * C + i)) (get_or v i 0)
 
-      within : (y : Spot) → ((fields_of (w.words.state_at y.page y.slot)).present ||
+      within : (y : SlotRef) → ((fields_of (w.words.state_at y.page y.slot)).present ||
           (fields_of (w.words.state_at y.page y.slot)).marked) ≡ true → y.page ≡ x.page
           → w.words.length_at y.page y.slot ≤ C
       within y there e = let P : ℕ → Type 0 = λ q. w.words.length_at y.page y.slot ≤ width (w.words.class_at q - 1)
           in subst P e (bounds.lengths y.page y.slot there)
 
-      apart : (y : Spot) → ((fields_of (w.words.state_at x.page x.slot)).present ≡ false)
-          × ((fields_of (w.words.state_at x.page x.slot)).marked ≡ false) → i < C → (b d : Bool) → same_spot y x ≡ b
+      apart : (y : SlotRef) → ((fields_of (w.words.state_at x.page x.slot)).present ≡ false)
+          × ((fields_of (w.words.state_at x.page x.slot)).marked ≡ false) → i < C → (b d : Bool) → same_slot y x ≡ b
           → ((fields_of (w.words.state_at y.page y.slot)).present ||
           (fields_of (w.words.state_at y.page y.slot)).marked) ≡ d
           → (value_at W y.page y.slot ≡ value_at w.words y.page y.slot)
           ⊎ (((fields_of (w.words.state_at y.page y.slot)).present ≡ false)
           × ((fields_of (w.words.state_at y.page y.slot)).marked ≡ false))
-      apart y none c true d h k = let e = same_spot-true x y h in inr (rw e none)
+      apart y none c true d h k = let e = same_slot-true x y h in inr (rw e none)
       apart y none c false false h k = inr (if1_neither (fields_of (w.words.state_at y.page y.slot)).present
           (fields_of (w.words.state_at y.page y.slot)).marked (rw k refl))
       apart y none c false true h k = inl (row_any w.words x y i (get_or v i 0) (w.words.length_at y.page y.slot) C

@@ -8,13 +8,13 @@ use Rattle.std.proofs.lemmas.Bool.{cases_lt}
 use Rattle.std.proofs.lemmas.Bool.Decides.{nat_tests}
 use Rattle.sh_history.specs.declared.entry.Entry.{Entry}
 use Rattle.sh_history.specs.declared.entry.Entry.TheVariants.{Insert, Got, Gone}
-use Rattle.sh_slots.specs.declared.hand.Spot.{Spot}
-use Rattle.sh_slots.specs.declared.hand.Name.{Name}
+use Rattle.sh_slots.specs.declared.hand.SlotRef.{SlotRef}
+use Rattle.sh_slots.specs.declared.hand.KeyRef.{KeyRef}
 use Rattle.sh_core.specs.Words.{Words, write}
 use Rattle.sh_shape.specs.declared.places.Place.TheVariants.{State}
 use Rattle.sh_word.specs.Fields.{Fields, fields_of}
 use Rattle.sh_step.specs.Plans.{Plan}
-use Rattle.sh_slots.specs.Slots.{same_spot, spot_of, live_at}
+use Rattle.sh_slots.specs.Slots.{same_slot, slot_ref_of, live_at}
 use Rattle.sh_step.specs.Collections.{total, if1}
 use Rattle.sh_step.specs.declared.body.Body.{Body}
 use Rattle.sh_core.specs.Worlds.{value_at}
@@ -22,7 +22,7 @@ use Rattle.sh_core.specs.Stories.{values, removals, removed_in, gots_by, release
 use Rattle.sh_core.proofs.Slots.Permits.{Permits}
 use Rattle.sh_core.specs.Lists.{times}
 use Rattle.sh_core.proofs.Sums.Totals.{total_append, get_set}
-use Rattle.sh_core.proofs.Slots.Slots.{same_spot-true}
+use Rattle.sh_core.proofs.Slots.Slots.{same_slot-true}
 use Rattle.sh_core.proofs.Sums.Writes.{put2_same, put2_other}
 
 pub values_append : (k : ℕ) (es fs : List Entry) → values k (es ++ fs) ≡ values k es ++ values k fs
@@ -53,7 +53,7 @@ story_gone st g vs gone now s h = go (cases_lt g st.generation) where
   go (inr c) = ⊎_elim (λ d. of_now st.present st.marked refl refl (sym d)) (λ d. inl (s.later d).0) (eq-or-lt_of_le c)
 
 -- Gone: the slot says that k is not Live in it
-pub gone_permitted : (plan : Plan) (log : List Entry) (a k : ℕ) (y : Name) (n : ℕ) (now : List ℕ)
+pub gone_permitted : (plan : Plan) (log : List Entry) (a k : ℕ) (y : KeyRef) (n : ℕ) (now : List ℕ)
     → Story (fields_of n) y.generation (values k log) (removals k log) now → live_at y.generation n ≡ false
     → Permits plan log (Gone a k)
 gone_permitted plan log a k y n now s h = story_gone (fields_of n) y.generation (values k log) (removals k log) now s h
@@ -64,7 +64,7 @@ live_parts true false g h e = (refl, refl, grind (arith, nat_tests))
 live_parts false m g h e = absurd (let z : false ≡ true = e in cc)
 
 -- Got: the slot is Live with k's generation
-pub got_permitted : (plan : Plan) (log : List Entry) (a k : ℕ) (y : Name) (n : ℕ) (now : List ℕ)
+pub got_permitted : (plan : Plan) (log : List Entry) (a k : ℕ) (y : KeyRef) (n : ℕ) (now : List ℕ)
     → Story (fields_of n) y.generation (values k log) (removals k log) now → live_at y.generation n ≡ true
     → Permits plan log (Got a k now)
 got_permitted plan log a k y n now s h =
@@ -154,20 +154,20 @@ pub values_none : (k : ℕ) (es : List Entry) (e : Entry) → values k (e ∷ []
 values_none k es e h = values_append k es (e ∷ []) ∙ rw h (append-nil (values k es))
 
 -- a step on the state word of x
-pub keys_state : (plan : Plan) (w : Words) (log log' : List Entry) (x : Spot) (n : ℕ) → KeysAgree plan w log
-    → ((k : ℕ) (z : Name) → plan.keys.unpack k ≡ Some z → same_spot (spot_of z) x ≡ false
+pub keys_state : (plan : Plan) (w : Words) (log log' : List Entry) (x : SlotRef) (n : ℕ) → KeysAgree plan w log
+    → ((k : ℕ) (z : KeyRef) → plan.keys.unpack k ≡ Some z → same_slot (slot_ref_of z) x ≡ false
     → (values k log' ≡ values k log) × (removals k log' ≡ removals k log))
-    → ((k : ℕ) (z : Name) → plan.keys.unpack k ≡ Some z → spot_of z ≡ x
+    → ((k : ℕ) (z : KeyRef) → plan.keys.unpack k ≡ Some z → slot_ref_of z ≡ x
     → Story (fields_of n) z.generation (values k log') (removals k log') (value_at w x.page x.slot))
     → KeysAgree plan (write w (State x.page x.slot) n) log'
 unfolding value_at
-keys_state plan w log log' x n old others this k z name = go (same_spot (spot_of z) x) refl where
-  go : (b : Bool) → same_spot (spot_of z) x ≡ b → Story (fields_of
+keys_state plan w log log' x n old others this k z name = go (same_slot (slot_ref_of z) x) refl where
+  go : (b : Bool) → same_slot (slot_ref_of z) x ≡ b → Story (fields_of
       ((write w (State x.page x.slot) n).state_at z.page z.slot)) z.generation (values k log') (removals k log')
       (value_at (write w (State x.page x.slot) n) z.page z.slot)
   go true h =
-      let e : spot_of z ≡ x = same_spot-true x (spot_of z) h in
-      let P : Spot → Type 0 = λ y. Story (fields_of ((write w (State x.page x.slot) n).state_at y.page y.slot))
+      let e : slot_ref_of z ≡ x = same_slot-true x (slot_ref_of z) h in
+      let P : SlotRef → Type 0 = λ y. Story (fields_of ((write w (State x.page x.slot) n).state_at y.page y.slot))
       z.generation (values k log') (removals k log') (value_at w y.page y.slot) in
       subst P (sym e) (rw put2_same (this k z name e))
   go false h = let o = others k z name h in rw (put2_other w.state_at x.page x.slot n z.page z.slot h, o.0, o.1)
@@ -197,7 +197,7 @@ story_same st st' g vs gone now a b c s =
     subst P e (story_count st st'.count g vs gone now s)
 
 -- an entry that neither inserts nor removes, at a step that leaves generation, M and P
-pub keys_quiet : (plan : Plan) (w : Words) (log : List Entry) (e : Entry) (x : Spot) (n : ℕ) → KeysAgree plan w log
+pub keys_quiet : (plan : Plan) (w : Words) (log : List Entry) (e : Entry) (x : SlotRef) (n : ℕ) → KeysAgree plan w log
     → ((k : ℕ) → (values k (e ∷ []) ≡ []) × (removed_in k e ≡ 0))
     → (fields_of n).generation ≡ (fields_of (w.state_at x.page x.slot)).generation → (fields_of n).marked
     ≡ (fields_of (w.state_at x.page x.slot)).marked → (fields_of n).present
@@ -208,7 +208,7 @@ keys_quiet plan w log e x n old quiet a b c =
     let rs : (k : ℕ) → removals k (log ++ e ∷ []) ≡ removals k log = λ k. let q = (quiet k).1
     in omega (arith, removals_snoc k log e) in
     keys_state plan w log (log ++ e ∷ []) x n old (λ k z name h. (vs k, rs k)) (λ k z name h.
-    let P : Spot → Type 0 = λ y. Story (fields_of (w.state_at y.page y.slot)) z.generation (values k log)
+    let P : SlotRef → Type 0 = λ y. Story (fields_of (w.state_at y.page y.slot)) z.generation (values k log)
     (removals k log) (value_at w y.page y.slot) in
     rw (vs k, rs k) (story_same (fields_of (w.state_at x.page x.slot)) (fields_of n) z.generation (values k log)
     (removals k log) (value_at w x.page x.slot) a b c (subst P h (old k z name))))

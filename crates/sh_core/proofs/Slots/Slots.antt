@@ -2,26 +2,26 @@
 use Rattle.std.proofs.Common.{◌≡◌, ℕ, ◌+◌, ◌≤◌, Bool, true, false, cond, List, set, refl, ap, arith, Option, Some, None}
 use Rattle.std.proofs.Common.{slice_get}
 use Rattle.std.proofs.lemmas.Bool.Decides.{nat_tests}
-use Rattle.sh_slots.specs.declared.hand.Spot.{Spot}
+use Rattle.sh_slots.specs.declared.hand.SlotRef.{SlotRef}
 use Rattle.sh_core.specs.Words.{Words, write}
 use Rattle.sh_shape.specs.declared.places.Place.TheVariants.{State}
 use Rattle.sh_word.specs.Fields.{Fields, fields_of}
 use Rattle.sh_step.specs.Plans.{Plan}
-use Rattle.sh_slots.specs.Slots.{same_spot}
+use Rattle.sh_slots.specs.Slots.{same_slot}
 use Rattle.sh_step.specs.Collections.{total, if1}
 use Rattle.sh_step.specs.declared.body.Body.{Body}
 use Rattle.sh_core.specs.Lists.{PutLists, mine_at, in_hand}
 use Rattle.sh_core.specs.Tallies.{AddsUp, Tally, tally, due, held, visits, lost, finishing, room, queued, SlotsAddUp}
-use Rattle.sh_core.specs.Tallies.{at_spot, current, stale}
+use Rattle.sh_core.specs.Tallies.{at_slot, current, stale}
 use Rattle.sh_slots.specs.declared.hand.Hand.{Hand}
 use Rattle.sh_slots.specs.declared.hand.Hand.TheVariants.{Removing}
-use Rattle.sh_slots.specs.declared.hand.Name.{Name}
+use Rattle.sh_slots.specs.declared.hand.KeyRef.{KeyRef}
 use Rattle.sh_step.specs.Rows.{hand}
 use Rattle.std.specs.Prelude.{not}
 use Rattle.sh_core.proofs.Sums.Totals.{total_same, total_set, total_le, total_plus}
 use Rattle.sh_core.proofs.Sums.Writes.{put2_same, put2_other}
 
-pub tally_same : (plan : Plan) (x : Spot) (st : Fields) (ps : List Body) (a : ℕ) (p p' : Body) → slice_get ps a ≡ Some p
+pub tally_same : (plan : Plan) (x : SlotRef) (st : Fields) (ps : List Body) (a : ℕ) (p p' : Body) → slice_get ps a ≡ Some p
     → due plan x st p' ≡ due plan x st p → tally plan x st (set ps a p') ≡ tally plan x st ps
 tally_same plan x st ps a p p' at e = λ i. record {
   mine = total_same (mine_at x) ps a p p' at (ap (λ d. d.mine) e) i;
@@ -52,7 +52,7 @@ pub record SumsChange (t t' d d' : Tally) : Type 0 where
   pub lost : t'.lost + d.lost ≡ t.lost + d'.lost
   pub finishing : t'.finishing + d.finishing ≡ t.finishing + d'.finishing
 
-pub tally_set : (plan : Plan) (x : Spot) (st : Fields) (ps : List Body) (a : ℕ) (p p' : Body) → slice_get ps a ≡ Some p
+pub tally_set : (plan : Plan) (x : SlotRef) (st : Fields) (ps : List Body) (a : ℕ) (p p' : Body) → slice_get ps a ≡ Some p
     → SumsChange (tally plan x st ps) (tally plan x st (set ps a p')) (due plan x st p) (due plan x st p')
 tally_set plan x st ps a p p' at = record {
   mine = total_set (mine_at x) ps a p p' at;
@@ -63,42 +63,42 @@ tally_set plan x st ps a p p' at = record {
   finishing = total_set (finishing x st.generation) ps a p p' at;
 }
 
-pub same_spot-true : (x y : Spot) → same_spot y x ≡ true → y ≡ x
-same_spot-true x y h =
+pub same_slot-true : (x y : SlotRef) → same_slot y x ≡ true → y ≡ x
+same_slot-true x y h =
     let p : y.page ≡ x.page = grind (arith, nat_tests) in
     let s : y.slot ≡ x.slot = grind (arith, nat_tests) in
     λ i. record { page = p i; slot = s i }
 
-pub same_spot-refl : (x : Spot) → same_spot x x ≡ true
-same_spot-refl x = grind (arith, nat_tests)
+pub same_slot-refl : (x : SlotRef) → same_slot x x ≡ true
+same_slot-refl x = grind (arith, nat_tests)
 
-pub if1_same_spot : (x : Spot) → if1 (same_spot x x) ≡ 1
-if1_same_spot x = rw (same_spot-refl x) refl
+pub if1_same_slot : (x : SlotRef) → if1 (same_slot x x) ≡ 1
+if1_same_slot x = rw (same_slot-refl x) refl
 
-stale_le : (st : Fields) (x : Spot) (o : Option Name) → stale st x o ≤ if1 (at_spot x o)
-stale_le st x o = one (at_spot x o) (current st o) where
+stale_le : (st : Fields) (x : SlotRef) (o : Option KeyRef) → stale st x o ≤ if1 (at_slot x o)
+stale_le st x o = one (at_slot x o) (current st o) where
   one : (b c : Bool) → cond b (if1 (not c)) 0 ≤ if1 b
   one true true = omega arith
   one true false = omega arith
   one false c = omega arith
 
-stale_most : (st st' : Fields) (x : Spot) → st.present ≡ false → (o : Option Name) → stale st' x o ≤ stale st x o
+stale_most : (st st' : Fields) (x : SlotRef) → st.present ≡ false → (o : Option KeyRef) → stale st' x o ≤ stale st x o
 stale_most st st' x e None = omega arith
-stale_most st st' x e (Some n) = rw e (one (at_spot x (Some n)) (current st' (Some n))) where
+stale_most st st' x e (Some n) = rw e (one (at_slot x (Some n)) (current st' (Some n))) where
   one : (b c : Bool) → cond b (if1 (not c)) 0 ≤ cond b 1 0
   one true true = omega arith
   one true false = omega arith
   one false c = omega arith
 
-lost_le1 : (plan : Plan) (x : Spot) (st : Fields) (p : Body) (h : Hand)
+lost_le1 : (plan : Plan) (x : SlotRef) (st : Fields) (p : Body) (h : Hand)
     → lost plan x st (hand p h) ≤ held plan x (hand p h) + visits plan x (hand p h)
 lost_le1 plan x st p (Removing k) = let t = total_le (λ k. stale st x (plan.keys.unpack k))
-    (λ k. if1 (at_spot x (plan.keys.unpack k))) (λ k. stale_le st x (plan.keys.unpack k)) p.holds
+    (λ k. if1 (at_slot x (plan.keys.unpack k))) (λ k. stale_le st x (plan.keys.unpack k)) p.holds
     in omega (arith, stale_le st x (plan.keys.unpack k))
 lost_le1 plan x st p _ = let t = total_le (λ k. stale st x (plan.keys.unpack k))
-    (λ k. if1 (at_spot x (plan.keys.unpack k))) (λ k. stale_le st x (plan.keys.unpack k)) p.holds in omega arith
+    (λ k. if1 (at_slot x (plan.keys.unpack k))) (λ k. stale_le st x (plan.keys.unpack k)) p.holds in omega arith
 
-lost_most1 : (plan : Plan) (x : Spot) (st st' : Fields) → st.present ≡ false → (p : Body) (h : Hand)
+lost_most1 : (plan : Plan) (x : SlotRef) (st st' : Fields) → st.present ≡ false → (p : Body) (h : Hand)
     → lost plan x st' (hand p h) ≤ lost plan x st (hand p h)
 lost_most1 plan x st st' e p (Removing k) = let t = total_le (λ k. stale st' x (plan.keys.unpack k))
     (λ k. stale st x (plan.keys.unpack k)) (λ k. stale_most st st' x e (plan.keys.unpack k)) p.holds
@@ -107,7 +107,7 @@ lost_most1 plan x st st' e p _ = let t = total_le (λ k. stale st' x (plan.keys.
     (λ k. stale st x (plan.keys.unpack k)) (λ k. stale_most st st' x e (plan.keys.unpack k)) p.holds in omega arith
 
 -- nothing is lost on a slot that no hold and no visit names
-pub lost_le : (plan : Plan) (x : Spot) (st : Fields) (ps : List Body)
+pub lost_le : (plan : Plan) (x : SlotRef) (st : Fields) (ps : List Body)
     → (tally plan x st ps).lost ≤ (tally plan x st ps).held + (tally plan x st ps).visits
 lost_le plan x st ps =
     let t : total (lost plan x st) ps ≤ total (λ p. held plan x p + visits plan x p) ps = total_le (lost plan x st)
@@ -115,25 +115,25 @@ lost_le plan x st ps =
     in omega (arith, total_plus (held plan x) (visits plan x) ps)
 
 -- if the slot has no value, each hold on it is lost
-pub lost_most : (plan : Plan) (x : Spot) (st st' : Fields) (ps : List Body) → st.present ≡ false
+pub lost_most : (plan : Plan) (x : SlotRef) (st st' : Fields) (ps : List Body) → st.present ≡ false
     → (tally plan x st' ps).lost ≤ (tally plan x st ps).lost
 lost_most plan x st st' ps e = total_le (lost plan x st') (lost plan x st) (λ p. lost_most1 plan x st st' e p (p.hand))
     ps
 
 -- A step on the state word of x, by the pass a. What is kept for x is owed. Each other slot is to p' what it was to p
-pub slots_state : (plan : Plan) (w : Words) (ps : List Body) (l : PutLists) (a : ℕ) (p p' : Body) (x : Spot) (n : ℕ)
+pub slots_state : (plan : Plan) (w : Words) (ps : List Body) (l : PutLists) (a : ℕ) (p p' : Body) (x : SlotRef) (n : ℕ)
     → SlotsAddUp plan w ps l → slice_get ps a ≡ Some p
-    → ((y : Spot) (st : Fields) → same_spot y x ≡ false → due plan y st p' ≡ due plan y st p)
+    → ((y : SlotRef) (st : Fields) → same_slot y x ≡ false → due plan y st p' ≡ due plan y st p)
     → AddsUp (room w x) (queued l x) (fields_of n) (tally plan x (fields_of n) (set ps a p'))
     → SlotsAddUp plan (write w (State x.page x.slot) n) (set ps a p') l
-slots_state plan w ps l a p p' x n old at others this y = go (same_spot y x) refl where
+slots_state plan w ps l a p p' x n old at others this y = go (same_slot y x) refl where
   written : Words
   written = write w (State x.page x.slot) n
 
-  go : (b : Bool) → same_spot y x ≡ b → AddsUp (room written y) (queued l y)
+  go : (b : Bool) → same_slot y x ≡ b → AddsUp (room written y) (queued l y)
       (fields_of (written.state_at y.page y.slot))
       (tally plan y (fields_of (written.state_at y.page y.slot)) (set ps a p'))
-  go true h = let e : y ≡ x = same_spot-true x y h in rw (e, put2_same w.state_at x.page x.slot n) this
+  go true h = let e : y ≡ x = same_slot-true x y h in rw (e, put2_same w.state_at x.page x.slot n) this
   go false h = rw (
     put2_other w.state_at x.page x.slot n y.page y.slot h,
     tally_same plan y
@@ -141,17 +141,17 @@ slots_state plan w ps l a p p' x n old at others this y = go (same_spot y x) ref
   ) (old y)
 
 -- a step that leaves the state words and the classes
-pub slots_part : (plan : Plan) (w : Words) (ps : List Body) (l l' : PutLists) (a : ℕ) (p p' : Body) (x : Spot)
+pub slots_part : (plan : Plan) (w : Words) (ps : List Body) (l l' : PutLists) (a : ℕ) (p p' : Body) (x : SlotRef)
     → SlotsAddUp plan w ps l → slice_get ps a ≡ Some p
-    → ((y : Spot) (st : Fields) → same_spot y x ≡ false → due plan y st p' ≡ due plan y st p)
-    → ((y : Spot) → same_spot y x ≡ false → queued l' y ≡ queued l y)
+    → ((y : SlotRef) (st : Fields) → same_slot y x ≡ false → due plan y st p' ≡ due plan y st p)
+    → ((y : SlotRef) → same_slot y x ≡ false → queued l' y ≡ queued l y)
     → AddsUp (room w x) (queued l' x) (fields_of (w.state_at x.page x.slot))
     (tally plan x (fields_of (w.state_at x.page x.slot)) (set ps a p'))
     → SlotsAddUp plan w (set ps a p') l'
-slots_part plan w ps l l' a p p' x old at others lists this y = go (same_spot y x) refl where
-  go : (b : Bool) → same_spot y x ≡ b → AddsUp (room w y) (queued l' y) (fields_of (w.state_at y.page y.slot))
+slots_part plan w ps l l' a p p' x old at others lists this y = go (same_slot y x) refl where
+  go : (b : Bool) → same_slot y x ≡ b → AddsUp (room w y) (queued l' y) (fields_of (w.state_at y.page y.slot))
       (tally plan y (fields_of (w.state_at y.page y.slot)) (set ps a p'))
-  go true h = let e : y ≡ x = same_spot-true x y h in rw e this
+  go true h = let e : y ≡ x = same_slot-true x y h in rw e this
   go false h = rw (
     lists y h,
     tally_same plan y (fields_of (w.state_at y.page y.slot)) ps a p p' at

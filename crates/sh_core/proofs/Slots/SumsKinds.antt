@@ -3,18 +3,18 @@ use Rattle.std.proofs.Common.{◌≡◌, ℕ, ◌+◌, ◌<◌, ◌==◌, ◌&&�
 use Rattle.std.proofs.Common.{subst, arith, Some, None, slice_get, eqb-true}
 use Rattle.std.specs.Prelude.{nat_lt}
 use Rattle.std.proofs.lemmas.Bool.Decides.{nat_tests}
-use Rattle.sh_slots.specs.declared.hand.Spot.{Spot}
-use Rattle.sh_slots.specs.declared.hand.Name.{Name}
+use Rattle.sh_slots.specs.declared.hand.SlotRef.{SlotRef}
+use Rattle.sh_slots.specs.declared.hand.KeyRef.{KeyRef}
 use Rattle.sh_slots.specs.declared.hand.Hand.TheVariants.{Idle, Leaving, Finishing, Tying}
 use Rattle.sh_core.specs.Words.{Words, write, put}
 use Rattle.sh_shape.specs.declared.places.Place.TheVariants.{State}
 use Rattle.sh_word.specs.Fields.{Fields, fields_of, word_of}
 use Rattle.sh_step.specs.Plans.{Plan, Lawful}
-use Rattle.sh_slots.specs.Slots.{same_spot, spot_of, live_at, marked_word}
+use Rattle.sh_slots.specs.Slots.{same_slot, slot_ref_of, live_at, marked_word}
 use Rattle.sh_step.specs.Collections.{total, if1}
 use Rattle.sh_step.specs.declared.body.Body.{Body}
 use Rattle.sh_core.specs.Lists.{PutLists, times, mine_at, pushed, taken}
-use Rattle.sh_core.specs.Stacks.{spot}
+use Rattle.sh_core.specs.Stacks.{slot_ref}
 use Rattle.sh_history.specs.declared.entry.Entry.TheVariants.{Gone, Crowded}
 use Rattle.sh_step.specs.Rows.{hand, own, finish, enter_get, enter_remove}
 use Rattle.sh_core.specs.Worlds.{World, apply, value_at}
@@ -23,7 +23,7 @@ use Rattle.sh_core.specs.Stories.{values, removals, removed_in, Story, KeysAgree
 use Rattle.sh_core.specs.Sums.{Sums, FillAgrees}
 use Rattle.sh_core.proofs.Sums.Totals.{total_set}
 use Rattle.sh_word.proofs.Words.{fields_of-word_of, word_of-fields_of}
-use Rattle.sh_core.proofs.Slots.Slots.{tally_same, tally_set, tally_ext, slots_state, same_spot-refl, lost_le}
+use Rattle.sh_core.proofs.Slots.Slots.{tally_same, tally_set, tally_ext, slots_state, same_slot-refl, lost_le}
 use Rattle.sh_core.proofs.Slots.SlotSteps.{finish_mine, enter_slots, reused_fields, fields_of-entered}
 use Rattle.sh_core.proofs.Slots.Logs.{keys_state, keys_quiet, story_retire, gone_permitted}
 use Rattle.sh_core.proofs.Slots.SumsStep.{sums_at}
@@ -44,7 +44,7 @@ with w W a p' = record { words = W; parts = set w.parts a p'; log = w.log }
 -- a step that changes nothing of slots and keys
 pub sums_quiet : (plan : Plan) (w : World) (l l' : PutLists) (a : ℕ) (p p' : Body) (h pl : ℕ → ℕ) (li : ℕ → ℕ → ℕ)
     (ow be : ℕ → ℕ) → Sums plan w l → slice_get w.parts a ≡ Some p
-    → ((y : Spot) (st : Fields) → due plan y st p' ≡ due plan y st p) → ((y : Spot) → queued l' y ≡ queued l y)
+    → ((y : SlotRef) (st : Fields) → due plan y st p' ≡ due plan y st p) → ((y : SlotRef) → queued l' y ≡ queued l y)
     → p'.holds ≡ p.holds → FillAgrees w.words p' p'.hand
     → Sums plan (with w (beside w.words h pl li ow be) a p') l'
 unfolding value_at
@@ -57,7 +57,7 @@ sums_quiet plan w l l' a p p' h pl li ow be g at same lists holds fill =
     ) (g.slots y))
     g.keys tt (λ k. ap (times k) holds) (rw holds (g.parts a p at).0, fill) (λ b q _ _ x. x)
 
-pub queued_push : (l : PutLists) (x y : Spot) → queued (pushed l x) y ≡ queued l y + if1 (same_spot y x)
+pub queued_push : (l : PutLists) (x y : SlotRef) → queued (pushed l x) y ≡ queued l y + if1 (same_slot y x)
 unfolding total
 queued_push l x y = go (y.page == x.page) refl where
   go : (b : Bool) → (y.page == x.page) ≡ b → queued (pushed l x) y ≡ queued l y + if1 (b && (y.slot == x.slot))
@@ -68,15 +68,15 @@ queued_push l x y = go (y.page == x.page) refl where
       rw (i, j) (omega arith)
   go false e = rw (put_other l.stack x.page y.page (x.slot ∷ l.stack x.page) e) (omega arith)
 
-abbrev pub tied : Body → Spot → ℕ → Bool → Body
+abbrev pub tied : Body → SlotRef → ℕ → Bool → Body
 tied p x n r = hand p (Tying x n r)
 
 -- Put: a slot in the hand, or in `mine`, is then queued; u is what the pass no longer has of a slot
-pub sums_put : (plan : Plan) (w : World) (l : PutLists) (a : ℕ) (p p' : Body) (x : Spot) (n : ℕ) (r : Bool) (h : ℕ → ℕ)
+pub sums_put : (plan : Plan) (w : World) (l : PutLists) (a : ℕ) (p p' : Body) (x : SlotRef) (n : ℕ) (r : Bool) (h : ℕ → ℕ)
     → Sums plan w l → slice_get w.parts a ≡ Some p → p'.holds ≡ p.holds
-    → ((y : Spot) (st : Fields) → (due plan y st p).mine + (due plan y st p).hand
-    ≡ (due plan y st (tied p' x n r)).mine + if1 (same_spot y x))
-    → ((y : Spot) (st : Fields) → (held plan y p ≡ held plan y p') × (visits plan y p ≡ 0)
+    → ((y : SlotRef) (st : Fields) → (due plan y st p).mine + (due plan y st p).hand
+    ≡ (due plan y st (tied p' x n r)).mine + if1 (same_slot y x))
+    → ((y : SlotRef) (st : Fields) → (held plan y p ≡ held plan y p') × (visits plan y p ≡ 0)
     × (lost plan y st p ≡ lost plan y st (tied p' x n r)) × (finishing y st.generation p ≡ 0))
     → Sums plan (with w (beside w.words h w.words.page_link_at w.words.link_at w.words.owner_at w.words.bell_at) a
     (tied p' x n r)) (pushed l x)
@@ -104,7 +104,7 @@ sums_put plan w l a p p' x n r h g at holds moves rest = sums_at plan w l (pushe
     g.keys tt (λ k. ap (times k) holds) (rw holds (g.parts a p at).0, tt) (λ b q _ _ x. x)
 
 -- Take and Arm: the stack becomes the empty chain
-pub queued_taken : (l : PutLists) (q : ℕ) → l.chain q ≡ [] → (y : Spot) → queued (taken l q) y ≡ queued l y
+pub queued_taken : (l : PutLists) (q : ℕ) → l.chain q ≡ [] → (y : SlotRef) → queued (taken l q) y ≡ queued l y
 queued_taken l q none y = go (y.page == q) refl where
   go : (b : Bool) → (y.page == q) ≡ b → queued (taken l q) y ≡ queued l y
   go true e =
@@ -115,8 +115,8 @@ queued_taken l q none y = go (y.page == q) refl where
 -- Follow: a slot that was queued is then in `mine`
 pub sums_follow : (plan : Plan) (w : World) (l : PutLists) (a : ℕ) (p p' : Body) (q s : ℕ) (li : ℕ → ℕ → ℕ)
     → Sums plan w l → slice_get w.parts a ≡ Some p → l.chain q ≡ s ∷ drop 1 (l.chain q)
-    → ((y : Spot) (st : Fields) → due plan y st p' ≡ record (due plan y st p)
-    { mine = if1 (same_spot y (spot q s)) + mine_at y p }) → p'.holds ≡ p.holds → FillAgrees w.words p' p'.hand
+    → ((y : SlotRef) (st : Fields) → due plan y st p' ≡ record (due plan y st p)
+    { mine = if1 (same_slot y (slot_ref q s)) + mine_at y p }) → p'.holds ≡ p.holds → FillAgrees w.words p' p'.hand
     → Sums plan (with w (beside w.words w.words.head_at w.words.page_link_at li w.words.owner_at w.words.bell_at) a p')
     (record l { chain = put l.chain q (drop 1 (l.chain q)) })
 unfolding value_at
@@ -145,7 +145,7 @@ sums_follow plan w l a p p' q s li g at is moves holds fill = sums_at plan w l L
       L : PutLists
       L = record l { chain = put l.chain q (drop 1 (l.chain q)) }
 
-      one_less : (y : Spot) → queued L y + if1 (same_spot y (spot q s)) ≡ queued l y
+      one_less : (y : SlotRef) → queued L y + if1 (same_slot y (slot_ref q s)) ≡ queued l y
       one_less y = go (y.page == q) refl where
         go : (b : Bool) → (y.page == q) ≡ b → times y.slot (l.stack y.page) + times y.slot
             (put l.chain q (drop 1 (l.chain q)) y.page) + if1 (b && (y.slot == s)) ≡ queued l y
@@ -158,7 +158,7 @@ sums_follow plan w l a p p' q s li g at is moves holds fill = sums_at plan w l L
         go false e = rw (put_other l.chain q y.page (drop 1 (l.chain q)) e) (omega arith)
 
 -- Finish that fails
-pub sums_finish_fail : (plan : Plan) (w : World) (l : PutLists) (a : ℕ) (p : Body) (x : Spot) (g : ℕ) → Sums plan w l
+pub sums_finish_fail : (plan : Plan) (w : World) (l : PutLists) (a : ℕ) (p : Body) (x : SlotRef) (g : ℕ) → Sums plan w l
     → slice_get w.parts a ≡ Some (hand p (Finishing x g)) → (w.words.state_at x.page x.slot == marked_word g) ≡ false
     → Sums plan (apply w a (finish plan (hand p (Finishing x g)) x g)) l
 unfolding apply
@@ -192,22 +192,22 @@ sums_finish_fail plan w l a p x g sums at fails =
             counts = omega arith;
             none_lost = omega arith;
             owed = λ b c d. go b c d
-                (same_spot x x && (g == st.generation)) refl (f.owed b c d);
+                (same_slot x x && (g == st.generation)) refl (f.owed b c d);
           } where
             go : st.present ≡ true → st.marked ≡ true → st.count ≡ 0 → (b : Bool)
-                → (same_spot x x && (g == st.generation)) ≡ b → 0 < total (finishing x st.generation) w.parts
+                → (same_slot x x && (g == st.generation)) ≡ b → 0 < total (finishing x st.generation) w.parts
                 → 0 < total (finishing x st.generation) (set w.parts a (hand p Idle))
             go b c d false e o = let m = total_set (finishing x st.generation) w.parts a (hand p (Finishing x g))
-                (hand p Idle) at in let z : if1 (same_spot x x && (g == st.generation)) ≡ 0 = rw e refl in omega arith
+                (hand p Idle) at in let z : if1 (same_slot x x && (g == st.generation)) ≡ 0 = rw e refl in omega arith
             go b c d true e o =
                 let k : (g == st.generation) ≡ true = (let t : (true && (g == st.generation))
-                ≡ true = rw (same_spot-refl x) at e in t) in
+                ≡ true = rw (same_slot-refl x) at e in t) in
                 absurd (back (sym (eqb-true g st.generation k)) b c d)
 
 abbrev pub retired_fields : ℕ → Fields
 retired_fields g = record { generation = g; marked = true; present = false; count = 0 }
 
-module _ (plan : Plan) (w : World) (l : PutLists) (a : ℕ) (p : Body) (x : Spot) (g : ℕ) (sums : Sums plan w l)
+module _ (plan : Plan) (w : World) (l : PutLists) (a : ℕ) (p : Body) (x : SlotRef) (g : ℕ) (sums : Sums plan w l)
     (at : slice_get w.parts a ≡ Some (hand p (Finishing x g)))
     (is : (w.words.state_at x.page x.slot == marked_word g) ≡ true) where
   abbrev st0 : Fields
@@ -229,7 +229,7 @@ module _ (plan : Plan) (w : World) (l : PutLists) (a : ℕ) (p : Body) (x : Spot
       None sums at
       (slots_state plan w.words w.parts l a (hand p (Finishing x g)) (hand (record p { mine = x ∷ p.mine }) Idle) x
       (word_of (reused_fields g)) sums.slots at
-      (λ y st h. let z : if1 (same_spot y x) ≡ 0 = rw h refl in let f : if1 (same_spot y x && (g == st.generation))
+      (λ y st h. let z : if1 (same_slot y x) ≡ 0 = rw h refl in let f : if1 (same_slot y x && (g == st.generation))
       ≡ 0 = rw h refl in tally_ext _ _ (omega arith) refl refl refl refl (sym f))
       (rw (fields_of-word_of (reused_fields g) (omega arith))
       (finish_mine _ _ st0 plan w.parts a p x g refl refl at fine0)))
@@ -257,7 +257,7 @@ module _ (plan : Plan) (w : World) (l : PutLists) (a : ℕ) (p : Body) (x : Spot
         keys : KeysAgree plan (write w.words (State x.page x.slot) (word_of (retired_fields g))) w.log
         keys = keys_state plan w.words w.log w.log x (word_of (retired_fields g)) sums.keys (λ k z name h. (refl, refl))
             (λ k z name h.
-            let P : Spot → Type 0 = λ y. Story (fields_of (w.words.state_at y.page y.slot)) z.generation
+            let P : SlotRef → Type 0 = λ y. Story (fields_of (w.words.state_at y.page y.slot)) z.generation
             (values k w.log) (removals k w.log) (value_at w.words y.page y.slot) in
             let s = subst P h (sums.keys k z name) in
             let Q : Fields → Type 0 = λ t. Story t z.generation (values k w.log) (removals k w.log)
@@ -271,25 +271,25 @@ unfolding values
 none_crowded a k j = (refl, refl)
 
 -- Enter of a remove that meets no live value of its key
-pub sums_remove_gone : (plan : Plan) (w : World) (l : PutLists) (a : ℕ) (p : Body) (k : ℕ) (y : Name) → Lawful plan
+pub sums_remove_gone : (plan : Plan) (w : World) (l : PutLists) (a : ℕ) (p : Body) (k : ℕ) (y : KeyRef) → Lawful plan
     → Sums plan w l → slice_get w.parts a ≡ Some (hand p Idle) → plan.keys.unpack k ≡ Some y
     → live_at y.generation (w.words.state_at y.page y.slot) ≡ false
     → Sums plan (apply w a (enter_remove plan (hand p Idle) k y)) l
 unfolding apply
 sums_remove_gone plan w l a p k y laws g at name dead =
     let n : ℕ = w.words.state_at y.page y.slot in
-    let few = room_to_enter plan w l (spot_of y) laws g in
+    let few = room_to_enter plan w l (slot_ref_of y) laws g in
     let add = fields_of-entered n few in
-    rw dead (sums_at plan w l l a (hand p Idle) (hand p (Leaving (spot_of y)))
+    rw dead (sums_at plan w l l a (hand p Idle) (hand p (Leaving (slot_ref_of y)))
     (write w.words (State y.page y.slot) (n + 1)) (Some (Gone a k)) g at
-    (enter_slots plan w.words w.parts l a p (spot_of y) g.slots at few)
-    (keys_quiet plan w.words w.log (Gone a k) (spot_of y) (n + 1) g.keys (none_gone a k)
+    (enter_slots plan w.words w.parts l a p (slot_ref_of y) g.slots at few)
+    (keys_quiet plan w.words w.log (Gone a k) (slot_ref_of y) (n + 1) g.keys (none_gone a k)
     (ap (λ (t : Fields). t.generation) add) (ap (λ (t : Fields). t.marked) add)
     (ap (λ (t : Fields). t.present) add))
     (gone_permitted plan w.log a k y n (value_at w.words y.page y.slot) (g.keys k y name) dead) (refl, λ j. refl)
     ((g.parts a (hand p Idle) at).0, tt) (λ b q _ _ h. h))
 
-pub sums_crowded : (plan : Plan) (w : World) (l : PutLists) (a : ℕ) (p : Body) (k : ℕ) (y : Name) → Lawful plan
+pub sums_crowded : (plan : Plan) (w : World) (l : PutLists) (a : ℕ) (p : Body) (k : ℕ) (y : KeyRef) → Lawful plan
     → Sums plan w l → slice_get w.parts a ≡ Some (hand p Idle) → plan.keys.unpack k ≡ Some y
     → live_at y.generation (w.words.state_at y.page y.slot) ≡ true
     → nat_lt (fields_of (w.words.state_at y.page y.slot)).count plan.keys.guard_max ≡ false
@@ -297,12 +297,12 @@ pub sums_crowded : (plan : Plan) (w : World) (l : PutLists) (a : ℕ) (p : Body)
 unfolding apply
 sums_crowded plan w l a p k y laws g at name live over =
     let n : ℕ = w.words.state_at y.page y.slot in
-    let few = room_to_enter plan w l (spot_of y) laws g in
+    let few = room_to_enter plan w l (slot_ref_of y) laws g in
     let add = fields_of-entered n few in
-    rw (live, over) (sums_at plan w l l a (hand p Idle) (hand p (Leaving (spot_of y)))
+    rw (live, over) (sums_at plan w l l a (hand p Idle) (hand p (Leaving (slot_ref_of y)))
     (write w.words (State y.page y.slot) (n + 1)) (Some (Crowded a k)) g at
-    (enter_slots plan w.words w.parts l a p (spot_of y) g.slots at few)
-    (keys_quiet plan w.words w.log (Crowded a k) (spot_of y) (n + 1) g.keys (none_crowded a k)
+    (enter_slots plan w.words w.parts l a p (slot_ref_of y) g.slots at few)
+    (keys_quiet plan w.words w.log (Crowded a k) (slot_ref_of y) (n + 1) g.keys (none_crowded a k)
     (ap (λ (t : Fields). t.generation) add) (ap (λ (t : Fields). t.marked) add)
     (ap (λ (t : Fields). t.present) add))
     (crowded_permitted plan w l a p k y laws g at name live over) (refl, λ j. refl) ((g.parts a (hand p Idle) at).0, tt)

@@ -5,7 +5,7 @@ use Rattle.std.specs.Prelude.{nat_lt}
 use Rattle.std.proofs.lemmas.Bool.Decides.{nat_tests}
 use Rattle.sh_shape.specs.Classes.{slots}
 use Rattle.sh_shape.proofs.ClassLaws.{slots_few}
-use Rattle.sh_slots.specs.declared.hand.Spot.{Spot}
+use Rattle.sh_slots.specs.declared.hand.SlotRef.{SlotRef}
 use Rattle.sh_step.specs.Collections.{if1}
 use Rattle.sh_core.specs.Lists.{slots_under}
 use Rattle.sh_core.specs.Tallies.{room}
@@ -30,7 +30,7 @@ room_is c t = go (c == 0) refl where
   go false e = let some : nat_lt 0 c ≡ true = grind (arith, nat_tests) in rw some refl
 
 -- if a slot has room, its page has a class, and the slot is one of the page's slots
-pub class_room : (w : Words) (x : Spot) → 0 < room w x → (0 < w.class_at x.page)
+pub class_room : (w : Words) (x : SlotRef) → 0 < room w x → (0 < w.class_at x.page)
     × (x.slot < slots (w.class_at x.page - 1))
 class_room w x some = go (nat_lt 0 (w.class_at x.page)) (nat_lt x.slot (slots (w.class_at x.page - 1))) refl refl where
   go : (b c : Bool) → nat_lt 0 (w.class_at x.page) ≡ b → nat_lt x.slot (slots (w.class_at x.page - 1)) ≡ c
@@ -39,14 +39,14 @@ class_room w x some = go (nat_lt 0 (w.class_at x.page)) (nat_lt x.slot (slots (w
   go true false e f = absurd (let z : room w x ≡ 0 = rw (e, f) refl in omega arith)
   go false c e f = absurd (let z : room w x ≡ 0 = rw e refl in omega arith)
 
-pub room_under : (w : Words) (x : Spot) → 0 < room w x → x.slot < slots_under (w.class_at x.page)
+pub room_under : (w : Words) (x : SlotRef) → 0 < room w x → x.slot < slots_under (w.class_at x.page)
 room_under w x some =
     let r = class_room w x some in
     let class : (w.class_at x.page == 0) ≡ false = ne_eqb (w.class_at x.page) 0 (λ e. let n = r.0 in omega arith) in
     rw (under_class_word (w.class_at x.page) class) r.1
 
 -- the page is one of the heap
-pub room_placed : (plan : Plan) (w : Words) (x : Spot) → BoundsOf plan w → 0 < room w x → (x.page < heap_pages plan)
+pub room_placed : (plan : Plan) (w : Words) (x : SlotRef) → BoundsOf plan w → 0 < room w x → (x.page < heap_pages plan)
     × (x.slot < slots (w.class_at x.page - 1))
 room_placed plan w x bounds some = let r = class_room w x some in ((bounds.classes x.page).1 r.0, r.1)
 

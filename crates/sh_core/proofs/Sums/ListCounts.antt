@@ -1,12 +1,12 @@
 -- How often an item is in a list: tests and notes, counted.
 use Rattle.std.proofs.Common.{◌≡◌, ℕ, zero, suc, ◌+◌, ◌<◌, ◌≤◌, ◌==◌, ◌&&◌, ◌||◌, Bool, true, false, cond, List, []}
 use Rattle.std.proofs.Common.{◌∷◌, refl, sym, ap, ◌∙◌, subst, arith, Some, None, eq-eqb, eqb-true, drop, length}
-use Rattle.sh_slots.specs.declared.hand.Spot.{Spot}
-use Rattle.sh_slots.specs.Slots.{same_spot}
+use Rattle.sh_slots.specs.declared.hand.SlotRef.{SlotRef}
+use Rattle.sh_slots.specs.Slots.{same_slot}
 use Rattle.sh_step.specs.Collections.{total, if1, has, noted, without, off}
 use Rattle.sh_core.specs.Lists.{times}
 use Rattle.sh_core.specs.Stacks.{first_is}
-use Rattle.sh_core.proofs.Slots.Slots.{if1_same_spot}
+use Rattle.sh_core.proofs.Slots.Slots.{if1_same_slot}
 use Rattle.sh_core.proofs.Sums.Tests.{if1_self, eqb-comm, if1_some}
 use Rattle.sh_core.proofs.Sums.Totals.{total_without}
 use Rattle.std.proofs.lemmas.Bool.{or_parts}
@@ -108,10 +108,10 @@ times_less q k (x ∷ xs) = go (x == q) (times_less q k xs) where
 
 -- ---- empty lists
 
-pub no_spots : (xs : List Spot) → ((x : Spot) → total (λ y. if1 (same_spot x y)) xs ≡ 0) → xs ≡ []
+pub no_slot_refs : (xs : List SlotRef) → ((x : SlotRef) → total (λ y. if1 (same_slot x y)) xs ≡ 0) → xs ≡ []
 unfolding total
-no_spots [] none = refl
-no_spots (x ∷ xs) none = absurd (let here = none x in let one = if1_same_spot x in omega arith)
+no_slot_refs [] none = refl
+no_slot_refs (x ∷ xs) none = absurd (let here = none x in let one = if1_same_slot x in omega arith)
 
 pub no_numbers : (xs : List ℕ) → ((n : ℕ) → times n xs ≡ 0) → xs ≡ []
 unfolding total

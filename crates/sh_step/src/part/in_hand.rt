@@ -11,17 +11,17 @@ use crate::paged::owns;
 use sh_bell::{is_armed, top_of};
 use sh_key::KeyLayout;
 use sh_shape::Shape;
-use sh_slots::{Hand, Reply, Spot, after_drop, is_reusable_after};
+use sh_slots::{Hand, Reply, SlotRef, after_drop, is_reusable_after};
 use sh_stack::link_over;
 use sh_value::Refusal;
 
 impl Part {
     // Gives back the count on the slot that the pass is leaving; the step found this word.
-    pub(super) fn drop_hand(&mut self, spot: Spot, found: u64) -> Option<Reply>
-        ensures reply { result ≡ (drop_hand self.old spot).reply found }
-        ensures part { self.new ≡ (drop_hand self.old spot).part found }
+    pub(super) fn drop_hand(&mut self, slot_ref: SlotRef, found: u64) -> Option<Reply>
+        ensures reply { result ≡ (drop_hand self.old slot_ref).reply found }
+        ensures part { self.new ≡ (drop_hand self.old slot_ref).part found }
     {
-        self.hand = after_drop(spot, found);
+        self.hand = after_drop(slot_ref, found);
         None
     }
 
@@ -30,46 +30,46 @@ impl Part {
     pub(super) fn finish<L: KeyLayout>(
         &mut self,
         shape: &Shape,
-        spot: Spot,
+        slot_ref: SlotRef,
         generation: u32,
         found: u64,
     ) -> Result<Option<Reply>, Refusal>
-        ensures reply { IfOk result (λ reply. reply ≡ (finish (plan_of L.layout shape.now) self.old spot
+        ensures reply { IfOk result (λ reply. reply ≡ (finish (plan_of L.layout shape.now) self.old slot_ref
             generation).reply found) }
-        ensures part { OnOk result (self.new ≡ (finish (plan_of L.layout shape.now) self.old spot generation).part
+        ensures part { OnOk result (self.new ≡ (finish (plan_of L.layout shape.now) self.old slot_ref generation).part
             found) }
         ensures err { OnErr result (self.new ≡ self.old) }
-        ensures grows { OnErr result (ListGrows self.old ((finish (plan_of L.layout shape.now) self.old spot
+        ensures grows { OnErr result (ListGrows self.old ((finish (plan_of L.layout shape.now) self.old slot_ref
             generation).part found)) }
         ensures memory { IfErr result (λ refusal. refusal ≡ Refusal.Memory) }
     {
         if !is_reusable_after(generation, gen_max::<L>(), found) {
             self.hand = Hand::Idle;
-        } else if owns::<L>(shape, self, spot.page) {
-            self.mine.put(spot)?;
+        } else if owns::<L>(shape, self, slot_ref.page) {
+            self.mine.put(slot_ref)?;
             self.hand = Hand::Idle;
         } else {
-            self.hand = Hand::ToPut(spot);
+            self.hand = Hand::ToPut(slot_ref);
         }
         Ok(None)
     }
 
     // A put that found this head word: the link is to be stored, and the pass then rings if it found the flag.
-    pub(super) fn put(&mut self, spot: Spot, found: u64) -> Option<Reply>
-        ensures reply { result ≡ (put_at self.old spot).reply found }
-        ensures part { self.new ≡ (put_at self.old spot).part found }
+    pub(super) fn put(&mut self, slot_ref: SlotRef, found: u64) -> Option<Reply>
+        ensures reply { result ≡ (put_at self.old slot_ref).reply found }
+        ensures part { self.new ≡ (put_at self.old slot_ref).part found }
     {
-        self.hand = Hand::Tying(spot, link_over(top_of(found)), is_armed(found));
+        self.hand = Hand::Tying(slot_ref, link_over(top_of(found)), is_armed(found));
         None
     }
 
     // Stores a slot's link; the pass then rings if its put found the flag.
-    pub(super) fn tie(&mut self, spot: Spot, ring: bool) -> Option<Reply>
+    pub(super) fn tie(&mut self, slot_ref: SlotRef, ring: bool) -> Option<Reply>
         ensures reply { result ≡ None }
-        ensures part { (link found : ℕ) → self.new ≡ (tie self.old spot link ring).part found }
+        ensures part { (link found : ℕ) → self.new ≡ (tie self.old slot_ref link ring).part found }
     {
         self.hand = if ring {
-            Hand::Ringing(spot.page)
+            Hand::Ringing(slot_ref.page)
         } else {
             Hand::Idle
         };

@@ -7,11 +7,11 @@ ghost use Rattle.sh_step.specs.Rows.{enter_get, enter_remove, mark, freed, drop_
 ghost use Rattle.sh_step.specs.Rows.{read_word};
 
 use super::Part;
-use crate::lists::{forget_words, has_number, put_first, remove_number};
 use crate::operands::guard_max;
+use crate::part::lists::{forget_words, has_number, put_first, remove_number};
 use sh_key::KeyLayout;
 use sh_slots::{
-    GetAnswer, Hand, Name, Reply, after_drop, after_enter_remove, answer_to_get, is_first_mark,
+    GetAnswer, Hand, KeyRef, Reply, after_drop, after_enter_remove, answer_to_get, is_first_mark,
 };
 use sh_value::Refusal;
 
@@ -21,7 +21,7 @@ impl Part {
     pub(super) fn enter_get<L: KeyLayout>(
         &mut self,
         key: u64,
-        name: Name,
+        name: KeyRef,
         found: u64,
     ) -> Result<Option<Reply>, Refusal>
         ensures reply { (n : Numbers) → IfOk result (λ reply. reply
@@ -39,18 +39,18 @@ impl Part {
                 Ok(Some(Reply::Got(key)))
             }
             GetAnswer::Crowded => {
-                self.hand = Hand::Leaving(name.spot());
+                self.hand = Hand::Leaving(name.slot_ref());
                 Ok(Some(Reply::Crowded(key)))
             }
             GetAnswer::Gone => {
-                self.hand = Hand::Leaving(name.spot());
+                self.hand = Hand::Leaving(name.slot_ref());
                 Ok(Some(Reply::Gone(key)))
             }
         }
     }
 
     // Enters a slot to remove its value; the step found this word.
-    pub(super) fn enter_remove(&mut self, key: u64, name: Name, found: u64) -> Option<Reply>
+    pub(super) fn enter_remove(&mut self, key: u64, name: KeyRef, found: u64) -> Option<Reply>
         ensures reply { (plan : Plan) → result ≡ (enter_remove plan self.old key name).reply found }
         ensures part { (plan : Plan) → self.new ≡ (enter_remove plan self.old key name).part found }
     {
@@ -62,11 +62,11 @@ impl Part {
     }
 
     // Marks a slot; the step found this word.
-    pub(super) fn mark(&mut self, key: u64, name: Name, found: u64) -> Option<Reply>
+    pub(super) fn mark(&mut self, key: u64, name: KeyRef, found: u64) -> Option<Reply>
         ensures reply { result ≡ (mark self.old key name).reply found }
         ensures part { self.new ≡ (mark self.old key name).part found }
     {
-        self.hand = Hand::Leaving(name.spot());
+        self.hand = Hand::Leaving(name.slot_ref());
         if is_first_mark(found) {
             Some(Reply::Removed(key))
         } else {
@@ -87,12 +87,12 @@ impl Part {
     }
 
     // Gives back the count of a hold; the step found this word.
-    pub(super) fn drop_hold(&mut self, key: u64, name: Name, found: u64) -> Option<Reply>
+    pub(super) fn drop_hold(&mut self, key: u64, name: KeyRef, found: u64) -> Option<Reply>
         ensures reply { result ≡ (drop_key self.old key name).reply found }
         ensures part { self.new ≡ (drop_key self.old key name).part found }
     {
         self.free(key);
-        self.hand = after_drop(name.spot(), found);
+        self.hand = after_drop(name.slot_ref(), found);
         Some(Reply::Released(key))
     }
 
@@ -100,7 +100,7 @@ impl Part {
     pub(super) fn read_class(
         &mut self,
         key: u64,
-        name: Name,
+        name: KeyRef,
         found: u64,
     ) -> Result<Option<Reply>, Refusal>
         ensures reply { IfOk result (λ reply. reply ≡ (read_class self.old key name).reply found) }
@@ -117,7 +117,7 @@ impl Part {
     pub(super) fn read_length(
         &mut self,
         key: u64,
-        name: Name,
+        name: KeyRef,
         found: u64,
     ) -> Result<Option<Reply>, Refusal>
         ensures reply { IfOk result (λ reply. reply ≡ (read_length self.old key name).reply found) }
@@ -138,10 +138,10 @@ impl Part {
         found: u64,
     ) -> Result<Option<Reply>, Refusal>
         ensures reply { IfOk result (λ reply. reply ≡ None) }
-        ensures part { (name : Name) (class_word : ℕ) → OnOk result
+        ensures part { (name : KeyRef) (class_word : ℕ) → OnOk result
             (self.new ≡ (read_word self.old key name class_word i).part found) }
         ensures err { OnErr result (self.new ≡ self.old) }
-        ensures grows { (name : Name) (class_word : ℕ) → OnErr result
+        ensures grows { (name : KeyRef) (class_word : ℕ) → OnErr result
             (ListGrows self.old ((read_word self.old key name class_word i).part found)) }
         ensures memory { IfErr result (λ refusal. refusal ≡ Refusal.Memory) }
     {

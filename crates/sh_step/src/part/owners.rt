@@ -5,7 +5,7 @@ ghost use Rattle.sh_step.specs.Plans.{plan_of, over_heap};
 ghost use Rattle.sh_step.specs.Rows.{adopt, leave, take_bell, follow_bell};
 
 use super::Part;
-use crate::lists::remove_number;
+use crate::part::lists::remove_number;
 use sh_bell::{home_of, named_over_heap};
 use sh_key::KeyLayout;
 use sh_shape::Shape;

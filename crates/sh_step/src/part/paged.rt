@@ -5,10 +5,10 @@ ghost use Rattle.sh_step.specs.Parts.{ListGrows};
 ghost use Rattle.sh_step.specs.Rows.{read_page, set_class, take_page, follow, arm, point};
 
 use super::Part;
-use crate::lists::{make_room, put_first, put_in_room, remove_note, remove_number};
 use crate::operands::slots_of_word;
+use crate::part::lists::{make_room, put_first, put_in_room, remove_note, remove_number};
 use sh_bell::{is_armed, top_of};
-use sh_slots::{Reply, Spot};
+use sh_slots::{Reply, SlotRef};
 use sh_stack::{Link, top_item};
 use sh_value::Refusal;
 use std::collections::VecDeque;
@@ -84,12 +84,12 @@ impl Part {
         match Link::of(found) {
             Link::Unwritten => {}
             Link::End => {
-                self.mine.put(Spot { page, slot })?;
+                self.mine.put(SlotRef { page, slot })?;
                 remove_note(&mut self.cursors, page);
             }
             Link::Next(next) => {
                 make_room(&mut self.cursors, 1)?;
-                self.mine.put(Spot { page, slot })?;
+                self.mine.put(SlotRef { page, slot })?;
                 remove_note(&mut self.cursors, page);
                 put_in_room(&mut self.cursors, (page, next));
             }

@@ -1,7 +1,7 @@
 //! What actions on slots leave in a pass's own part.
 ghost use Rattle.std.specs.Prelude.{◌≡◌, ◌+◌, ◌^◌, ◌<◌, ℕ, Some, None};
 ghost use Rattle.sh_shape.specs.Places.{all_pages, slot_places};
-ghost use Rattle.sh_slots.specs.Slots.{same_spot, published_name};
+ghost use Rattle.sh_slots.specs.Slots.{same_slot, published_name};
 ghost use Rattle.sh_step.specs.Plans.{plan_of};
 ghost use Rattle.sh_step.specs.Collections.{without};
 ghost use Rattle.sh_step.specs.Rows.{fill_slot, fill, publish, put_at};
@@ -10,27 +10,27 @@ use super::Part;
 use crate::operands::key_of_name;
 use sh_key::KeyLayout;
 use sh_shape::Shape;
-use sh_slots::{Hand, Reply, Spot, published_name};
+use sh_slots::{Hand, Reply, SlotRef, published_name};
 use sh_value::Value;
 
 impl Part {
     // Begins to fill a slot.
-    pub(super) fn fill_slot(&mut self, spot: Spot, value: &Value) -> Option<Reply>
+    pub(super) fn fill_slot(&mut self, slot_ref: SlotRef, value: &Value) -> Option<Reply>
         ensures reply { result ≡ None }
-        ensures part { (found : ℕ) → self.new ≡ (fill_slot self.old spot value.now).part found }
+        ensures part { (found : ℕ) → self.new ≡ (fill_slot self.old slot_ref value.now).part found }
     {
-        self.mine.remove(spot);
-        self.hand = Hand::Filling(spot, value.copy(), 0);
+        self.mine.remove(slot_ref);
+        self.hand = Hand::Filling(slot_ref, value.copy(), 0);
         None
     }
 
     // Stores the value's word with this number.
-    pub(super) fn fill(&mut self, spot: Spot, value: &Value, i: u64) -> Option<Reply>
+    pub(super) fn fill(&mut self, slot_ref: SlotRef, value: &Value, i: u64) -> Option<Reply>
         requires { i + 1 < 2 ^ 64 }
         ensures reply { result ≡ None }
-        ensures part { (found : ℕ) → self.new ≡ (fill self.old spot value.now i).part found }
+        ensures part { (found : ℕ) → self.new ≡ (fill self.old slot_ref value.now i).part found }
     {
-        self.hand = Hand::Filling(spot, value.copy(), i + 1);
+        self.hand = Hand::Filling(slot_ref, value.copy(), i + 1);
         None
     }
 
@@ -39,30 +39,30 @@ impl Part {
     pub(super) fn publish<L: KeyLayout>(
         &mut self,
         shape: &Shape,
-        spot: Spot,
+        slot_ref: SlotRef,
         value: &Value,
         found: u64,
     ) -> Option<Reply>
-        requires page { spot.page < all_pages shape.now }
-        requires slot { spot.slot < slot_places }
+        requires page { slot_ref.page < all_pages shape.now }
+        requires slot { slot_ref.slot < slot_places }
         requires names { (plan_of L.layout shape.now).keys.unpack
-            ((plan_of L.layout shape.now).keys.pack (published_name spot found)) ≡ Some (published_name spot found) }
-        ensures reply { result ≡ (publish (plan_of L.layout shape.now) self.old spot value.now).reply found }
-        ensures part { self.new ≡ (publish (plan_of L.layout shape.now) self.old spot value.now).part found }
+            ((plan_of L.layout shape.now).keys.pack (published_name slot_ref found)) ≡ Some (published_name slot_ref found) }
+        ensures reply { result ≡ (publish (plan_of L.layout shape.now) self.old slot_ref value.now).reply found }
+        ensures part { self.new ≡ (publish (plan_of L.layout shape.now) self.old slot_ref value.now).part found }
     {
         self.hand = Hand::Idle;
-        let key = key_of_name::<L>(shape, published_name(spot, found));
+        let key = key_of_name::<L>(shape, published_name(slot_ref, found));
         Some(Reply::Insert(key, value.copy()))
     }
 
     // Puts a slot of its own; the step found this head word.
-    pub(super) fn put_slot(&mut self, spot: Spot, found: u64) -> Option<Reply>
-        ensures reply { result ≡ (put_at (record self.old { mine = without (same_spot spot) self.old.mine }) spot).reply
+    pub(super) fn put_slot(&mut self, slot_ref: SlotRef, found: u64) -> Option<Reply>
+        ensures reply { result ≡ (put_at (record self.old { mine = without (same_slot slot_ref) self.old.mine }) slot_ref).reply
             found }
-        ensures part { self.new ≡ (put_at (record self.old { mine = without (same_spot spot) self.old.mine }) spot).part
+        ensures part { self.new ≡ (put_at (record self.old { mine = without (same_slot slot_ref) self.old.mine }) slot_ref).part
             found }
     {
-        self.mine.remove(spot);
-        self.put(spot, found)
+        self.mine.remove(slot_ref);
+        self.put(slot_ref, found)
     }
 }

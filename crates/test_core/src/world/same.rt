@@ -1,7 +1,7 @@
 use crate::assertions::agree;
 use sh_core::World;
 use sh_key::Tiny;
-use sh_slots::Spot;
+use sh_slots::SlotRef;
 use sh_step::Part;
 use std::process::Abort;
 
@@ -18,9 +18,9 @@ fn assert_same_page(part: &Part, twin: &Part, page: u64, rt: &impl Abort) {
     agree(rt, part.cursor(page), twin.cursor(page));
     agree(rt, part.has_armed(page), twin.has_armed(page));
     for slot in 0..48 {
-        let spot = Spot { page, slot };
-        let (mine, other) = (part.has_mine(spot), twin.has_mine(spot));
-        agree(rt, (spot, mine), (spot, other));
+        let slot_ref = SlotRef { page, slot };
+        let (mine, other) = (part.has_mine(slot_ref), twin.has_mine(slot_ref));
+        agree(rt, (slot_ref, mine), (slot_ref, other));
     }
 }
 

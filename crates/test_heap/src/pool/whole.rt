@@ -1,13 +1,12 @@
-//! What no clause says: a missing pass is noticed, the passes that a refused gather took are back in their berths, and
-//! passes that were joined once stay joined.
+//! What no clause says: a missing pass is noticed, the passes that a refused gather took are back in their pool slots,
+//! and passes that were joined once stay joined.
 use super::{all_are_away, comes_home, is_away, is_given, shared_pass, taken, taken_at};
 use crate::assertions::{agree, holds};
-use sh_gather::Accounts;
+use sh_gather::{Accounts, Totals};
 use sh_key::Tiny;
 use sh_pool::{Pool, Share};
 use sh_shape::Shape;
 use sh_shard::shard::Shard;
-use sh_totals::Totals;
 use sh_value::Value;
 use sh_whole::{NotTold, gather_pool, pool_accounts, pool_totals};
 use std::alloc::Global;
@@ -35,7 +34,7 @@ fn a_pass_that_is_away_is_missed(rt: HostRuntime) {
     assert_eq!(rt; gather_pool(rt.alloc(), &pool), Err(NotTold::Away));
     assert_eq!(rt; pool_totals(&pool), Err(NotTold::Away));
     assert_eq!(rt; pool_accounts(&pool, 0, 0), Err(NotTold::Away));
-    // Both of the others are back in their berths, and still two.
+    // Both of the others are back in their pool slots, and still two.
     let one = taken_at(&rt, &pool, 0);
     let other = taken_at(&rt, &pool, 2);
     assert_eq!(rt; gather_pool(rt.alloc(), &pool), Err(NotTold::Away));
@@ -63,7 +62,7 @@ fn passes_that_met_are_one(rt: HostRuntime) {
 
 // Inserts two values by a pass of the pool, and removes the first.
 fn one_value(rt: &impl Abort, alloc: Global, share: &Share<Tiny>) {
-    let (pass, berth) = shared_pass(rt, share);
+    let (pass, pool_slot) = shared_pass(rt, share);
     let Ok(mut shard) = Shard::adopt(alloc, pass, 0) else {
         panic!(rt; "the shard is not adopted")
     };
@@ -73,7 +72,7 @@ fn one_value(rt: &impl Abort, alloc: Global, share: &Share<Tiny>) {
     let Ok(pass) = shard.leave() else {
         panic!(rt; "the shard is not left")
     };
-    holds(rt, is_given(pass, berth));
+    holds(rt, is_given(pass, pool_slot));
 }
 
 #[test]
@@ -106,7 +105,7 @@ fn what_was_inserted_is_told(rt: HostRuntime) {
     agree(&rt, live, Ok(2));
 }
 
-// If memory is refused, each pass is back in its berth.
+// If memory is refused, each pass is back in its pool slot.
 #[test]
 fn refused_memory_calls_nobody(rt: HostRuntime) {
     let Ok(shape) = Shape::new(1, 1, 2) else {

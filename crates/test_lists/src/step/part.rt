@@ -3,7 +3,7 @@ ghost use Rattle.std.specs.Prelude.{◌≡◌};
 use crate::assertions::{agree, holds};
 use sh_key::Tiny;
 use sh_shape::Shape;
-use sh_slots::{Hand, Name, Reply, Spot};
+use sh_slots::{Hand, KeyRef, Reply, SlotRef};
 use sh_step::{Move, Part};
 use sh_value::Refusal;
 use std::process::Abort;
@@ -16,9 +16,9 @@ const MARKED: u64 = 7516192768;
 
 const MARKED_ONE: u64 = 7516192769;
 
-const FIRST: Spot = Spot { page: 0, slot: 0 };
+const FIRST: SlotRef = SlotRef { page: 0, slot: 0 };
 
-const NAME: Name = Name {
+const NAME: KeyRef = KeyRef {
     page: 0,
     slot: 0,
     generation: 1,

@@ -1,7 +1,7 @@
 //! The line of each fault, which is written in one write, and the exit status that follows it.
 use super::{agree, has_text};
-use sh_program::faults::{FaultLine, fault_line, status};
-use sh_program::program::report;
+use script_program::faults::{FaultLine, fault_line, status};
+use script_program::program::report;
 use sh_script::{Cause, Fault};
 use std::alloc::Global;
 use std::io;

@@ -1,6 +1,6 @@
 //! Runs of scripts, and of devices that fail.
 use super::{Broken, agree, has_text, run_with, wrote};
-use sh_program::program::run;
+use script_program::program::run;
 use std::alloc::Global;
 use std::io::Read;
 use std::process::Abort;

@@ -1,8 +1,8 @@
 //! The words of the command line: what they ask for, which are refused and how, the help and the version.
 use super::{Broken, Run, agree, has_text, run_with, wrote};
 use clap::error::ErrorKind;
-use sh_output::Mode;
-use sh_program::options::options;
+use script_output::Mode;
+use script_program::options::options;
 use std::alloc::Global;
 use std::process::Abort;
 

@@ -4,10 +4,10 @@ ghost use Rattle.std.specs.Prelude.{◌≤◌};
 
 use crate::assertions::agree;
 use sh_key::Wide;
-use sh_load::demand::Demand;
-use sh_load::plan::plan_for;
-use sh_load::samples::Lengths;
 use std::test::Fail;
+use tool_load::demand::Demand;
+use tool_load::plan::plan_for;
+use tool_load::samples::Lengths;
 
 // With how many shards an owner has room for so many values, if it has with any number.
 fn shards_for(values: usize) -> Option<usize>

@@ -11,7 +11,7 @@ pub returns : goal.returns
 returns c =
     let shape = c.args.shape.now in
     let list = c.args.words.now in
-    let x = c.args.spot in
+    let x = c.args.slot_ref in
     let v = c.requires.value in
     let class : ℕ = word_at shape list (Class x.page) - 1 in
     let some = v.has_class in

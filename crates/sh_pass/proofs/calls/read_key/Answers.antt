@@ -1,5 +1,5 @@
 use Rattle.std.proofs.Common.{◌≡◌, ◌∙◌, ℕ, Option, None, Ok, Err, true, false, ap, refl, subst, sym}
-use Rattle.sh_slots.specs.declared.hand.Name.{Name}
+use Rattle.sh_slots.specs.declared.hand.KeyRef.{KeyRef}
 use Rattle.sh_step.specs.Moves.{place_named}
 use Rattle.sh_step.specs.Plans.{plan_of}
 use Rattle.sh_value.specs.declared.refusal.Refusal.TheVariants as refusal
@@ -25,7 +25,7 @@ pub place_in-name-requires : goal.place_in-name-requires
 place_in-name-requires g c =
     let here = held_as c.args.held.now.items _ c.args.seat.now.me.0.own.body.holds c.held_key-key.result
     c.is_held.result true c.requires.kept.holds c.as_slice.ensures.value c.is_held.ensures c.if-not-is_held.false in
-    let N : ℕ → Option Name = λ k. place_named (plan_of g.L.KeyLayout.layout c.shape.result.now) k in
+    let N : ℕ → Option KeyRef = λ k. place_named (plan_of g.L.KeyLayout.layout c.shape.result.now) k in
     λ none. held_named c.held_key-key.result _ _ c.requires.seat here (c.shape.ensures ∙ sym c.requires.seat.shape) refl
     (ap N c.held_key-key.ensures ∙ none)
 

@@ -1,6 +1,6 @@
 use Rattle.std.proofs.Common.{◌≡◌, ◌∙◌, ◌==◌, ℕ, List, Option, Ok, Err, true, false, refl, ap}
 use Rattle.std.proofs.Common.{sym, subst}
-use Rattle.sh_slots.specs.declared.hand.Name.{Name}
+use Rattle.sh_slots.specs.declared.hand.KeyRef.{KeyRef}
 use Rattle.sh_step.specs.Collections.{has, without}
 use Rattle.sh_step.specs.Moves.{place_named}
 use Rattle.sh_value.specs.declared.refusal.Refusal.TheVariants as refusal
@@ -28,7 +28,7 @@ pub place_in-name-requires : goal.place_in-name-requires
 place_in-name-requires g c =
     let here = held_as c.args.held.now.items _ c.args.seat.now.me.0.own.body.holds c.held_key-key.result
     c.is_held.result true c.requires.kept.holds c.as_slice.ensures.value c.is_held.ensures c.if-not-is_held.false in
-    let N : ℕ → Option Name = λ k. place_named (plan_of g.L.KeyLayout.layout c.shape.result.now) k in
+    let N : ℕ → Option KeyRef = λ k. place_named (plan_of g.L.KeyLayout.layout c.shape.result.now) k in
     λ none. held_named c.held_key-key.result _ _ c.requires.seat here (c.shape.ensures ∙ sym c.requires.seat.shape) refl
     (ap N c.held_key-key.ensures ∙ none)
 
@@ -37,8 +37,8 @@ release_at-slot-requires-clause-held g c = held_as c.args.held.now.items _ c.arg
     c.held_key-key.result c.is_held.result true c.requires.kept.holds c.as_slice.ensures.value c.is_held.ensures
     c.if-not-is_held.false
 
-pub let_go-requires : goal.let_go-requires
-let_go-requires g c =
+pub remove_one-requires : goal.remove_one-requires
+remove_one-requires g c =
     let X : List ℕ → Type 0 = λ xs. has (λ k. k == c.held_key-key.result) xs ≡ true in
     subst X c.as_slice.ensures.value (sym c.is_held.ensures ∙ c.if-not-is_held.false)
 
@@ -47,8 +47,8 @@ returns-clause-kept g c =
     let held : List ℕ = c.args.held.now.items in
     let X : List ℕ → Type 0 = λ xs. has (λ k. k == c.held_key-key.result) xs ≡ true in
     let here = subst X c.as_slice.ensures.value (sym c.is_held.ensures ∙ c.if-not-is_held.false) in
-    kept_then c.let_go.new.held.items (without (λ k. k == c.held_key-key.result) held)
-    c.release_at-slot.new.seat.me.0.own.body.holds c.let_go.ensures
+    kept_then c.remove_one.new.held.items (without (λ k. k == c.held_key-key.result) held)
+    c.release_at-slot.new.seat.me.0.own.body.holds c.remove_one.ensures
     (kept_less c.held_key-key.result held c.args.seat.now.me.0.own.body.holds _ c.requires.kept here
     (ap (λ (p : Body). p.holds) c.release_at-slot.ensures.grows.body))
 
@@ -60,7 +60,7 @@ returns-clause-does g c =
     c.release_at-slot.ensures.seat in
     let v = c.args.seat.now.me.0 in
     let plan = plan_of g.L.KeyLayout.layout v.shape in
-    let N : ℕ → Option Name = λ k. place_named (plan_of g.L.KeyLayout.layout c.shape.result.now) k in
+    let N : ℕ → Option KeyRef = λ k. place_named (plan_of g.L.KeyLayout.layout c.shape.result.now) k in
     let named = name_found c.held_key-key.result c.shape.result.now _ c.place_in-name.result c.requires.seat
     c.shape.ensures refl (ap N c.held_key-key.ensures ∙ c.place_in-name.ensures) in
     let first = of_key v c.release_at-slot.new.seat.me.0 plan c.held_key-key.result

@@ -2,8 +2,8 @@ use Rattle.std.proofs.Common.{rules, ◌≡◌, ◌<◌, false, map}
 use Rattle.std.specs.List.{All}
 use Rattle.sh_shape.specs.Shape.{IsShape}
 use Rattle.sh_script.specs.declared.calls.CallLine.{CallLine}
-use Rattle.sh_output.specs.Keys.{HasTagRoom}
-use Rattle.sh_heap_run.proofs.OpenedLemmas.{opened_room, opened_new, opened_within, opened_ran}
+use Rattle.script_output.specs.Keys.{HasTagRoom}
+use Rattle.script_heap.proofs.OpenedLemmas.{opened_room, opened_new, opened_within, opened_ran}
 use Rattle.sh_replay.proofs.threads_output.lines_on.Goals as goal
 
 pub threads_lines-requires-clause-room : goal.threads_lines-requires-clause-room

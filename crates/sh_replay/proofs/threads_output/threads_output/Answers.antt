@@ -1,7 +1,7 @@
 use Rattle.std.proofs.lemmas.Result.{err_from_is_err_and}
 use Rattle.sh_script.specs.declared.header.Layout.TheVariants as layout
-use Rattle.sh_output.proofs.HeaderShapes.{calls_fit_named}
-use Rattle.sh_output.proofs.FaultLemmas.{only_memory}
+use Rattle.script_output.proofs.HeaderShapes.{calls_fit_named}
+use Rattle.script_output.proofs.FaultLemmas.{only_memory}
 use Rattle.sh_replay.proofs.threads_output.threads_output.Goals as goal
 
 pub returns-in_err-header-clause-answers : goal.returns-in_err-header-clause-answers

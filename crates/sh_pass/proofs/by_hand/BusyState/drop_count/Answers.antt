@@ -16,10 +16,10 @@ pub drop_count-found-requires : goal.drop_count-found-requires
 drop_count-found-requires g c = record {
   seat = c.requires.seat;
   may = may_drop _ c.args.self.now.seat.me.0.own.body
-      c.in-Leaving.spot (c.requires.hand ∙ c.in-Leaving.is);
+      c.in-Leaving.slot_ref (c.requires.hand ∙ c.in-Leaving.is);
 }
 
 pub returns-clause-acts : goal.returns-clause-acts
-returns-clause-acts g c = done action.Drop (move.Drop c.in-Leaving.spot) refl
-    (may_drop _ c.args.self.now.seat.me.0.own.body c.in-Leaving.spot (c.requires.hand ∙ c.in-Leaving.is))
+returns-clause-acts g c = done action.Drop (move.Drop c.in-Leaving.slot_ref) refl
+    (may_drop _ c.args.self.now.seat.me.0.own.body c.in-Leaving.slot_ref (c.requires.hand ∙ c.in-Leaving.is))
     c.drop_count-found.ensures

@@ -1,7 +1,7 @@
 use Rattle.std.proofs.Common.{◌≡◌, ◌==◌, ℕ, List, Some, None, refl, ap, ◌∙◌, sym, subst}
 use Rattle.sh_step.specs.declared.action.Action.TheVariants as action
 use Rattle.sh_step.specs.declared.moves.Move.TheVariants as move
-use Rattle.sh_slots.specs.declared.hand.Spot.{Spot}
+use Rattle.sh_slots.specs.declared.hand.SlotRef.{SlotRef}
 use Rattle.sh_slots.specs.Slots.{after_drop}
 use Rattle.sh_step.specs.Collections.{without}
 use Rattle.sh_step.proofs.MoveLaws.{no_drop}
@@ -46,8 +46,8 @@ returns-clause-busy g c =
     let body = c.args.self.now.seat.me.0.own.body in
     let f = hold_found c.args.self.now.held.items _ c.args.self.now.seat.me.0.own.body.holds c.args.key c.in-Some.at _
     c.requires.kept.holds c.as_slice.ensures.value c.find.ensures c.in-Some.is in
-    let begun : after_drop _ _ ≡ c.after_drop-self.result = ap (λ (x : Spot). after_drop x c.drop_hold-found.result)
-    (sym c.spot.ensures) ∙ sym c.after_drop-self.ensures in
+    let begun : after_drop _ _ ≡ c.after_drop-self.result = ap (λ (x : SlotRef). after_drop x c.drop_hold-found.result)
+    (sym c.slot_ref.ensures) ∙ sym c.after_drop-self.ensures in
     let P : List ℕ → Type 0 = λ xs. IsBusy g.L.KeyLayout.layout c.args.table.now c.drop_hold-found.new.seat xs
     c.args.self.now.named c.after_drop-self.result in
     subst P (f.2 ∙ sym c.remove.ensures.items) (busy_with (action.DropHold c.args.key)

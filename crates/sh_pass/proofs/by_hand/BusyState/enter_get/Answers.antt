@@ -3,7 +3,7 @@ use Rattle.sh_step.specs.declared.action.Action.TheVariants as action
 use Rattle.sh_step.specs.declared.moves.Move.TheVariants as move
 use Rattle.sh_slots.specs.declared.enter.GetAnswer.TheVariants as answer
 use Rattle.sh_slots.specs.declared.hand.Hand.TheVariants.{Leaving}
-use Rattle.sh_slots.specs.declared.hand.Spot.{Spot}
+use Rattle.sh_slots.specs.declared.hand.SlotRef.{SlotRef}
 use Rattle.sh_step.specs.Plans.{plan_of}
 use Rattle.sh_step.specs.Rows.{hand}
 use Rattle.sh_step.proofs.MoveLaws.{no_get}
@@ -75,8 +75,8 @@ returns-in-Crowded-clause-busy g c =
     c.in-Some.name c.enter_get-found.result (answered g.L.KeyLayout.layout c.args.self.now.seat.me.0.shape
     c.in-Some.name.generation c.enter_get-found.result c.guard_max.result _ answer.Crowded c.guard_max.ensures
     c.answer_to_get.ensures c.in-Crowded.is) in
-    busy_still (action.EnterGet c.args.key) (move.EnterGet c.args.key c.in-Some.name) (Leaving c.spot.result) c.requires
-    c.enter_get-found.ensures (left.0 ∙ ap (λ (x : Spot). hand body (Leaving x)) (sym c.spot.ensures))
+    busy_still (action.EnterGet c.args.key) (move.EnterGet c.args.key c.in-Some.name) (Leaving c.slot_ref.result) c.requires
+    c.enter_get-found.ensures (left.0 ∙ ap (λ (x : SlotRef). hand body (Leaving x)) (sym c.slot_ref.ensures))
 
 pub returns-in-Crowded-clause-acts : goal.returns-in-Crowded-clause-acts
 returns-in-Crowded-clause-acts g c = done (action.EnterGet c.args.key) (move.EnterGet c.args.key c.in-Some.name) refl

@@ -21,12 +21,12 @@ pub finish-found-requires : goal.finish-found-requires
 finish-found-requires g c = record {
   seat = c.requires.seat;
   may = may_finish _ c.args.self.now.seat.me.0.own.body
-      c.in-Finishing.spot c.in-Finishing.generation (c.requires.hand ∙ c.in-Finishing.is);
+      c.in-Finishing.slot_ref c.in-Finishing.generation (c.requires.hand ∙ c.in-Finishing.is);
 }
 
 pub returns-clause-acts : goal.returns-clause-acts
-returns-clause-acts g c = done action.Finish (move.Finish c.in-Finishing.spot c.in-Finishing.generation) refl
-    (may_finish _ c.args.self.now.seat.me.0.own.body c.in-Finishing.spot c.in-Finishing.generation
+returns-clause-acts g c = done action.Finish (move.Finish c.in-Finishing.slot_ref c.in-Finishing.generation) refl
+    (may_finish _ c.args.self.now.seat.me.0.own.body c.in-Finishing.slot_ref c.in-Finishing.generation
     (c.requires.hand ∙ c.in-Finishing.is)) c.finish-found.ensures
 
 pub returns-clause-busy : goal.returns-clause-busy
@@ -35,14 +35,14 @@ returns-clause-busy g c =
     c.args.self.now.held.items c.args.self.now.named h in
     elim c.if-is_reusable_after.branch [
       | then-is_reusable_after w ↦ subst P (sym w.self-is) (busy_still action.Finish
-          (move.Finish c.in-Finishing.spot c.in-Finishing.generation) (ToPut c.in-Finishing.spot) c.requires
+          (move.Finish c.in-Finishing.slot_ref c.in-Finishing.generation) (ToPut c.in-Finishing.slot_ref) c.requires
           c.finish-found.ensures (finished_by g.L.KeyLayout.layout c.args.self.now.seat.me.0.shape
-          c.args.self.now.seat.me.0.own.body c.in-Finishing.spot c.in-Finishing.generation c.finish-found.result
+          c.args.self.now.seat.me.0.own.body c.in-Finishing.slot_ref c.in-Finishing.generation c.finish-found.result
           c.gen_max.result _ true c.requires.left c.gen_max.ensures c.is_reusable_after.ensures
           w.if-is_reusable_after.true))
       | else-is_reusable_after w ↦ subst P (sym w.self-is) (busy_still action.Finish
-          (move.Finish c.in-Finishing.spot c.in-Finishing.generation) Idle c.requires c.finish-found.ensures
+          (move.Finish c.in-Finishing.slot_ref c.in-Finishing.generation) Idle c.requires c.finish-found.ensures
           (finished_by g.L.KeyLayout.layout c.args.self.now.seat.me.0.shape c.args.self.now.seat.me.0.own.body
-          c.in-Finishing.spot c.in-Finishing.generation c.finish-found.result c.gen_max.result _ false c.requires.left
+          c.in-Finishing.slot_ref c.in-Finishing.generation c.finish-found.result c.gen_max.result _ false c.requires.left
           c.gen_max.ensures c.is_reusable_after.ensures w.if-is_reusable_after.false))
     ]

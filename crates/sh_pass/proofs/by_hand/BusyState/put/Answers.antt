@@ -16,9 +16,9 @@ pub put-head-requires : goal.put-head-requires
 put-head-requires g c = record {
   seat = c.requires.seat;
   may = may_put _ c.args.self.now.seat.me.0.own.body
-      c.in-ToPut.spot (c.requires.hand ∙ c.in-ToPut.is);
+      c.in-ToPut.slot_ref (c.requires.hand ∙ c.in-ToPut.is);
 }
 
 pub returns-clause-acts : goal.returns-clause-acts
-returns-clause-acts g c = done action.Put (move.Put c.in-ToPut.spot) refl
-    (may_put _ c.args.self.now.seat.me.0.own.body c.in-ToPut.spot (c.requires.hand ∙ c.in-ToPut.is)) c.put-head.ensures
+returns-clause-acts g c = done action.Put (move.Put c.in-ToPut.slot_ref) refl
+    (may_put _ c.args.self.now.seat.me.0.own.body c.in-ToPut.slot_ref (c.requires.hand ∙ c.in-ToPut.is)) c.put-head.ensures

@@ -15,11 +15,11 @@ returns-in_default g c = record {
 pub tie-requires : goal.tie-requires
 tie-requires g c = record {
   seat = c.requires.seat;
-  may = may_tie _ c.args.self.now.seat.me.0.own.body c.in-Tying.spot
+  may = may_tie _ c.args.self.now.seat.me.0.own.body c.in-Tying.slot_ref
       c.in-Tying.link c.in-Tying.armed (c.requires.hand ∙ c.in-Tying.is);
 }
 
 pub returns-clause-acts : goal.returns-clause-acts
-returns-clause-acts g c = done action.Tie (move.Tie c.in-Tying.spot c.in-Tying.link c.in-Tying.armed) refl
-    (may_tie _ c.args.self.now.seat.me.0.own.body c.in-Tying.spot c.in-Tying.link c.in-Tying.armed
+returns-clause-acts g c = done action.Tie (move.Tie c.in-Tying.slot_ref c.in-Tying.link c.in-Tying.armed) refl
+    (may_tie _ c.args.self.now.seat.me.0.own.body c.in-Tying.slot_ref c.in-Tying.link c.in-Tying.armed
     (c.requires.hand ∙ c.in-Tying.is)) c.tie.ensures

@@ -2,7 +2,7 @@ use Rattle.std.proofs.Common.{◌∙◌, ℕ, ap, sym, subst}
 use Rattle.sh_step.specs.declared.action.Action.TheVariants as action
 use Rattle.sh_step.specs.declared.moves.Move.TheVariants as move
 use Rattle.sh_table.specs.Seats.{CanDo, Did}
-use Rattle.sh_pass.specs.Owners.{heap_spot, slot_in}
+use Rattle.sh_pass.specs.Owners.{heap_slot, slot_in}
 use Rattle.sh_pass.proofs.OwnMay.{may_fill_slot}
 use Rattle.sh_pass.proofs.OwnSeats.{can, does, stood, seat_at}
 use Rattle.sh_pass.proofs.OwnPageSteps.{fill_slot_does}
@@ -20,7 +20,7 @@ fill_slot-requires g c =
     (move.FillSlot (record { page = q; slot = c.args.slot }) c.args.value.now) c.self.inside.seat in
     subst P (sym c.number.ensures) (can v _ _ c.self.view_is seat
     (may_fill_slot layout v c.args.name touch (s.owner.owned c.args.name.shard touch.owned) c.args.slot
-    c.args.value.now (s.owner.mine (heap_spot v c.args.name c.args.slot) c.requires.mine).2 c.requires.mine
+    c.args.value.now (s.owner.mine (heap_slot v c.args.name c.args.slot) c.requires.mine).2 c.requires.mine
     c.requires.classed c.requires.fits))
 
 pub returns : goal.returns
@@ -37,8 +37,8 @@ returns g c =
     let d = does v c.self.view_is seat (subst P c.number.ensures c.fill_slot.ensures) in
     let k = fill_slot_does layout v _ c.args.name s.owner c.args.slot c.args.value.now d in
     record {
-      spot = ap (λ q. record { page = q; slot = c.args.slot }) c.number.ensures;
-      below = (s.owner.mine (heap_spot v c.args.name c.args.slot) c.requires.mine).2;
+      slot_ref = ap (λ q. record { page = q; slot = c.args.slot }) c.number.ensures;
+      below = (s.owner.mine (heap_slot v c.args.name c.args.slot) c.requires.mine).2;
       does = d;
       acts = k.0;
       bells =

@@ -1,11 +1,11 @@
 use Rattle.std.proofs.Common.{◌≡◌, ◌+◌, ◌<◌, [], ◌∙◌, ap, sym, subst, arith}
 use Rattle.sh_shape.specs.Places.{page_number, pages_of}
 use Rattle.sh_shape.specs.Shape.{Numbers}
-use Rattle.sh_slots.specs.declared.hand.Name.{Name}
+use Rattle.sh_slots.specs.declared.hand.KeyRef.{KeyRef}
 use Rattle.sh_table.specs.Seats.{Heap}
 use Rattle.sh_pass.specs.Passes.{Caller}
 use Rattle.sh_pass.specs.Owners.{OwnerActs, OwnerDid}
-use Rattle.sh_slots.specs.declared.hand.Spot.{Spot}
+use Rattle.sh_slots.specs.declared.hand.SlotRef.{SlotRef}
 use Rattle.sh_slots.specs.declared.hand.Hand.TheVariants.{Filling}
 use Rattle.sh_step.specs.declared.action.Action.TheVariants as action
 use Rattle.sh_step.specs.declared.moves.Move.TheVariants as move
@@ -17,9 +17,9 @@ pub loop-i-preserved : goal.loop-i-preserved
 loop-i-preserved g c =
     let f = c.fill.ensures in
     let h = c.loop-i.invariant in
-    let P : Spot → Type 0 = λ z. OwnerActs (Filling z c.args.value.now (c.loop-i.i + 1)) [] 1 c.loop-i.self
+    let P : SlotRef → Type 0 = λ z. OwnerActs (Filling z c.args.value.now (c.loop-i.i + 1)) [] 1 c.loop-i.self
     c.fill.new.self in (
-      acts_on (1 + (c.loop-i.i + 1)) h.0 (subst P c.fill_slot-spot.ensures.spot f.acts) (omega arith),
+      acts_on (1 + (c.loop-i.i + 1)) h.0 (subst P c.fill_slot-slot_ref.ensures.slot_ref f.acts) (omega arith),
       λ n. f.bells n ∙ h.1 n,
       page_on h.2 f.pages,
       f.put ∙ h.3,
@@ -32,7 +32,7 @@ key_on_page-requires-clause-names g c =
     let now : c.shape.result.now ≡ c.publish-found.new.self.view.shape = c.shape.ensures
     ∙ (ap (λ (h : Heap). h.shape) (c.heap.view_is ∙ c.kept-heap.ensures) ∙ (sym c.self.invariant.seat.shape
     ∙ ap (λ (v : Caller). v.view.shape) c.self.view_is)) in
-    issued g.L.KeyLayout.layout c.shape.result.now c.loop-i.self c.publish-found.new.self c.fill_slot-spot.result
+    issued g.L.KeyLayout.layout c.shape.result.now c.loop-i.self c.publish-found.new.self c.fill_slot-slot_ref.result
     c.args.value.now c.publish-found.result c.published_name-stored.result p.does (now ∙ p.acts.aside.same.shape)
     c.published_name-stored.ensures
 
@@ -45,7 +45,7 @@ key_on_page-requires-clause-place g c =
     ∙ ap (λ (v : Caller). v.view.shape) c.self.view_is)) in
     let at : c.shape.result.now ≡ c.args.self.now.view.shape = now ∙ (p.acts.aside.same.shape
     ∙ c.loop-i.invariant.0.aside.same.shape) in
-    ap (λ (x : Name). x.page) c.published_name-stored.ensures ∙ (ap (λ (x : Spot). x.page) c.fill_slot-spot.ensures.spot
+    ap (λ (x : KeyRef). x.page) c.published_name-stored.ensures ∙ (ap (λ (x : SlotRef). x.page) c.fill_slot-slot_ref.ensures.slot_ref
     ∙ ap (λ (s : Numbers). page_number s c.args.name.shard c.args.name.page) (sym at))
 
 pub key_on_page-requires-clause-shard : goal.key_on_page-requires-clause-shard
@@ -77,13 +77,13 @@ returns-clause-on g c =
     ∙ (ap (λ (h : Heap). h.shape) (c.heap.view_is ∙ c.kept-heap.ensures) ∙ (sym c.self.invariant.seat.shape
     ∙ ap (λ (v : Caller). v.view.shape) c.self.view_is)) in
     let at : c.shape.result.now ≡ c.loop-i.self.view.shape = now ∙ p.acts.aside.same.shape in
-    let x = c.fill_slot-spot.ensures.spot in
-    let P : Spot → Type 0 = λ z. OwnerDid layout action.Publish (move.Publish z c.args.value.now) c.publish-found.result
+    let x = c.fill_slot-slot_ref.ensures.slot_ref in
+    let P : SlotRef → Type 0 = λ z. OwnerDid layout action.Publish (move.Publish z c.args.value.now) c.publish-found.result
     c.loop-i.self c.publish-found.new.self in
     key_on layout v c.loop-i.self c.publish-found.new.self c.args.name c.args.slot c.args.value.now
     c.publish-found.result c.shape.result.now c.key_on_page.result c.published_name-stored.result
     (subst P x p.does) before at (c.published_name-stored.ensures
-    ∙ ap (λ (z : Spot). published_name z c.publish-found.result) x) c.key_on_page.ensures
+    ∙ ap (λ (z : SlotRef). published_name z c.publish-found.result) x) c.key_on_page.ensures
 
 pub returns-clause-key : goal.returns-clause-key
 returns-clause-key g c = key_in g.L.KeyLayout.layout c.args.self.now c.args.name c.key_on_page.result c.requires.touch

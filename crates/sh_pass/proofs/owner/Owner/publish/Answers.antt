@@ -7,9 +7,9 @@ use Rattle.sh_pass.proofs.OwnOtherSteps.{publish_does}
 use Rattle.sh_pass.proofs.owner.Owner.publish.Goals as goal
 
 pub publish-requires : goal.publish-requires
-publish-requires g c = can c.args.self.now action.Publish (move.Publish c.args.spot c.args.value.now) c.self.view_is
+publish-requires g c = can c.args.self.now action.Publish (move.Publish c.args.slot_ref c.args.value.now) c.self.view_is
     (seat_at (c.heap.view_is ∙ c.kept-heap.ensures) c.self.invariant.seat)
-    (may_publish g.L.KeyLayout.layout c.args.self.now c.args.spot c.args.value.now c.requires.hand)
+    (may_publish g.L.KeyLayout.layout c.args.self.now c.args.slot_ref c.args.value.now c.requires.hand)
 
 pub returns : goal.returns
 returns g c =
@@ -17,5 +17,5 @@ returns g c =
     let v = c.args.self.now in
     let d = does v c.self.view_is (seat_at (c.heap.view_is ∙ c.kept-heap.ensures) c.self.invariant.seat)
     c.publish.ensures in
-    let k = publish_does layout v _ c.args.spot c.args.value.now c.publish.result d in
+    let k = publish_does layout v _ c.args.slot_ref c.args.value.now c.publish.result d in
     record { does = d; acts = k.0; bells = k.1; pages = k.2; put = k.3 }

@@ -2,7 +2,7 @@ use Rattle.std.proofs.Common.{◌∙◌, ℕ, refl, sym, subst}
 use Rattle.sh_step.specs.declared.action.Action.TheVariants as action
 use Rattle.sh_step.specs.declared.moves.Move.TheVariants as move
 use Rattle.sh_table.specs.Seats.{CanDo, Did}
-use Rattle.sh_pass.specs.Owners.{heap_spot, slot_in}
+use Rattle.sh_pass.specs.Owners.{heap_slot, slot_in}
 use Rattle.sh_pass.proofs.OwnMay.{may_put_slot, owns_it}
 use Rattle.sh_pass.proofs.OwnSeats.{can, does, stood, seat_at}
 use Rattle.sh_pass.proofs.OwnPageSteps.{put_does}
@@ -19,7 +19,7 @@ put_slot-requires g c =
     (move.PutSlot (record { page = q; slot = c.args.slot })) c.self.inside.seat in
     subst P (sym c.number.ensures) (can v _ _ c.self.view_is seat
     (may_put_slot layout v c.args.name touch (s.owner.owned c.args.name.shard touch.owned) c.args.slot
-    (s.owner.mine (heap_spot v c.args.name c.args.slot) c.requires.mine).2 c.requires.mine))
+    (s.owner.mine (heap_slot v c.args.name c.args.slot) c.requires.mine).2 c.requires.mine))
 
 pub returns : goal.returns
 returns g c =

@@ -7,18 +7,18 @@ use Rattle.sh_states.specs.States.{state_at}
 use Rattle.sh_shard.specs.Kept.{KeepsPages}
 use Rattle.sh_shard.specs.Pages.{Paged, WorksOn, StepsForSlots, page_at, seen_class}
 use Rattle.sh_shard.proofs.PageLaws.{kept_armed}
-use Rattle.sh_shard.proofs.Keeping.{keeps_set, small_cursor, page_of}
+use Rattle.sh_shard.proofs.Keeping.{keeps_set, cursor_number, page_of}
 use Rattle.sh_shard.proofs.PageSteps.{paged_of, works_on, arming}
 use Rattle.sh_shard.proofs.pages.Pages.arm.Goals as goal
 
-pub small-cursor-requires : goal.small-cursor-requires
-small-cursor-requires g c = small_cursor c.top_item.result (sym
+pub slot_number-cursor-requires : goal.slot_number-cursor-requires
+slot_number-cursor-requires g c = cursor_number c.top_item.result (sym
     (c.top_item.ensures ∙ (λ i. top_item (c.top_of.ensures i)))) c.arm-found.ensures.page
     c.arm-found.ensures.does.stands
 
 pub begin_reading-requires-clause-cursor : goal.begin_reading-requires-clause-cursor
-begin_reading-requires-clause-cursor g c = small_cursor c.small-cursor.result
-    (sym (c.small-cursor.ensures ∙ (c.top_item.ensures ∙ (λ i. top_item (c.top_of.ensures i)))))
+begin_reading-requires-clause-cursor g c = cursor_number c.slot_number-cursor.result
+    (sym (c.slot_number-cursor.ensures ∙ (c.top_item.ensures ∙ (λ i. top_item (c.top_of.ensures i)))))
     c.arm-found.ensures.page c.arm-found.ensures.does.stands
 
 pub invariant_of-self : goal.invariant_of-self
@@ -33,9 +33,9 @@ invariant_of-self g c =
     (sym c.begin_reading.ensures)
     (keeps_set c.args.page _ k c.arm-found.ensures.acts c.arm-found.ensures.bells c.arm-found.ensures.page
     c.arm-found.ensures.does.stands l
-    (kept_armed st _ c.arm-found.result (record st.lists { cursor = c.small-cursor.result }) c.small-cursor.result
+    (kept_armed st _ c.arm-found.result (record st.lists { cursor = c.slot_number-cursor.result }) c.slot_number-cursor.result
     (k.pages c.args.page l) some refl
-    (c.small-cursor.ensures ∙ (c.top_item.ensures ∙ (λ i. top_item (c.top_of.ensures i))))))
+    (c.slot_number-cursor.ensures ∙ (c.top_item.ensures ∙ (λ i. top_item (c.top_of.ensures i))))))
 
 pub returns-clause-works : goal.returns-clause-works
 returns-clause-works g c =

@@ -7,8 +7,8 @@ returns-then-has_slot-2-clause-steps g c = slot_collected c.args.page c.args.sel
 
 pub returns-clause-found : goal.returns-clause-found
 returns-clause-found g c = slot_found c.args.page c.has_slot-3.result c.args.self.now c.collect.new.self
-    c.guard.new.self c.collect.ensures c.guard.ensures c.has_slot-3.ensures
+    c.arm_and_follow.new.self c.collect.ensures c.arm_and_follow.ensures c.has_slot-3.ensures
 
 pub returns-clause-steps : goal.returns-clause-steps
-returns-clause-steps g c = slot_guarded c.args.page c.args.self.now c.collect.new.self c.guard.new.self
-    c.collect.ensures c.guard.ensures
+returns-clause-steps g c = slot_guarded c.args.page c.args.self.now c.collect.new.self c.arm_and_follow.new.self
+    c.collect.ensures c.arm_and_follow.ensures

@@ -5,7 +5,7 @@ use Rattle.sh_states.specs.States.{state_at}
 use Rattle.sh_shard.specs.Kept.{KeepsPages}
 use Rattle.sh_shard.specs.Pages.{Paged, CursorMoves, CursorStops}
 use Rattle.sh_shard.proofs.PageLaws.{kept_followed, followed_cursor}
-use Rattle.sh_shard.proofs.Keeping.{page_of, ready, keeps_set, small_cursor}
+use Rattle.sh_shard.proofs.Keeping.{page_of, ready, keeps_set, cursor_number}
 use Rattle.sh_shard.proofs.PageSteps.{paged_of, moved, stopped}
 use Rattle.sh_shard.proofs.pages.Pages.follow.Goals as goal
 
@@ -18,14 +18,14 @@ returns-then-found-eq0 g c =
     c.follow-found.ensures.bells c.follow-found.ensures.page c.follow-found.ensures.put c.follow-found.ensures.arm
     c.if-found-eq0.true refl)
 
-pub small-cursor-requires : goal.small-cursor-requires
-small-cursor-requires g c = small_cursor c.link_item.result (followed_cursor _ c.in-Some.slot c.follow-found.result
+pub slot_number-cursor-requires : goal.slot_number-cursor-requires
+slot_number-cursor-requires g c = cursor_number c.link_item.result (followed_cursor _ c.in-Some.slot c.follow-found.result
     c.if-found-eq0.false ∙ sym c.link_item.ensures) c.follow-found.ensures.page c.follow-found.ensures.does.stands
 
 pub add_read-requires-clause-cursor : goal.add_read-requires-clause-cursor
-add_read-requires-clause-cursor g c = small_cursor c.small-cursor.result
+add_read-requires-clause-cursor g c = cursor_number c.slot_number-cursor.result
     (followed_cursor _ c.in-Some.slot c.follow-found.result c.if-found-eq0.false
-    ∙ sym (c.small-cursor.ensures ∙ c.link_item.ensures)) c.follow-found.ensures.page c.follow-found.ensures.does.stands
+    ∙ sym (c.slot_number-cursor.ensures ∙ c.link_item.ensures)) c.follow-found.ensures.page c.follow-found.ensures.does.stands
 
 pub add_read-requires-clause-apart : goal.add_read-requires-clause-apart
 add_read-requires-clause-apart g c =
@@ -52,13 +52,13 @@ invariant_of-self-2 g c =
       free = st.lists.free
           ++ c.in-Some.slot ∷ [];
       local = st.lists.local;
-      cursor = c.small-cursor.result;
+      cursor = c.slot_number-cursor.result;
     }) (k.pages c.args.page l) c.if-found-eq0.false cursor
     (λ i. record {
       free = st.lists.free
           ++ c.in-Some.slot ∷ [];
       local = st.lists.local;
-      cursor = (c.small-cursor.ensures ∙ c.link_item.ensures) i;
+      cursor = (c.slot_number-cursor.ensures ∙ c.link_item.ensures) i;
     })))
 
 pub returns : goal.returns

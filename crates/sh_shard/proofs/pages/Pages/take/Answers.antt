@@ -7,18 +7,18 @@ use Rattle.sh_states.specs.States.{state_at}
 use Rattle.sh_shard.specs.Kept.{KeepsPages}
 use Rattle.sh_shard.specs.Pages.{Paged, TakesPage, page_at, seen_class}
 use Rattle.sh_shard.proofs.PageLaws.{kept_taken}
-use Rattle.sh_shard.proofs.Keeping.{keeps_set, small_cursor, page_of}
+use Rattle.sh_shard.proofs.Keeping.{keeps_set, cursor_number, page_of}
 use Rattle.sh_shard.proofs.PageSteps.{paged_of, taken}
 use Rattle.sh_shard.proofs.pages.Pages.take.Goals as goal
 
-pub small-cursor-requires : goal.small-cursor-requires
-small-cursor-requires g c = small_cursor c.top_item.result (sym
+pub slot_number-cursor-requires : goal.slot_number-cursor-requires
+slot_number-cursor-requires g c = cursor_number c.top_item.result (sym
     (c.top_item.ensures ∙ (λ i. top_item (c.top_of.ensures i)))) c.take-found.ensures.page
     c.take-found.ensures.does.stands
 
 pub begin_reading-requires-clause-cursor : goal.begin_reading-requires-clause-cursor
-begin_reading-requires-clause-cursor g c = small_cursor c.small-cursor.result
-    (sym (c.small-cursor.ensures ∙ (c.top_item.ensures ∙ (λ i. top_item (c.top_of.ensures i)))))
+begin_reading-requires-clause-cursor g c = cursor_number c.slot_number-cursor.result
+    (sym (c.slot_number-cursor.ensures ∙ (c.top_item.ensures ∙ (λ i. top_item (c.top_of.ensures i)))))
     c.take-found.ensures.page c.take-found.ensures.does.stands
 
 pub invariant_of-self : goal.invariant_of-self
@@ -33,9 +33,9 @@ invariant_of-self g c =
     (sym c.begin_reading.ensures)
     (keeps_set c.args.page _ k c.take-found.ensures.acts c.take-found.ensures.bells c.take-found.ensures.page
     c.take-found.ensures.does.stands l
-    (kept_taken st _ c.take-found.result (record st.lists { cursor = c.small-cursor.result }) c.small-cursor.result
+    (kept_taken st _ c.take-found.result (record st.lists { cursor = c.slot_number-cursor.result }) c.slot_number-cursor.result
     c.still_armed-armed.result (k.pages c.args.page l) some refl
-    (c.small-cursor.ensures ∙ (c.top_item.ensures ∙ (λ i. top_item (c.top_of.ensures i))))
+    (c.slot_number-cursor.ensures ∙ (c.top_item.ensures ∙ (λ i. top_item (c.top_of.ensures i))))
     (c.still_armed-armed.ensures ∙ ap (λ b. cond (is_armed c.take-found.result) false b) c.is_armed.ensures)))
 
 pub returns : goal.returns

@@ -1,6 +1,6 @@
-use Rattle.sh_shard.proofs.FullPages.{but_came}
+use Rattle.sh_shard.proofs.FullPages.{but_gained}
 use Rattle.sh_shard.proofs.shard.Shard.release.Goals as goal
 
 pub return_one-requires-clause-sorted : goal.return_one-requires-clause-sorted
-return_one-requires-clause-sorted g c = but_came c.release-answer.result.1 c.self.inside.pages
-    c.release-answer.new.self c.self.inside.queues c.self.invariant c.release-answer.ensures.came
+return_one-requires-clause-sorted g c = but_gained c.release-answer.result.1 c.self.inside.pages
+    c.release-answer.new.self c.self.inside.queues c.self.invariant c.release-answer.ensures.gained

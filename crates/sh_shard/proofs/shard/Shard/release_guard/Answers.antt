@@ -1,6 +1,6 @@
-use Rattle.sh_shard.proofs.FullPages.{but_came}
+use Rattle.sh_shard.proofs.FullPages.{but_gained}
 use Rattle.sh_shard.proofs.shard.Shard.release_guard.Goals as goal
 
 pub return_one-requires-clause-sorted : goal.return_one-requires-clause-sorted
-return_one-requires-clause-sorted g c = but_came c.release_guard-answer.result.1 c.self.inside.pages
-    c.release_guard-answer.new.self c.self.inside.queues c.self.invariant c.release_guard-answer.ensures.came
+return_one-requires-clause-sorted g c = but_gained c.release_guard-answer.result.1 c.self.inside.pages
+    c.release_guard-answer.new.self c.self.inside.queues c.self.invariant c.release_guard-answer.ensures.gained

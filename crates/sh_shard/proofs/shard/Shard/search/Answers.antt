@@ -34,8 +34,8 @@ try_page-requires-clause-here g c =
     (sym c.self-in-loop-turn.view_is) ∙ (sym c.front.ensures.front ∙ c.in-Some-front.is) in
     front_has c.args.c c.in-Some-front.page c.loop-turn.self.queues front
 
-pub settle-requires-clause-here : goal.settle-requires-clause-here
-settle-requires-clause-here g c =
+pub set_aside-requires-clause-here : goal.set_aside-requires-clause-here
+set_aside-requires-clause-here g c =
     let front : slice_get (class_queue c.loop-turn.self.queues c.args.c) 0
     ≡ Some c.in-Some-front.page = ap (λ (z : Sharded). slice_get (class_queue z.queues c.args.c) 0)
     (sym c.self-in-loop-turn.view_is) ∙ (sym c.front.ensures.front ∙ c.in-Some-front.is) in
@@ -78,8 +78,8 @@ returns-then-page-last-clause-searched g c =
     (λ (z : Sharded). SortedPages z.pages z.queues) c.self-in-loop-turn.view_is c.self-in-loop-turn.invariant in
     let tried = c.in_default-try_page.ensures.tried in
     ended c.args.c c.in-Some-front.page c.loop-turn._turn c.in-Some.last c.args.self.now c.loop-turn.self
-    c.try_page.new.self c.settle.new.self c.loop-turn.invariant.searching front once c.requires.class
-    c.try_page.ensures.queues tried.0 tried.1 c.settle.ensures c.in_default-try_page.ensures.steps sorted
+    c.try_page.new.self c.set_aside.new.self c.loop-turn.invariant.searching front once c.requires.class
+    c.try_page.ensures.queues tried.0 tried.1 c.set_aside.ensures c.in_default-try_page.ensures.steps sorted
     c.if-page-last.true
 
 pub loop-turn-preserved : goal.loop-turn-preserved
@@ -90,12 +90,12 @@ loop-turn-preserved g c =
     let once : EachOnce c.loop-turn.self.queues = subst (λ (z : Sharded). EachOnce z.queues) c.self-in-loop-turn.view_is
     c.opened-known.ensures.once in
     let tried = c.in_default-try_page.ensures.tried in
-    let opened : c.settle.new.self.queues.opened ≡ c.loop-turn.self.queues.opened = settled_opened c.args.c
-    c.in-Some-front.page c.try_page.new.self c.settle.new.self c.settle.ensures
+    let opened : c.set_aside.new.self.queues.opened ≡ c.loop-turn.self.queues.opened = settled_opened c.args.c
+    c.in-Some-front.page c.try_page.new.self c.set_aside.new.self c.set_aside.ensures
     ∙ ap (λ (q : PageQueues). q.opened) c.try_page.ensures.queues in record {
       searching = searching_more c.args.c c.in-Some-front.page c.loop-turn._turn c.in-Some.last c.args.self.now
-          c.loop-turn.self c.try_page.new.self c.settle.new.self c.loop-turn.invariant.searching front once
-          c.requires.class c.try_page.ensures.queues tried.0 tried.1 c.settle.ensures opened
+          c.loop-turn.self c.try_page.new.self c.set_aside.new.self c.loop-turn.invariant.searching front once
+          c.requires.class c.try_page.ensures.queues tried.0 tried.1 c.set_aside.ensures opened
           c.in_default-try_page.ensures.steps c.if-page-last.false;
       opened = opened ∙ c.loop-turn.invariant.opened;
     }

@@ -28,12 +28,12 @@ same_replied plan p n m k is = sym (ap (replied plan p n) is)
 pub publish-requires-clause-names : goal.publish-requires-clause-names
 publish-requires-clause-names g c =
     let plan = plan_of g.L.KeyLayout.layout c.args.shape.now in
-    let spot = c.in-Publish.spot in
-    let fits : RowFits c.args.shape.now plan (row_of plan c.args.self.now (move.Publish spot c.in-Publish.value))
+    let slot_ref = c.in-Publish.slot_ref in
+    let fits : RowFits c.args.shape.now plan (row_of plan c.args.self.now (move.Publish slot_ref c.in-Publish.value))
     c.args.found =
     subst (λ m. RowFits c.args.shape.now plan (row_of plan c.args.self.now m) c.args.found) c.in-Publish.is
     c.requires.fits in
-    fits.issues _ c.in-Publish.value spot.page spot.slot refl refl
+    fits.issues _ c.in-Publish.value slot_ref.page slot_ref.slot refl refl
 
 pub returns-in-EnterRemove-clause-reply : goal.returns-in-EnterRemove-clause-reply
 returns-in-EnterRemove-clause-reply g c =

@@ -1,5 +1,5 @@
 use Rattle.std.proofs.Common.{[], None}
-use Rattle.sh_calls.specs.Parts.{no_terms}
+use Rattle.script_calls.specs.Parts.{no_terms}
 use Rattle.test_scripts.proofs.replay.workers.told_of.Given as goal
 
 abbrev pub ghosts-told_once_closed : goal.ghosts-told_once_closed

@@ -1,0 +1,51 @@
+-- Calls on a handle that holds something.
+use Rattle.std.proofs.Common.{◌≡◌, ℕ, List, false, refl, sym, subst, Result}
+use Rattle.std.proofs.lemmas.Bool.{false≢true}
+use Rattle.std.specs.declared.option.Option.{Option}
+use Rattle.std.specs.declared.option.Option.TheVariants.{None, Some}
+use Rattle.sh_key.specs.Layout.{Layout}
+use Rattle.sh_value.specs.declared.refusal.Refusal.{Refusal}
+use Rattle.sh_pass.specs.Passes.{Caller}
+use Rattle.sh_member.specs.Sides.{SideDoes}
+use Rattle.c_handles.specs.declared.member.AnyMember.{AnyMember}
+use Rattle.c_handles.specs.Members.{AnyDoes}
+use Rattle.sh_nullable.specs.Owning.{has_value}
+use Rattle.c_exports.specs.Told.{Asked, AskedNumber, ReadBy, ReadTold, code_of, empty_code, number_told}
+
+-- a call on an empty handle does nothing
+pub no_value : {V : Type 0} (o : Option V) → has_value o ≡ false → o ≡ None
+no_value None e = refl
+no_value (Some v) e = absurd (false≢true (sym e))
+
+pub unasked : {V A : Type 0} (does : V → Result A Refusal → V → Type 0) (a : Option V) → has_value a ≡ false
+    → Asked does empty_code a a
+unasked does a e = subst (λ o. Asked does empty_code o o) (sym (no_value a e)) (refl, refl)
+
+pub unasked_number : {V : Type 0} (does : V → Result ℕ Refusal → V → Type 0) (old : ℕ) (a : Option V)
+    → has_value a ≡ false → AskedNumber does empty_code old old a a
+unasked_number does old a e = subst (λ o. AskedNumber does empty_code old old o o) (sym (no_value a e))
+    (refl, refl, refl)
+
+pub unread : (reads : Layout → Caller → Result (List ℕ) Refusal → Caller → Type 0) (old : List ℕ) (was : ℕ)
+    (a : Option AnyMember) → has_value a ≡ false → ReadTold reads empty_code old old was was a a
+unread reads old was a e = subst (λ o. ReadTold reads empty_code old old was was o o) (sym (no_value a e))
+    (refl, refl, refl, refl)
+
+-- and a call on a full one is made
+pub asked : {V A : Type 0} (does : V → Result A Refusal → V → Type 0) (code : ℕ) (a b : Option V) (v w : V)
+    (answer : Result A Refusal) → a ≡ Some v → b ≡ Some w → code ≡ code_of answer → does v answer w
+    → Asked does code a b
+asked does code a b v w answer is was e d = subst (λ o. Asked does code o b) (sym is) (w, was, (answer, e, d))
+
+pub asked_number : {V : Type 0} (does : V → Result ℕ Refusal → V → Type 0) (code old new : ℕ) (a b : Option V)
+    (v w : V) (answer : Result ℕ Refusal) → a ≡ Some v → b ≡ Some w → code ≡ code_of answer
+    → new ≡ number_told old answer → does v answer w → AskedNumber does code old new a b
+asked_number does code old new a b v w answer is was e k d = subst (λ o. AskedNumber does code old new o b) (sym is)
+    (w, was, (answer, e, k, d))
+
+pub read_told : (reads : Layout → Caller → Result (List ℕ) Refusal → Caller → Type 0) (code : ℕ) (old new : List ℕ)
+    (was count : ℕ) (a b : Option AnyMember) (v w : AnyMember) (answer : Result (List ℕ) Refusal) → a ≡ Some v
+    → b ≡ Some w → ReadBy code old new was count answer → AnyDoes (λ l. SideDoes l (reads l)) v answer w
+    → ReadTold reads code old new was count a b
+read_told reads code old new was count a b v w answer is after r d =
+    subst (λ o. ReadTold reads code old new was count o b) (sym is) (w, after, (answer, r, d))

@@ -1,0 +1,10 @@
+use Rattle.std.proofs.Common.{◌∙◌, refl, sym}
+use Rattle.c_exports.proofs.Asking.{asked_number, unasked_number}
+use Rattle.c_exports.proofs.values.shardheap_raw_prepare.Goals as goal
+
+pub returns-then-not-is_full : goal.returns-then-not-is_full
+returns-then-not-is_full c = unasked_number _ _ _ (sym c.is_full.ensures ∙ c.if-not-is_full.true)
+
+pub returns : goal.returns
+returns c = asked_number _ _ _ _ _ _ _ _ _ c.held.ensures.value refl c.code.ensures c.tell_page.ensures
+    c.prepare_for-answer.ensures

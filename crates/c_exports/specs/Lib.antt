@@ -1,0 +1,6 @@
+pub mod Batches
+pub mod Told
+pub mod Opened
+pub mod WholeHeap
+pub mod Receipts
+pub mod Keys

@@ -1,0 +1,159 @@
+//! The calls that name a value: what they store, and what they write into the caller's room.
+ghost use Rattle.std.specs.Prelude.{◌≡◌, ◌≤◌, ◌+◌, ◌++◌, length};
+ghost use Rattle.sh_pass.specs.Passes.{ReadDoes};
+ghost use Rattle.sh_readers.specs.Readers.{FetchDoes};
+ghost use Rattle.c_exports.specs.Told.{InsertTold, InsertsWords, PrepareTold, PreparesFor, ReadTold, WordsTold, number_told};
+
+use crate::codes::{EMPTY, OK, SHORT, code};
+use c_handles::{AnyMember, PassHandle};
+use sh_shape::classes;
+use sh_value::{Hold, Refusal, Value, WORDS_MAX};
+use std::alloc::Global;
+
+// Writes the words of a value to the front of the room, and how many they are.
+pub(crate) fn tell_words(value: &Value, words: &mut [u64], count: &mut u64) -> u32
+    ensures count { count.new ≡ length value.now }
+    ensures words { WordsTold value.now words.old result words.new }
+{
+    let told = value.words();
+    *count = told.len() as u64;
+    if told.len() > words.len() {
+        return SHORT;
+    }
+    words[..told.len()].copy_from_slice(told);
+    OK
+}
+
+/// Reads the value of a key that the pass holds.
+#[unsafe(no_mangle)]
+pub extern "C" fn shardheap_raw_read(
+    _alloc: Global,
+    pass: &mut PassHandle,
+    key: u64,
+    words: &mut [u64],
+    count: &mut u64,
+) -> u32
+    ensures { ReadTold (λ l. ReadDoes key) result words.old words.new count.old count.new pass.old.slot.value
+        pass.new.slot.value }
+{
+    if !pass.is_full() {
+        return EMPTY;
+    }
+    // (It has one word, as most values have: reading a value of one word into it is one store.)
+    let mut value = Value::from(0);
+    let answer = pass.held().read_into(Hold { key }, &mut value);
+    match answer {
+        Ok(()) => tell_words(&value, words, count),
+        Err(refusal) => refusal.number(),
+    }
+}
+
+/// Gets, reads and releases a key in one call. The holds stay as they were.
+#[unsafe(no_mangle)]
+pub extern "C" fn shardheap_raw_load(
+    _alloc: Global,
+    pass: &mut PassHandle,
+    key: u64,
+    words: &mut [u64],
+    count: &mut u64,
+) -> u32
+    ensures { ReadTold (λ l. FetchDoes l key) result words.old words.new count.old count.new pass.old.slot.value
+        pass.new.slot.value }
+{
+    if !pass.is_full() {
+        return EMPTY;
+    }
+    // (It has one word, as most values have: reading a value of one word into it is one store.)
+    let mut value = Value::from(0);
+    let answer = pass.held().fetch_into(key, &mut value);
+    match answer {
+        Ok(()) => tell_words(&value, words, count),
+        Err(refusal) => refusal.number(),
+    }
+}
+
+// Appends the words to the value in place, so that the value is not copied.
+fn put_words(value: &mut Value, words: &[u64])
+    requires { length value.old + length words.now ≤ 16 }
+    ensures { value.new ≡ value.old ++ words.now }
+{
+    for word in words {
+        value.push(*word);
+    }
+}
+
+// Stores the words as a value, in the shard that the pass owns.
+fn insert_words(member: &mut AnyMember, words: &[u64]) -> Result<u64, Refusal>
+    ensures { InsertsWords words.now member.old result member.new }
+{
+    if words.len() > WORDS_MAX {
+        return Err(Refusal::TooLong);
+    }
+    let mut value = Value::empty();
+    put_words(&mut value, words);
+    member.insert(&value)
+}
+
+// Writes the number that a call returned, such as the key of a stored value.
+pub(crate) fn tell_number(answer: &Result<u64, Refusal>, key: &mut u64)
+    ensures { key.new ≡ number_told key.old answer.now }
+{
+    if let Ok(stored) = answer {
+        *key = *stored;
+    }
+}
+
+/// Stores a value under a new key in the shard that the pass owns, and writes the key.
+#[unsafe(no_mangle)]
+pub extern "C" fn shardheap_raw_insert(
+    _alloc: Global,
+    pass: &mut PassHandle,
+    words: &[u64],
+    key: &mut u64,
+) -> u32
+    ensures { InsertTold words.now result key.old key.new pass.old.slot.value pass.new.slot.value }
+{
+    if !pass.is_full() {
+        return EMPTY;
+    }
+    let answer = insert_words(pass.held(), words);
+    tell_number(&answer, key);
+    code(&answer)
+}
+
+// Gives a page of the shard that the pass owns to the class of values of `words` words.
+fn prepare_for(member: &mut AnyMember, words: u32) -> Result<u32, Refusal>
+    ensures { PreparesFor words member.old result member.new }
+{
+    match classes::class_of(words as usize) {
+        Some(class) => member.prepare(class),
+        None => Err(Refusal::TooLong),
+    }
+}
+
+// Writes the page that was prepared.
+fn tell_page(answer: &Result<u32, Refusal>, page: &mut u32)
+    ensures { page.new ≡ number_told page.old answer.now }
+{
+    if let Ok(prepared) = answer {
+        *page = *prepared;
+    }
+}
+
+/// Gives a page of the shard that the pass owns to values of `words` words, and writes its number.
+#[unsafe(no_mangle)]
+pub extern "C" fn shardheap_raw_prepare(
+    _alloc: Global,
+    pass: &mut PassHandle,
+    words: u32,
+    page: &mut u32,
+) -> u32
+    ensures { PrepareTold words result page.old page.new pass.old.slot.value pass.new.slot.value }
+{
+    if !pass.is_full() {
+        return EMPTY;
+    }
+    let answer = prepare_for(pass.held(), words);
+    tell_page(&answer, page);
+    code(&answer)
+}

@@ -1,0 +1,16 @@
+-- What a receipt's slot owns.
+use base.Fml.{Fml}
+use base.Stored.{Coded}
+use denote.RawPtr.{Ptr}
+use Rattle.std.specs.Coded.{coded_option}
+use Rattle.std.specs.declared.option.Option.{Option}
+use Rattle.std.specs.Global.{Global}
+use Rattle.std_heap.specs.contracts.GlobalAllocator.TheImpl.{ghosts}
+use Rattle.c_handles.specs.contracts.receipts.KeptReceipt.{the_row}
+use Rattle.sh_nullable.specs.Owning.{nullable_owns}
+
+abbrev pub receipt_owns : Global → Ptr → Option the_row.Denot → Fml
+receipt_owns alloc = nullable_owns (ghosts.dealloc_token alloc) the_row
+
+abbrev pub receipt_coded : Coded (Option the_row.Denot)
+receipt_coded = coded_option the_row.coded

@@ -1,0 +1,26 @@
+//! Handles: a heap, a pass or a receipt by its address, of any layout, for callers in other languages.
+//!
+//! A heap's layout is chosen when it is opened, so what a handle owns is of one of several types. Each call finds out
+//! which, and then calls the function of the heap's own crates.
+#![tactic(auto)]
+
+mod accounts;
+mod calls;
+mod counting;
+pub mod heap;
+pub mod heap_handle;
+mod keys;
+pub mod member;
+mod moving;
+pub mod pass_handle;
+pub mod receipt_handle;
+pub mod receipts;
+mod taking;
+mod warming;
+
+pub use heap::AnyHeap;
+pub use heap_handle::HeapHandle;
+pub use member::AnyMember;
+pub use pass_handle::PassHandle;
+pub use receipt_handle::ReceiptHandle;
+pub use receipts::KeptReceipt;

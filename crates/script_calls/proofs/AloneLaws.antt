@@ -1,0 +1,386 @@
+-- Lines one after the other, each pass with a receipt of the line before: the history has their entries in that order.
+use Rattle.std.proofs.Common.{◌≡◌, ◌≢◌, ℕ, zero, suc, ◌+◌, ◌<◌, ◌≤◌, Bool, true, false, cond, List, [], ◌∷◌, ◌++◌}
+use Rattle.std.proofs.Common.{length, take, set, map, slice_get, Option, Some, None, sym, refl, ap, ◌∙◌, subst, arith}
+use Rattle.std.proofs.Common.{append_assoc, append-nil, length-append, ◌⊎◌, inl, inr, ⊎_elim, add-one}
+use Rattle.std.specs.List.{Contains}
+use Rattle.std.proofs.lemmas.List.Elements.{Contains-append_left, Contains-append_right, Contains-push}
+use Rattle.std.proofs.lemmas.Option.{none-some}
+use mathlib.Core.Logic.{dite}
+use native.Mathlib.Decide.{ℕ_discrete}
+use Rattle.sh_history.specs.declared.entry.Entry.{Entry}
+use Rattle.sh_history.specs.declared.log.LogEntry.{LogEntry}
+use Rattle.sh_history.specs.Log.{Agrees}
+use Rattle.sh_script.specs.declared.calls.CallLine.{CallLine}
+use Rattle.script_output.specs.declared.answer.Answer.{Answer}
+use Rattle.script_output.specs.Keys.{HasTagRoom}
+use Rattle.script_output.specs.Replies.{reply_line}
+use Rattle.sh_pass.specs.Passes.{Caller}
+use Rattle.script_calls.specs.Parts.{RunTerms, PassPart, SeenPass, SamePass, new_passes}
+use Rattle.script_calls.specs.Calls.{CallAnswers, binds, number_told}
+use Rattle.script_calls.specs.Named.{numbers_told, tells_number, HeardOfNumber, NamesWereHeard}
+use Rattle.script_calls.specs.Runs.{CallsRun, LinesAnswered, opening_calls, with_part, with_number, number_meant}
+use Rattle.script_calls.specs.Receipts.{SeenReceipt, seen_of_receipt, receipt_seen, order_seen, told_heard, MayHeed}
+use Rattle.script_calls.specs.InOrder.{adds_entry, adding_passes, times, Cut, AllHeard, LastHeard}
+use Rattle.script_calls.specs.Alone.{seen_with_part, OrderedSoFar, HeedsLast, IsLastOf, LastTells}
+use Rattle.script_calls.specs.Meeting.{KeepsOrders, orders_of}
+use Rattle.script_calls.proofs.ListLemmas.{get_set_same, take_at, within, get_snoc, contains_map, each_in, each_left}
+use Rattle.script_calls.proofs.ListLemmas.{each_right}
+use Rattle.script_calls.proofs.NameLemmas.{numbers_after, meant_at, heard_more, heard_kept, orders_at, orders_set}
+use Rattle.script_calls.proofs.NameLemmas.{heeds_keeps, heard_by_heeding, tells_on, tells_own, may_log}
+use Rattle.script_calls.proofs.LineLemmas.{part_here, part_there}
+use Rattle.script_calls.proofs.OrderLemmas.{times_append, times_length, times_here, times_else}
+use Rattle.script_calls.proofs.GrowLemmas.{grows}
+use Rattle.script_calls.proofs.InTurn.{begins_alone, answered_more}
+use Rattle.sh_table.specs.declared.view.Heard.{Heard}
+use Rattle.sh_table.specs.declared.view.Order.{Order}
+use Rattle.sh_table.specs.Seats.{Heap}
+use Rattle.sh_table.specs.Tales.{by, HasFirst, Before}
+use Rattle.sh_table.specs.Views.{Each, heard_in}
+use Rattle.sh_table.proofs.Zips.{zip_length}
+
+-- ---- elements of lists
+
+nothing_in : {A : Type 0} (before : List A) (x : A) (after : List A) → [] ≡ before ++ x ∷ after → ⊥
+nothing_in [] x after e = let z : [] ≡ x ∷ after = e in cc
+nothing_in (y ∷ ys) x after e = let z : [] ≡ y ∷ (ys ++ x ∷ after) = e in cc
+
+snoc_split : (who before after : List ℕ) (x a : ℕ) → who ++ x ∷ [] ≡ before ++ a ∷ after
+    → ((before ≡ who) × (a ≡ x)) ⊎ ((rest : List ℕ) × (who ≡ before ++ a ∷ rest))
+snoc_split [] [] after x a e = let z : x ≡ a = cc in inl (refl, sym z)
+snoc_split [] (y ∷ ys) after x a e = let z : [] ≡ ys ++ a ∷ after = cc in absurd (nothing_in ys a after z)
+snoc_split (w ∷ ws) [] after x a e = let z : w ≡ a = cc in inr (ws, ap (λ (q : ℕ). q ∷ ws) z)
+snoc_split (w ∷ ws) (y ∷ ys) after x a e =
+    let z : w ≡ y = cc in
+    let t : ws ++ x ∷ [] ≡ ys ++ a ∷ after = cc in
+    ⊎_elim (λ (s : (ys ≡ ws) × (a ≡ x)). inl ((λ i. sym z i ∷ s.0 i), s.1))
+    (λ (s : (rest : List ℕ) × (ws ≡ ys ++ a ∷ rest)). inr (s.0, λ i. z i ∷ s.1 i)) (snoc_split ws ys after x a t)
+
+adding_more : (terms : RunTerms) (tag : Option ℕ) (before after : CallsRun) (ls : List CallLine) (bs : List Answer)
+    (l : CallLine) (a : Answer) → LinesAnswered terms tag before ls bs after
+    → adding_passes (ls ++ l ∷ []) (bs ++ a ∷ []) ≡ adding_passes ls bs ++ cond (adds_entry l.call a) (l.pass ∷ []) []
+adding_more terms tag before after [] [] l a h = append-nil (cond (adds_entry l.call a) (l.pass ∷ []) [])
+adding_more terms tag before after [] (b ∷ bs) l a h = absurd h
+adding_more terms tag before after (k ∷ ks) [] l a h = absurd h
+adding_more terms tag before after (k ∷ ks) (b ∷ bs) l a h =
+    ap (λ (t : List ℕ). cond (adds_entry k.call b) (k.pass ∷ []) [] ++ t)
+    (adding_more terms tag h.0 after ks bs l a h.2)
+    ∙ sym (append_assoc (cond (adds_entry k.call b) (k.pass ∷ []) []) (adding_passes ks bs)
+    (cond (adds_entry l.call a) (l.pass ∷ []) []))
+
+-- ---- points of the history
+
+none_cut : (history : List Entry) (who : List ℕ) (p a : ℕ) → length (times p who) ≡ 0 → Cut history who p a
+none_cut history who p a e = record {
+  early = [];
+  late = history;
+  is = refl;
+  heard = omega (arith, e);
+  own = omega arith;
+}
+
+order_cut : (history : List Entry) (who : List ℕ) (p : ℕ) (s : SeenPass) (h : Heard) → Before history (order_seen s h)
+    → h.pass ≡ p → length (times p who) ≤ length h.log → length (times s.pass who) ≡ length s.part.log
+    → Cut history who p s.pass
+order_cut history who p s h b pass few own =
+    let f : HasFirst b.0 h = b.4 in
+    let same : length h.log ≡ length f.0 = zip_length Agrees h.log f.0 f.3 in
+    let long : length (by p b.0) ≡ length f.0 + length f.1 = ap (λ (q : ℕ). length (by q b.0)) (sym pass)
+    ∙ (ap (λ (l : List Entry). length l) f.2 ∙ length-append f.0 f.1) in
+    let mine : length (by s.pass b.0) ≡ length s.part.log = b.3 in
+    record {
+      early = b.0;
+      late = b.1;
+      is = b.2;
+      heard = omega (arith, same, long, few);
+      own = omega (arith, mine, own);
+    }
+
+-- ---- one more line
+
+pub orders_only : (last : Option Caller) (side mid : SeenPass) → HeedsLast last side mid
+    → mid ≡ record side { part = mid.part; orders = mid.orders }
+orders_only None side mid e = e ∙ ap (λ (z : SeenPass). record side { part = z.part; orders = z.orders }) (sym e)
+orders_only (Some r) side mid e = e.is ∙ ap (λ (z : SeenPass). record side { part = mid.part; orders = z.orders })
+    (sym e.is)
+
+may_heed : (last : Option Caller) (side mid : SeenPass) → HeedsLast last side mid → MayHeed side.part mid.part
+may_heed None side mid e = inl (ap (λ (z : SeenPass). z.part) e)
+may_heed (Some r) side mid e = inr (r, e.part)
+
+pub orders_heed : (last : Option Caller) (s c : SeenPass) → HeedsLast last s c → KeepsOrders s.orders c.orders
+orders_heed None s c e o h = subst (λ (z : SeenPass). Contains z.orders o) (sym e) h
+orders_heed (Some r) s c e o h = heeds_keeps r s c e o h
+
+pub all_heard : (heap : Option Heap) (who : List ℕ) (last : Option Caller) (side mid : SeenPass)
+    → LastHeard heap who last → HeedsLast last side mid → (history : List Entry) → Each (Before history) mid.orders
+    → AllHeard history who
+all_heard heap who None side mid h e history each = λ before after a is p. absurd
+    (nothing_in before a after (sym h ∙ is))
+all_heard heap who (Some r) side mid h e history each =
+    let es : Each (Before history) (side.orders ++ (r.view.orders ++ map (order_seen side) (heard_in r.view))) = subst
+    (λ (z : SeenPass). Each (Before history) z.orders) e.is each in
+    h.orders history (each_left (Before history) r.view.orders _ (each_right (Before history) side.orders _ es))
+
+now_cut : (heap : Option Heap) (who : List ℕ) (last : Option Caller) (side mid : SeenPass)
+    → LastHeard heap who last → HeedsLast last side mid → length (times side.pass who) ≡ length side.part.log
+    → (history : List Entry) → Each (Before history) mid.orders → (p : ℕ) → Cut history who p side.pass
+now_cut heap who None side mid h e own history each p = none_cut history who p side.pass
+    (ap (λ (l : List ℕ). length (times p l)) h)
+now_cut heap who (Some r) side mid h e own history each p =
+    let es : Each (Before history) (side.orders ++ (r.view.orders ++ map (order_seen side) (heard_in r.view))) = subst
+    (λ (z : SeenPass). Each (Before history) z.orders) e.is each in
+    let ours : Each (Before history) (map (order_seen side) (heard_in r.view)) = each_right (Before history)
+    r.view.orders _ (each_right (Before history) side.orders _ es) in
+    go (length (times p who)) refl ours
+  where
+    go : (n : ℕ) → length (times p who) ≡ n → Each (Before history) (map (order_seen side) (heard_in r.view))
+        → Cut history who p side.pass
+    go zero is ours = none_cut history who p side.pass is
+    go (suc n) is ours =
+        let k = h.heard p (omega (arith, is)) in
+        order_cut history who p side k.0 (each_in (Before history) (map (order_seen side) (heard_in r.view))
+        (order_seen side k.0) (contains_map (order_seen side) (heard_in r.view) k.0 k.1) ours) k.2 k.3 own
+
+module _ (heap : Option Heap) (terms : RunTerms) (tag : Option ℕ) (lines : List CallLine) (i : ℕ)
+    (numbers : List (Option ℕ)) (sides : List SeenPass) (output : List ℕ) (last : Option Caller)
+    (was : OrderedSoFar heap terms tag lines i numbers sides output last) (l : CallLine)
+    (at : slice_get lines i ≡ Some l) (side mid now : SeenPass) (own : slice_get sides l.pass ≡ Some side)
+    (heeds : HeedsLast last side mid) (same : SamePass mid now) (a : Answer)
+    (room : HasTagRoom terms.layout tag)
+    (does : CallAnswers mid.terms tag mid.pass mid.part l.call (number_meant numbers l.call) a now.part) where
+  abbrev who : List ℕ
+  who = adding_passes (take i lines) was.so_far.answers
+
+  abbrev new : List ℕ
+  new = cond (adds_entry l.call a) (l.pass ∷ []) []
+
+  abbrev who' : List ℕ
+  who' = adding_passes (take (i + 1) lines) (was.so_far.answers ++ a ∷ [])
+
+  only : mid ≡ record side { part = mid.part; orders = mid.orders }
+  only = orders_only last side mid heeds
+
+  side_is : side ≡ record (seen_with_part heap terms was.so_far.run.parts l.pass) { orders = side.orders }
+  side_is = was.so_far.each l.pass side own
+
+  who_is : who' ≡ who ++ new
+  who_is = ap (λ (ls : List CallLine). adding_passes ls (was.so_far.answers ++ a ∷ []))
+      (ap (λ (k : ℕ). take k lines) (add-one i) ∙ take_at lines i l at)
+      ∙ adding_more terms tag _ was.so_far.run (take i lines) was.so_far.answers l a was.so_far.ran
+
+  side_pass : side.pass ≡ l.pass
+  side_pass = ap (λ (z : SeenPass). z.pass) side_is
+
+  now_pass : now.pass ≡ l.pass
+  now_pass = ap (λ (z : SeenPass). z.pass) same ∙ (ap (λ (z : SeenPass). z.pass) only ∙ side_pass)
+
+  now_heap : now.heap ≡ heap
+  now_heap = ap (λ (z : SeenPass). z.heap) same ∙ (ap (λ (z : SeenPass). z.heap) only
+      ∙ ap (λ (z : SeenPass). z.heap) side_is)
+
+  now_orders : now.orders ≡ mid.orders
+  now_orders = ap (λ (z : SeenPass). z.orders) same
+
+  side_log : length (times side.pass who) ≡ length side.part.log
+  side_log = ap (λ (q : ℕ). length (times q who)) side_pass ∙ (was.counts l.pass
+      ∙ sym (ap (λ (z : SeenPass). length z.part.log) side_is))
+
+  grown : length now.part.log ≡ length side.part.log + cond (adds_entry l.call a) 1 0
+  grown = grows mid.terms tag mid.pass mid.part l.call (number_meant numbers l.call) a now.part does
+      ∙ ap (λ (z : List LogEntry). length z + cond (adds_entry l.call a) 1 0)
+      (may_log side.part mid.part (may_heed last side mid heeds))
+
+  new_here : length (times l.pass new) ≡ cond (adds_entry l.call a) 1 0
+  new_here = go (adds_entry l.call a) where
+    go : (b : Bool) → length (times l.pass (cond b (l.pass ∷ []) [])) ≡ cond b 1 0
+    go true = ap (λ (q : List ℕ). length q) (times_here l.pass [])
+    go false = refl
+
+  new_else : (p : ℕ) → p ≢ l.pass → times p new ≡ []
+  new_else p ne = go (adds_entry l.call a) where
+    go : (b : Bool) → times p (cond b (l.pass ∷ []) []) ≡ []
+    go true = times_else p l.pass [] (λ e. ne (sym e))
+    go false = refl
+
+  told_now : (p : ℕ) → length (times p who') ≡ length (times p who) + length (times p new)
+  told_now p = ap (λ (q : List ℕ). length (times p q)) who_is ∙ times_length p who new
+
+  told_mine : length (times l.pass who') ≡ length now.part.log
+  told_mine =
+      let x = told_now l.pass in
+      let y = new_here in
+      let z = grown in
+      let w : length (times l.pass who) ≡ length side.part.log = was.counts l.pass
+      ∙ sym (ap (λ (z : SeenPass). length z.part.log) side_is) in
+      omega (arith, x, y, z, w)
+
+  told_other : (p : ℕ) → p ≢ l.pass → times p who' ≡ times p who
+  told_other p ne = ap (times p) who_is ∙ (times_append p who new ∙ (ap (λ (q : List ℕ). times p who ++ q)
+      (new_else p ne) ∙ append-nil (times p who)))
+
+  counts_more : (p : ℕ) → length (times p who') ≡ length (with_part was.so_far.run.parts l.pass now.part p).log
+  counts_more p = dite (ℕ_discrete p l.pass)
+      (λ (e : p ≡ l.pass). ap (λ (q : ℕ). length (times q who')) e ∙ (told_mine
+      ∙ sym (ap (λ (u : PassPart). length u.log) (part_here was.so_far.run.parts l.pass p now.part e))))
+      (λ (ne : p ≢ l.pass). ap (λ (q : List ℕ). length q) (told_other p ne) ∙ (was.counts p
+      ∙ sym (ap (λ (u : PassPart). length u.log) (part_there was.so_far.run.parts l.pass p now.part ne))))
+
+  few_more : (p : ℕ) → terms.shape.passes ≤ p → times p who' ≡ []
+  few_more p le = let w = within sides l.pass side own in let n = was.so_far.all in
+      told_other p (λ e. omega (arith, w, n, le, e)) ∙ was.few p le
+
+  mid_has : (o : Order) → Contains mid.orders o → Contains (receipt_seen now).heard o.heard
+  mid_has o h = Contains-append_right (record { pass = now.pass; log = now.part.log } ∷ map told_heard now.told)
+      (map (λ (o : Order). o.heard) now.orders) o.heard (contains_map (λ (o : Order). o.heard) now.orders o
+      (subst (λ (os : List Order). Contains os o) (sym now_orders) h))
+
+  heard_else : (last : Option Caller) → LastHeard heap who last → HeedsLast last side mid → (p : ℕ)
+      → 0 < length (times p who) → (h : Heard) × Contains (receipt_seen now).heard h × (h.pass ≡ p)
+      × (length (times p who) ≤ length h.log)
+  heard_else None h e p some = absurd (let z : length (times p who) ≡ 0 = ap (λ (q : List ℕ). length (times p q)) h
+      in omega (arith, z, some))
+  heard_else (Some r) h e p some =
+      let k = h.heard p some in
+      let in_mid : Contains mid.orders (order_seen side k.0) = subst
+      (λ (z : SeenPass). Contains z.orders (order_seen side k.0)) (sym e.is)
+      (Contains-append_right side.orders (r.view.orders ++ map (order_seen side) (heard_in r.view))
+      (order_seen side k.0)
+      (Contains-append_right r.view.orders (map (order_seen side) (heard_in r.view)) (order_seen side k.0)
+      (contains_map (order_seen side) (heard_in r.view) k.0 k.1))) in
+      (k.0, mid_has (order_seen side k.0) in_mid, k.2, k.3)
+
+  last_heard_more : (p : ℕ) → 0 < length (times p who') → (h : Heard) × Contains (receipt_seen now).heard h
+      × (h.pass ≡ p) × (length (times p who') ≤ length h.log)
+  last_heard_more p some = dite (ℕ_discrete p l.pass)
+      (λ (e : p ≡ l.pass).
+      let c : length (times p who') ≡ length now.part.log = ap (λ (q : ℕ). length (times q who')) e ∙ told_mine in (
+        record { pass = now.pass; log = now.part.log },
+        Contains-append_left (record { pass = now.pass; log = now.part.log } ∷ [])
+            (map told_heard now.told ++ map (λ (o : Order). o.heard) now.orders)
+            (record { pass = now.pass; log = now.part.log }) (Contains-push [] _),
+        now_pass ∙ sym e,
+        omega (arith, c),
+      ))
+      (λ (ne : p ≢ l.pass).
+      let c : length (times p who') ≡ length (times p who) = ap (λ (q : List ℕ). length q) (told_other p ne) in
+      let k = heard_else last was.last_heard heeds p (omega (arith, c, some)) in
+      let m = k.3 in
+      (k.0, k.1, k.2, omega (arith, c, m)))
+
+  all_heard_more : (history : List Entry) → Each (Before history) now.orders → AllHeard history who'
+  all_heard_more history each =
+      let es : Each (Before history) mid.orders = subst (Each (Before history)) now_orders each in
+      let old : AllHeard history who = all_heard heap who last side mid was.last_heard heeds history es in
+      let cut : (p : ℕ) → Cut history who p l.pass = λ p. subst (λ (q : ℕ). Cut history who p q) side_pass
+      (now_cut heap who last side mid was.last_heard heeds side_log history es p) in
+      subst (AllHeard history) (sym who_is) (go (adds_entry l.call a) old cut)
+    where
+      go : (b : Bool) → AllHeard history who → ((p : ℕ) → Cut history who p l.pass)
+          → AllHeard history (who ++ cond b (l.pass ∷ []) [])
+      go false old cut = subst (AllHeard history) (sym (append-nil who)) old
+      go true old cut = λ before after b is p. ⊎_elim
+          (λ (s : (before ≡ who) × (b ≡ l.pass)). let P : List ℕ × ℕ → Type 0 = λ z. Cut history z.0 p z.1
+          in subst P (λ j. (sym s.0 j, sym s.1 j)) (cut p))
+          (λ (s : (rest : List ℕ) × (who ≡ before ++ b ∷ rest)). old before s.0 b s.1 p)
+          (snoc_split who before after l.pass b is)
+
+  -- ---- names
+
+  mid_terms : mid.terms ≡ terms
+  mid_terms = ap (λ (z : SeenPass). z.terms) only ∙ ap (λ (z : SeenPass). z.terms) side_is
+
+  numbers_are : numbers ≡ numbers_told (take i lines) was.so_far.answers
+  numbers_are = was.so_far.numbers_are ∙ numbers_after terms tag (opening_calls heap) was.so_far.run (take i lines)
+      was.so_far.answers was.so_far.ran
+
+  name_heard : (last : Option Caller) → LastTells tag numbers last → HeedsLast last side mid → (n : Option ℕ)
+      → number_meant numbers l.call ≡ n → HeardOfNumber tag mid.orders side.pass (length side.part.log) n
+  name_heard last t e None is = tt
+  name_heard None t e (Some n) is =
+      let m = meant_at numbers l.call n is in
+      absurd (none-some (Some n) (subst (λ (ns : List (Option ℕ)). slice_get ns m.0 ≡ Some (Some n)) t m.1))
+  name_heard (Some r) t e (Some n) is =
+      let m = meant_at numbers l.call n is in
+      heard_by_heeding tag r side mid e (Some n) (t m.0 n m.1)
+
+  keeps_side : (last : Option Caller) → HeedsLast last side mid → KeepsOrders side.orders now.orders
+  keeps_side last e o c = subst (λ (os : List Order). Contains os o) (sym now_orders) (orders_heed last side mid e o c)
+
+  names_heard : NamesWereHeard tag (take i lines ++ l ∷ []) (was.so_far.answers ++ a ∷ [])
+      (orders_of (set sides l.pass now))
+  names_heard =
+      let keeps = orders_set sides l.pass side now own (keeps_side last heeds) in
+      let n : Option ℕ = number_meant (numbers_told (take i lines) was.so_far.answers) l.call in
+      let it = name_heard last was.last_tells heeds n
+      (ap (λ (ns : List (Option ℕ)). number_meant ns l.call) numbers_are) in
+      let H : List Order × ℕ × ℕ → Type 0 = λ z. HeardOfNumber tag z.0 z.1 z.2 n in
+      let here : HeardOfNumber tag now.orders l.pass (length (times l.pass who)) n = subst H
+      (λ j. (sym now_orders j, side_pass j, (sym side_log ∙ ap (λ (q : ℕ). length (times q who)) side_pass) j)) it in
+      heard_more terms tag (opening_calls heap) was.so_far.run (take i lines) was.so_far.answers
+      (orders_of sides) (orders_of (set sides l.pass now)) l a was.so_far.ran was.so_far.heard keeps
+      (heard_kept tag now.orders (orders_of (set sides l.pass now)) l.pass (length (times l.pass who)) n
+      (orders_at (set sides l.pass now) l.pass now (get_set_same sides l.pass side now own)) here)
+
+  tells_old : (last : Option Caller) → LastTells tag numbers last → HeedsLast last side mid → (k n : ℕ)
+      → slice_get numbers k ≡ Some (Some n) → tells_number tag (receipt_seen now).heard (Some n) ≡ true
+  tells_old None t e k n is = absurd (none-some (Some n)
+      (subst (λ (ns : List (Option ℕ)). slice_get ns k ≡ Some (Some n)) t is))
+  tells_old (Some r) t e k n is = tells_on tag r side mid now e same (Some n) (t k n is)
+
+  tells_new : binds l.call ≡ true → tells_number tag (receipt_seen now).heard (number_told a) ≡ true
+  tells_new b =
+      let rest : List Heard = map told_heard now.told ++ map (λ (o : Order). o.heard) now.orders in
+      let roomy : HasTagRoom mid.terms.layout tag = subst (λ (t : RunTerms). HasTagRoom t.layout tag) (sym mid_terms)
+      room in
+      let told = tells_own mid.terms tag mid.pass mid.part now.part l.call (number_meant numbers l.call) a roomy b does
+      rest in
+      subst (λ (q : ℕ). tells_number tag (record { pass = q; log = now.part.log } ∷ rest) (number_told a) ≡ true)
+      (ap (λ (z : SeenPass). z.pass) (sym same)) told
+
+  tells_then : (k n : ℕ) → slice_get (with_number numbers l.call a) k ≡ Some (Some n)
+      → tells_number tag (receipt_seen now).heard (Some n) ≡ true
+  tells_then k n at = go (binds l.call) refl at where
+    go : (b : Bool) → binds l.call ≡ b → slice_get (cond b (numbers ++ number_told a ∷ []) numbers) k ≡ Some (Some n)
+        → tells_number tag (receipt_seen now).heard (Some n) ≡ true
+    go false is at = tells_old last was.last_tells heeds k n at
+    go true is at = ⊎_elim (tells_old last was.last_tells heeds k n)
+        (λ (e : (k ≡ length numbers) × (number_told a ≡ Some n)). subst
+        (λ (q : Option ℕ). tells_number tag (receipt_seen now).heard q ≡ true) e.1 (tells_new is))
+        (get_snoc numbers (number_told a) (Some n) k at)
+
+  pub ordered_more : (after : List (Option ℕ)) (sides' : List SeenPass) (longer : List ℕ) (r : Caller)
+      → after ≡ with_number numbers l.call a → sides' ≡ set sides l.pass now
+      → longer ≡ output ++ reply_line l a → seen_of_receipt r ≡ receipt_seen now
+      → OrderedSoFar heap terms tag lines (i + 1) after sides' longer (Some r)
+  ordered_more after sides' longer r named put printed tells = record {
+    so_far = answered_more heap terms tag lines i numbers sides output was.so_far l at side mid now own only
+        (may_heed last side mid heeds) same a does after sides' longer named put printed names_heard;
+    counts = counts_more;
+    few = few_more;
+    last_heard = record {
+      heap_is = ap (λ (z : SeenReceipt). z.heap) tells ∙ now_heap;
+      heard = λ p some. let m = last_heard_more p some in
+          (m.0, subst (λ (z : SeenReceipt). Contains z.heard m.0) (sym tells) m.1, m.2, m.3);
+      orders = λ history each. all_heard_more history
+          (subst (λ (z : SeenReceipt). Each (Before history) z.orders) tells each);
+    };
+    last_tells = λ k n at. subst (λ (z : SeenReceipt). tells_number tag z.heard (Some n) ≡ true) (sym tells)
+        (tells_then k n (subst (λ (ns : List (Option ℕ)). slice_get ns k ≡ Some (Some n)) named at));
+  }
+
+pub begins_ordered : (heap : Option Heap) (terms : RunTerms) (tag : Option ℕ) (lines : List CallLine)
+    (sides : List SeenPass) → sides ≡ new_passes heap terms terms.shape.passes
+    → OrderedSoFar heap terms tag lines 0 [] sides [] None
+begins_ordered heap terms tag lines sides e = record {
+  so_far = begins_alone heap terms tag lines sides e;
+  counts = λ p. refl;
+  few = λ p le. refl;
+  last_heard = refl;
+  last_tells = refl;
+}
+
+-- the last receipt is of the heap
+pub last_of : (heap heap' : Option Heap) (ps : List ℕ) (last : Option Caller) → heap' ≡ heap
+    → LastHeard heap ps last → IsLastOf heap' last
+last_of heap heap' ps None e h = tt
+last_of heap heap' ps (Some r) e h = h.heap_is ∙ sym e

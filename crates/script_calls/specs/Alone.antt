@@ -1,0 +1,56 @@
+-- All passes in one thread.
+use Rattle.std.specs.Prelude.{◌≡◌, ℕ, ◌≤◌, true, List, [], Option, Some, None, slice_get, length, take}
+use Rattle.sh_script.specs.declared.calls.CallLine.{CallLine}
+use Rattle.script_output.specs.declared.answer.Answer.{Answer}
+use Rattle.script_calls.specs.Parts.{RunTerms, PassPart, SeenPass, new_pass}
+use Rattle.script_output.specs.Replies.{replies_text}
+use Rattle.script_calls.specs.Runs.{CallsRun, LinesAnswered, opening_calls}
+use Rattle.sh_pass.specs.Passes.{Caller}
+use Rattle.script_calls.specs.Receipts.{Heeds, seen_of_receipt}
+use Rattle.script_calls.specs.InOrder.{times, adding_passes, LastHeard}
+use Rattle.script_calls.specs.Meeting.{orders_of}
+use Rattle.script_calls.specs.Named.{NamesWereHeard, tells_number}
+use Rattle.sh_table.specs.Seats.{Heap}
+
+-- the last receipt, if there is one, is of this heap
+abbrev pub IsLastOf : Option Heap → Option Caller → Type 0
+IsLastOf heap None = Unit {0}
+IsLastOf heap (Some r) = (seen_of_receipt r).heap ≡ heap
+
+-- the pass heeded the last receipt, if there is one
+abbrev pub HeedsLast : Option Caller → SeenPass → SeenPass → Type 0
+HeedsLast None s t = t ≡ s
+HeedsLast (Some r) s t = Heeds r s t
+
+-- what is seen of pass p, with its part among these
+abbrev pub seen_with_part : Option Heap → RunTerms → (ℕ → PassPart) → ℕ → SeenPass
+seen_with_part heap terms parts p = record (new_pass heap terms p) { part = parts p }
+
+-- the last receipt contains the insert of each name
+abbrev pub LastTells : (tag : Option ℕ) → List (Option ℕ) → Option Caller → Type 0
+LastTells tag numbers None = numbers ≡ []
+LastTells tag numbers (Some r) = (i number : ℕ) → slice_get numbers i ≡ Some (Some number)
+    → tells_number tag (seen_of_receipt r).heard (Some number) ≡ true
+
+-- the first i lines have run with these answers, and these are the passes
+pub record AnsweredSoFar (heap : Option Heap) (terms : RunTerms) (tag : Option ℕ)
+    (lines : List CallLine) (i : ℕ) (numbers : List (Option ℕ)) (sides : List SeenPass) (output : List ℕ) : Type 0 where
+  pub answers : List Answer
+  pub run : CallsRun
+  pub ran : LinesAnswered terms tag (opening_calls heap) (take i lines) answers run
+  pub numbers_are : numbers ≡ run.numbers
+  pub text : output ≡ replies_text (take i lines) answers
+  pub all : length sides ≡ terms.shape.passes
+  pub each : (p : ℕ) (s : SeenPass) → slice_get sides p ≡ Some s
+      → s ≡ record (seen_with_part heap terms run.parts p) { orders = s.orders }
+  pub heard : NamesWereHeard tag (take i lines) answers (orders_of sides)
+
+-- the same, and the last receipt contains all entries
+pub record OrderedSoFar (heap : Option Heap) (terms : RunTerms) (tag : Option ℕ) (lines : List CallLine) (i : ℕ)
+    (numbers : List (Option ℕ)) (sides : List SeenPass) (output : List ℕ) (last : Option Caller) : Type 0 where
+  pub so_far : AnsweredSoFar heap terms tag lines i numbers sides output
+  pub counts : (p : ℕ) → length (times p (adding_passes (take i lines) so_far.answers))
+      ≡ length (so_far.run.parts p).log
+  pub few : (p : ℕ) → terms.shape.passes ≤ p → times p (adding_passes (take i lines) so_far.answers) ≡ []
+  pub last_heard : LastHeard heap (adding_passes (take i lines) so_far.answers) last
+  pub last_tells : LastTells tag numbers last

@@ -1,0 +1,69 @@
+-- Passes that meet: one of them carries the tale of all.
+use Rattle.std.specs.Prelude.{◌≡◌, ℕ, List, [], ◌∷◌, ◌++◌, slice_get, Option, Some, None, Err}
+use Rattle.std.specs.List.{Contains}
+use Rattle.sh_value.specs.declared.refusal.Refusal.TheVariants as refusal
+use Rattle.script_calls.specs.Standing.{Standing, ShardLeaves}
+use Rattle.script_calls.specs.Parts.{RunTerms, SeenPass, PassTold, HasWholeTale, tale_told}
+use Rattle.sh_table.specs.declared.view.Order.{Order}
+use Rattle.sh_table.specs.Seats.{Heap}
+use Rattle.sh_table.specs.Tales.{Before}
+use Rattle.sh_table.specs.Views.{Each}
+
+-- the pass that carries the tale, if there is one yet
+abbrev pub CarriesTale : Option Heap → RunTerms → Option SeenPass → List PassTold → Type 0
+CarriesTale heap terms None ts = ts ≡ []
+CarriesTale heap terms (Some s) ts = (s.heap ≡ heap) × (s.terms ≡ terms) × (tale_told s ≡ ts)
+
+-- each of these orders is one of those
+abbrev pub KeepsOrders : List Order → List Order → Type 0
+KeepsOrders os ps = (o : Order) → Contains os o → Contains ps o
+
+-- the pass that carries these orders, if there is one yet
+abbrev pub CarriesOrders : Option SeenPass → List Order → Type 0
+CarriesOrders None os = os ≡ []
+CarriesOrders (Some s) os = KeepsOrders os s.orders
+
+-- the result of meeting a carrier, if there is one
+abbrev pub MeetsCarrier : Option SeenPass → SeenPass → SeenPass → Type 0
+MeetsCarrier None s r = r ≡ s
+MeetsCarrier (Some c) s r = (r.heap ≡ c.heap) × (r.terms ≡ c.terms) × (tale_told r ≡ tale_told c ++ tale_told s)
+    × KeepsOrders (c.orders ++ s.orders) r.orders
+
+-- it owns no shard
+abbrev pub OwnsNone : Option SeenPass → Type 0
+OwnsNone None = Unit {0}
+OwnsNone (Some s) = s.part.shard ≡ None
+
+abbrev pub IsOfHeap : Option Heap → Option SeenPass → Type 0
+IsOfHeap heap None = Unit {0}
+IsOfHeap heap (Some s) = s.heap ≡ heap
+
+-- This pass owns no shard and carries this tale and these orders. The tale is whole: one legal history has exactly the
+-- entries that the pass speaks for, and keeps the orders.
+pub record HasMet (heap : Option Heap) (terms : RunTerms) (s : SeenPass) (tale : List PassTold) (orders : List Order) :
+    Type 0 where
+  pub carries : CarriesTale heap terms (Some s) tale
+  pub heard : CarriesOrders (Some s) orders
+  pub none : OwnsNone (Some s)
+  pub whole : HasWholeTale terms tale
+  pub kept : Each (Before whole.history) s.orders
+
+-- all that these passes speak for
+abbrev pub tales_told : List SeenPass → List PassTold
+tales_told [] = []
+tales_told (s ∷ ss) = tale_told s ++ tales_told ss
+
+-- all that these passes heard of
+abbrev pub orders_of : List SeenPass → List Order
+orders_of [] = []
+orders_of (s ∷ ss) = s.orders ++ orders_of ss
+
+-- each is a pass of the heap
+abbrev pub AllOfHeap : Option Heap → RunTerms → List SeenPass → Type 0
+AllOfHeap heap terms [] = Unit {0}
+AllOfHeap heap terms (s ∷ ss) = (s.heap ≡ heap) × (s.terms ≡ terms) × AllOfHeap heap terms ss
+
+-- one of these passes was refused when it left its shard
+abbrev pub SomeWaits : List SeenPass → Type 0
+SomeWaits ss = (i : ℕ) × (s : SeenPass) × (slice_get ss i ≡ Some s)
+    × ((stays : Standing) × ShardLeaves s.part.stands (Err refusal.Waiting) stays)

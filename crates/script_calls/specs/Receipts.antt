@@ -1,0 +1,56 @@
+-- Receipts, as a run of calls sees them.
+use Rattle.std.specs.Prelude.{◌≡◌, List, ◌∷◌, ◌++◌, ◌⊎◌, map, length, Option, Some}
+use Rattle.sh_table.specs.declared.view.Heard.{Heard}
+use Rattle.sh_table.specs.declared.view.Order.{Order}
+use Rattle.sh_table.specs.Seats.{Heap}
+use Rattle.sh_table.specs.Tales.{Before}
+use Rattle.sh_table.specs.Views.{Each, heard_in}
+use Rattle.sh_pass.specs.Passes.{Caller}
+use Rattle.script_calls.specs.Standing.{StandingHeeds}
+use Rattle.script_calls.specs.Parts.{PassPart, SeenPass, PassTold, HasWholeTale, Becomes, tale_told}
+
+-- which heap it is of, and what it contains
+pub record SeenReceipt : Type 0 where
+  pub heap : Option Heap
+  pub heard : List Heard
+  pub orders : List Order
+
+abbrev pub seen_of_receipt : Caller → SeenReceipt
+seen_of_receipt r = record { heap = Some r.heap; heard = heard_in r.view; orders = r.view.orders }
+
+abbrev pub told_heard : PassTold → Heard
+told_heard t = record { pass = t.pass; log = t.log }
+
+-- a receipt of this pass
+abbrev pub receipt_seen : SeenPass → SeenReceipt
+receipt_seen s = record {
+  heap = s.heap;
+  heard = record { pass = s.pass; log = s.part.log } ∷ (map told_heard s.told ++ map (λ o. o.heard) s.orders);
+  orders = s.orders;
+}
+
+-- what was heard happens before all that is returned to the pass from now on
+abbrev pub order_seen : SeenPass → Heard → Order
+order_seen s h = record { heard = h; carrier = s.pass; length = length s.part.log }
+
+abbrev pub orders_heard : SeenPass → SeenReceipt → List Order
+orders_heard s r = s.orders ++ (r.orders ++ map (order_seen s) r.heard)
+
+-- the part, once its pass heeded the receipt: its standing heeded the receipt too, and nothing changed otherwise
+pub record PartHeeds (r : Caller) (v w : PassPart) : Type 0 where
+  pub is : Becomes v w
+  pub stands : StandingHeeds r v.stands w.stands
+
+-- it is as it was, or its pass heeded a receipt, as it does if the lines run one after the other
+abbrev pub MayHeed : PassPart → PassPart → Type 0
+MayHeed v w = (w ≡ v) ⊎ ((r : Caller) × PartHeeds r v w)
+
+-- the pass, once it heeded the receipt
+pub record Heeds (r : Caller) (s t : SeenPass) : Type 0 where
+  pub is : t ≡ record s { part = t.part; orders = orders_heard s (seen_of_receipt r) }
+  pub part : PartHeeds r s.part t.part
+
+-- one legal history has exactly the entries that the pass speaks for, and keeps its orders
+pub record HasOrderedTale (s : SeenPass) : Type 0 where
+  pub whole : HasWholeTale s.terms (tale_told s)
+  pub orders : Each (Before whole.history) s.orders

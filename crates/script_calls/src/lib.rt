@@ -1,0 +1,11 @@
+//! The calls of a script on the running heap: what a line may return, and the passes and shards that run it.
+#![tactic(auto)]
+
+pub mod alone;
+pub mod holder;
+pub mod laws;
+pub mod line;
+pub mod meeting;
+pub mod reporting;
+pub mod running;
+pub mod side;

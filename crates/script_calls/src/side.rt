@@ -1,0 +1,91 @@
+//! A pass of a heap, with or without a shard: what runs the calls of a script.
+ghost use Rattle.std.specs.Prelude.{◌≡◌, ◌<◌, ◌+◌, ◌∷◌, ◌++◌, IfOk, None, map};
+ghost use Rattle.sh_key.specs.Layout.{first_key, key_count};
+ghost use Rattle.script_calls.specs.Parts.{SeenPass, SamePass, tale_told, told_pass, passes_below};
+ghost use Rattle.script_calls.specs.Calls.{AdoptAnswers, LeaveAnswers, InsertAnswers, GetAnswers, ReadAnswers};
+ghost use Rattle.script_calls.specs.Calls.{RemoveAnswers, ReleaseAnswers};
+ghost use Rattle.script_calls.specs.Meeting.{KeepsOrders};
+ghost use Rattle.script_calls.specs.Receipts.{seen_of_receipt, receipt_seen, Heeds, HasOrderedTale};
+
+use sh_pass::Receipt;
+use sh_value::{Hold, Refusal, Value};
+use std::alloc::Global;
+
+/// A pass, which may own a shard. The clauses of each call say exactly when each refusal is returned, and what the log
+/// gains. They also say that the contract of the pass, or of its shard, allows this result.
+pub trait Side: Drop {
+    // What a contract sees.
+    ghost seen: { Self → SeenPass };
+
+    /// Adopts the shard. Refused as `Taken` if it owns one, as `NoShard` if there is no such shard, as `Taken` by one
+    /// step that met another owner, and as `Memory`.
+    fn adopt(&mut self, alloc: Global, shard: u64) -> Result<(), Refusal>
+        ensures does { AdoptAnswers (seen self.old).terms (seen self.old).part shard result (seen self.new).part }
+        ensures same { SamePass (seen self.old) (seen self.new) };
+
+    /// Leaves its shard. Refused as `NoShard` if it owns none, and as `Waiting` if others have begun to free its slots.
+    fn leave(&mut self) -> Result<(), Refusal>
+        ensures does { LeaveAnswers (seen self.old).part result (seen self.new).part }
+        ensures same { SamePass (seen self.old) (seen self.new) };
+
+    /// Stores the value in its shard, and returns its key. Refused as `NoShard` if it owns none, as `Full` if the shard
+    /// has no room, and as `Memory` if a segment is unopened.
+    fn insert(&mut self, value: &Value) -> Result<u64, Refusal>
+        ensures does { InsertAnswers (seen self.old).terms (seen self.old).pass (seen self.old).part value.now result
+            (seen self.new).part }
+        ensures small { IfOk result (λ key. key < first_key (seen self.old).terms.layout + key_count
+            (seen self.old).terms.layout) }
+        ensures same { SamePass (seen self.old) (seen self.new) };
+
+    /// Takes a hold on the key. Refused as `BadKey`, `HoldsFull`, `Gone` or `Crowded`.
+    fn get(&mut self, key: u64) -> Result<Hold, Refusal>
+        ensures does { GetAnswers (seen self.old).terms (seen self.old).pass (seen self.old).part key result
+            (seen self.new).part }
+        ensures same { SamePass (seen self.old) (seen self.new) };
+
+    /// The value of the key that is held. Refused as `NotHeld`.
+    fn read(&mut self, hold: Hold) -> Result<Value, Refusal>
+        ensures does { ReadAnswers (seen self.old).terms (seen self.old).pass (seen self.old).part hold.key result
+            (seen self.new).part }
+        ensures same { SamePass (seen self.old) (seen self.new) };
+
+    /// Removes the key. Refused as `BadKey` or `Gone`.
+    fn remove(&mut self, key: u64) -> Result<(), Refusal>
+        ensures does { RemoveAnswers (seen self.old).terms (seen self.old).pass (seen self.old).part key result
+            (seen self.new).part }
+        ensures same { SamePass (seen self.old) (seen self.new) };
+
+    /// Gives a hold back. Refused as `NotHeld`.
+    fn release(&mut self, hold: Hold) -> Result<(), Refusal>
+        ensures does { ReleaseAnswers (seen self.old).terms (seen self.old).pass (seen self.old).part hold.key result
+            (seen self.new).part }
+        ensures same { SamePass (seen self.old) (seen self.new) };
+
+    /// A receipt of all that was returned to this pass, and of all that it heard of others.
+    fn receipt(&mut self) -> Receipt
+        ensures tells { seen_of_receipt result ≡ receipt_seen (seen self.old) }
+        ensures same { seen self.new ≡ seen self.old };
+
+    /// Everything that the receipt covers happens before what is returned to the caller from now on.
+    fn heed(&mut self, receipt: Receipt)
+        requires { (seen_of_receipt receipt).heap ≡ (seen self.old).heap }
+        ensures { Heeds receipt (seen self.old) (seen self.new) };
+
+    /// Returns the first side, which now speaks for both, and has heard of what either heard of. Neither owns a shard.
+    fn join(self, other: Self) -> Self
+    where
+        Self: Sized,
+        requires none { ((seen self).part.shard ≡ None) × ((seen other).part.shard ≡ None) }
+        requires heap { (seen self).heap ≡ (seen other).heap }
+        ensures none { (seen result).part.shard ≡ None }
+        ensures heap { (seen result).heap ≡ (seen self).heap }
+        ensures terms { (seen result).terms ≡ (seen self).terms }
+        ensures tale { tale_told (seen result) ≡ tale_told (seen self) ++ tale_told (seen other) }
+        ensures orders { KeepsOrders ((seen self).orders ++ (seen other).orders) (seen result).orders };
+
+    /// If it speaks for all passes, one legal history has exactly the entries that it speaks for, and keeps the orders
+    /// that it heard of.
+    fn whole(&self)
+        requires { map told_pass (tale_told (seen self.now)) ≡ passes_below (seen self.now).terms.shape.passes }
+        ensures { HasOrderedTale (seen self.now) };
+}

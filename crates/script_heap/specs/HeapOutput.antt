@@ -1,0 +1,84 @@
+-- What modes heap and threads write for a script of calls: the reply lines, and then the accounts of the pages. The
+-- accounts come only if they are asked for and every owner could leave.
+use Rattle.std.specs.Prelude.{◌≡◌, ℕ, Bool, true, false, List, [], ◌++◌, Option, Some}
+use Rattle.sh_key.specs.Layout.{Layout}
+use Rattle.sh_shape.specs.Shape.{Numbers}
+use Rattle.sh_history.specs.declared.entry.Entry.{Entry}
+use Rattle.sh_step.specs.declared.action.Event.{Event}
+use Rattle.sh_step.specs.Plans.{plan_of}
+use Rattle.sh_core.specs.Worlds.{run}
+use Rattle.sh_script.specs.HeaderMeaning.{layout_of}
+use Rattle.sh_script.specs.Scripts.{IsCalls}
+use Rattle.sh_script.specs.declared.calls.CallLine.{CallLine}
+use Rattle.sh_script.specs.declared.header.Header.{Header}
+use Rattle.sh_table.specs.declared.view.Order.{Order}
+use Rattle.sh_table.specs.Seats.{Heap}
+use Rattle.sh_table.specs.Tales.{Before}
+use Rattle.sh_table.specs.Views.{Each}
+use Rattle.script_calls.specs.Parts.{PassTold, HasWholeTale, heap_terms}
+use Rattle.script_calls.specs.Told.{IsTold}
+use Rattle.script_calls.specs.Finished.{AreWaiting}
+use Rattle.script_heap.specs.WholeAccounts.{AreAccountLines}
+
+-- account lines by one history of this tale, which keeps these orders
+pub record TellsTale (layout : Layout) (shape : Numbers) (tale : List PassTold) (orders : List Order) (text : List ℕ) :
+    Type 0 where
+  pub whole : HasWholeTale (heap_terms layout shape) tale
+  pub kept : Each (Before whole.history) orders
+  pub lines : AreAccountLines layout shape whole.history text
+
+-- account lines by this history, if they are asked for; otherwise none
+abbrev pub AccountsAsked : (asked : Bool) → Layout → Numbers → List Entry → List ℕ → Type 0
+AccountsAsked true layout shape history text = AreAccountLines layout shape history text
+AccountsAsked false layout shape history text = text ≡ []
+
+-- The replies are those of the tale of all passes of a heap of this shape. After them come the account lines by its
+-- history, if they are asked for. The history is the log of a run of the core. If the lines ran one after the other, it
+-- has the entries in the order of the lines.
+pub record IsHeapOutput (alone : Bool) (layout : Layout) (shape : Numbers) (tag : Option ℕ) (lines : List CallLine)
+    (asked : Bool) (output : List ℕ) : Type 0 where
+  pub heap : Heap
+  pub of_shape : heap.shape ≡ shape
+  pub replies : List ℕ
+  pub tale : List PassTold
+  pub told : IsTold alone (Some heap) (heap_terms layout shape) tag lines replies tale
+  pub events : List Event
+  pub log : (run (plan_of layout shape) events).log ≡ told.whole.history
+  pub accounts : List ℕ
+  pub is : output ≡ replies ++ accounts
+  pub are : AccountsAsked asked layout shape told.whole.history accounts
+
+-- the text is a script of calls, and this is what its run on the running heap may write
+pub record IsHeap (alone asked : Bool) (text output : List ℕ) : Type 0 where
+  pub header : Header
+  pub lines : List CallLine
+  pub is_calls : IsCalls text header lines
+  pub is_output : IsHeapOutput alone (layout_of header.layout) header.shape header.tag lines asked output
+
+-- These are the replies of a run on a heap of this shape, after which a pass was refused when it left its shard.
+pub record IsStopped (layout : Layout) (shape : Numbers) (tag : Option ℕ) (lines : List CallLine)
+    (output : List ℕ) : Type 0 where
+  pub heap : Heap
+  pub of_shape : heap.shape ≡ shape
+  pub waiting : AreWaiting (Some heap) (heap_terms layout shape) tag lines output
+
+-- The text is a script of calls, and these are the replies of a run of it. At the end of the run a pass was refused
+-- when it left its shard, so there is no account line.
+pub record IsHeapWaiting (text output : List ℕ) : Type 0 where
+  pub header : Header
+  pub lines : List CallLine
+  pub is_calls : IsCalls text header lines
+  pub stopped : IsStopped (layout_of header.layout) header.shape header.tag lines output
+
+-- ---- how it is produced
+
+-- the result of the lines, with whether an owner could not leave
+abbrev pub IsRan : (alone : Bool) → Layout → Numbers → Option ℕ → List CallLine → (asked : Bool) → List ℕ
+    → (is_waiting : Bool) → Type 0
+IsRan alone layout shape tag lines asked output true = IsStopped layout shape tag lines output
+IsRan alone layout shape tag lines asked output false = IsHeapOutput alone layout shape tag lines asked output
+
+-- the result of a script on the running heap, with whether an owner could not leave
+abbrev pub IsHeapRun : (alone asked : Bool) → (text output : List ℕ) → (is_waiting : Bool) → Type 0
+IsHeapRun alone asked text output true = IsHeapWaiting text output
+IsHeapRun alone asked text output false = IsHeap alone asked text output

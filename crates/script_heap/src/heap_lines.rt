@@ -1,0 +1,160 @@
+//! The calls of a script on a running heap: the heap is opened, the lines are run, and the passes meet at the end.
+ghost use Rattle.std.specs.Prelude.{◌≡◌, ◌++◌, ℕ, Bool, List, IfOk, IfErr, OnOk, Option, Some, map, option_map};
+ghost use Rattle.sh_shape.specs.Shape.{IsShape, Fits};
+ghost use Rattle.sh_step.specs.declared.action.Event.{Event};
+ghost use Rattle.sh_script.specs.declared.calls.CallLine.{CallLine};
+ghost use Rattle.sh_table.specs.Seats.{Heap as HeapSeen};
+ghost use Rattle.sh_table.specs.Whole.{IsWhole};
+ghost use Rattle.script_calls.specs.Parts.{heap_terms, new_passes, tale_told};
+ghost use Rattle.script_calls.specs.Finished.{LinesRan, CarrierRan};
+ghost use Rattle.script_calls.specs.Running.{seen_of_caller};
+ghost use Rattle.script_heap.specs.WholeAccounts.{LeadsToWhole};
+ghost use Rattle.script_heap.specs.HeapOutput.{TellsTale, IsHeapOutput, IsRan};
+
+use crate::pages::WholeHeap;
+use script_calls::holder::Holder;
+use script_output::account_line::push_accounts;
+use script_output::pages::Pages;
+use sh_gather::whole;
+use sh_key::KeyLayout;
+use sh_pass::{Heap, Pass, Seats};
+use sh_script::{CallLine, Fault};
+use sh_shape::Shape;
+use sh_shard::Shard;
+use sh_value::Refusal;
+use std::alloc::{AllocError, Global};
+
+/// A pass of a running heap, with or without a shard.
+pub type PassHolder<'a, L> = Holder<Pass<'a, L>, Shard<'a, L>>;
+
+/// What a run on a running heap writes.
+#[derive(Drop)]
+pub struct Ran {
+    /// The reply lines, and the account lines after them.
+    pub output: Vec<u8>,
+    /// Whether an owner could not leave at the end.
+    pub is_waiting: bool,
+}
+
+/// Opens a heap of this shape, which fits the layout. Returns it with the right to its passes.
+pub fn opened<L: KeyLayout>(alloc: Global, shape: Shape) -> Result<(Heap<L>, Seats<L>), Fault>
+    requires { Fits L.layout shape }
+    ensures shape { IfOk result (λ r. (r.0.shape ≡ shape) × (r.1 ≡ r.0)) }
+    ensures memory { IfErr result (λ fault. fault ≡ Fault.Memory) }
+{
+    match Heap::open(alloc, shape) {
+        Ok(opened) => Ok(opened),
+        Err(Refusal::Memory) => Err(Fault::Memory),
+        Err(_) => unreachable!(),
+    }
+}
+
+fn held<'a, L: KeyLayout>(
+    alloc: Global,
+    passes: Vec<Pass<'a, L>>,
+) -> Result<Vec<PassHolder<'a, L>>, AllocError>
+    ensures { IfOk result (λ holders. holders.items ≡ map (seen_of_caller L.layout) passes.entry.items) }
+{
+    let mut holders = Vec::with_capacity(alloc, passes.len())?;
+    for pass in passes {
+        let _known = pass.shape();
+        holders.push(Holder::new(pass))?;
+    }
+    Ok(holders)
+}
+
+/// All passes of the heap that these seats belong to. None owns a shard.
+pub fn holders<L: KeyLayout>(
+    alloc: Global,
+    heap: &Heap<L>,
+    seats: Seats<L>,
+) -> Result<Vec<PassHolder<'_, L>>, Fault>
+    requires { seats ≡ heap.now }
+    ensures all { IfOk result (λ holders. map (λ h. h) holders.items
+        ≡ new_passes (Some heap.now) (heap_terms L.layout heap.now.shape) heap.now.shape.passes) }
+    ensures memory { IfErr result (λ fault. fault ≡ Fault.Memory) }
+{
+    let Ok(passes) = heap.passes(alloc, seats) else {
+        return Err(Fault::Memory);
+    };
+    match held(alloc, passes) {
+        Ok(holders) => Ok(holders),
+        Err(_) => Err(Fault::Memory),
+    }
+}
+
+// Adds the account lines of the heap. This pass carries its whole tale.
+fn push_whole<L: KeyLayout>(output: &mut Vec<u8>, pass: Pass<'_, L>) -> Result<(), AllocError>
+    requires shape { IsShape pass.heap.shape }
+    requires whole { IsWhole pass.view }
+    ensures { OnOk result ((text : List ℕ) × (output.new.items ≡ output.old.items ++ text)
+        × TellsTale L.layout pass.entry.heap.shape (tale_told (seen_of_caller L.layout pass.entry))
+        pass.entry.view.orders text) }
+{
+    let _known = pass.shape();
+    let Ok(whole) = whole(pass) else {
+        unreachable!()
+    };
+    push_accounts(output, &mut WholeHeap::new(whole))
+}
+
+// Looks once at the heap whose whole tale this pass carries: steps of the core led to all that it knows.
+fn look<L: KeyLayout>(pass: Pass<'_, L>)
+    requires shape { IsShape pass.heap.shape }
+    requires whole { IsWhole pass.view }
+    ensures { (events : List Event) × LeadsToWhole L.layout pass.entry events }
+{
+    let _known = pass.shape();
+    let Ok(whole) = whole(pass) else {
+        unreachable!()
+    };
+    let _known = WholeHeap::new(whole).accounts(0, 0);
+}
+
+// The replies, and after them the accounts that the carrier knows, if they are asked for.
+fn told<L: KeyLayout>(
+    mut output: Vec<u8>,
+    carrier: PassHolder<'_, L>,
+    asked: bool,
+) -> Result<Vec<u8>, AllocError>
+    ghost at: { HeapSeen × Option ℕ × List CallLine × Bool }
+    requires shape { IsShape at.0.shape }
+    requires ran { CarrierRan at.3 (Some at.0) (heap_terms L.layout at.0.shape) at.1 at.2 output.items carrier }
+    ensures { IfOk result (λ output. IsHeapOutput at.3 L.layout at.0.shape at.1 at.2 asked output.items) }
+{
+    let pass = carrier.into_pass();
+    if asked {
+        push_whole(&mut output, pass)?;
+    } else {
+        look(pass);
+    }
+    Ok(output)
+}
+
+/// What is written for lines that ran: their replies, and after them the accounts, if they are asked for and all owners
+/// could leave.
+pub fn gathered<L: KeyLayout>(
+    output: Vec<u8>,
+    carrier: Option<PassHolder<'_, L>>,
+    asked: bool,
+) -> Result<Ran, Fault>
+    ghost at: { HeapSeen × Option ℕ × List CallLine × Bool }
+    requires shape { IsShape at.0.shape }
+    requires ran { LinesRan at.3 (Some at.0) (heap_terms L.layout at.0.shape) at.1 at.2 output.items carrier }
+    ensures told { IfOk result (λ r. IsRan at.3 L.layout at.0.shape at.1 at.2 asked r.output.items r.is_waiting) }
+    ensures memory { IfErr result (λ fault. fault ≡ Fault.Memory) }
+{
+    let Some(carrier) = carrier else {
+        return Ok(Ran {
+            output,
+            is_waiting: true,
+        });
+    };
+    match told(output, carrier, asked) {
+        Ok(output) => Ok(Ran {
+            output,
+            is_waiting: false,
+        }),
+        Err(_) => Err(Fault::Memory),
+    }
+}

@@ -1,0 +1,51 @@
+use Rattle.std.proofs.Common.{◌≡◌, ◌≤◌, ◌∙◌, sym, ap, subst, ℕ, false, map, length, Option, arith}
+use Rattle.std.specs.Option.{option_map}
+use Rattle.script_calls.specs.Finished.{LinesRan}
+use Rattle.script_calls.proofs.InTurn.{all_are, all_speak, lines_ran}
+use Rattle.script_calls.proofs.ListLemmas.{up_length}
+use Rattle.script_calls.proofs.Newcomers.{length_map, newcomers_length}
+use Rattle.script_workers.proofs.threads.played.Goals as goal
+
+pub all_ended-requires-clause-space : goal.all_ended-requires-clause-space
+all_ended-requires-clause-space g c =
+    let room = g.B.Room in
+    let n : ℕ = room.terms.shape.passes in
+    let sides : length c.args.sides.items ≡ n = sym (length_map g.S.Side.seen c.args.sides.items)
+    ∙ (ap length c.requires.sides ∙ newcomers_length room.heap room.terms n) in
+    let workers : length c.in_ok-workers-2.workers.items ≡ n = ap length c.in_ok-workers-2.ensures.all
+    ∙ (ap length c.in_ok-workers.ensures.all ∙ up_length n) in
+    let long = c.in_ok-workers-2.workers.ok.0 in
+    let wide = c.args.sides.ok.0 in
+    let empty = c.in-Ok.ensures in
+    let count = c.len.ensures in (
+      omega (arith, sides, workers, long, wide, empty.sides.1, count),
+      omega (arith, sides, workers, long, wide, empty.rests.1, count),
+    )
+
+pub met-requires : goal.met-requires
+met-requires g c κs within =
+    let room = g.B.Room in
+    let lines = c.args.lines.now in
+    let sides = map g.S.Side.seen c.in_ok-output.sides.items in
+    let output = c.in_ok-output.output.items in
+    let answered = c.in_ok-output.ensures.answered in (
+      within,
+      (
+        all_are room.heap room.terms room.tag lines (length lines) answered.0 sides output answered.1,
+        all_speak room.heap room.terms room.tag lines (length lines) answered.0 sides output answered.1,
+      ),
+    )
+
+pub returns-clause-ran : goal.returns-clause-ran
+returns-clause-ran g c =
+    let room = g.B.Room in
+    let seen = g.S.Side.seen in
+    let lines = c.args.lines.now in
+    let output = c.in_ok-output.output.items in
+    let answered = c.in_ok-output.ensures.answered in
+    let past : length lines ≤ length lines = omega arith in
+    let R : Option ℕ → Type 0 = λ tag. LinesRan false room.heap room.terms tag lines output
+    (option_map seen c.met.result) in
+    subst R (sym c.requires.tag) (lines_ran seen room.heap room.terms room.tag lines (length lines) answered.0
+    (map seen c.in_ok-output.sides.items) output c.met.result past c.requires.passes answered.1 c.met.ensures.met
+    c.met.ensures.stays)

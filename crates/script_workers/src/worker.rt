@@ -1,0 +1,218 @@
+//! Workers: each makes the calls of one pass, in the order of the script.
+ghost use Rattle.std.specs.Prelude.{◌≡◌, ◌≤◌, length, [], None, IfSome, MatchOption, true};
+ghost use Rattle.std.specs.Vec.{vec_capacity};
+ghost use Rattle.script_output.specs.Keys.{HasTagRoom};
+ghost use Rattle.script_calls.specs.Parts.{new_part, new_pass};
+ghost use Rattle.script_calls.specs.Calls.{binds, name_used, number_told};
+ghost use Rattle.script_calls.specs.Named.{tells_number};
+ghost use Rattle.script_calls.specs.Receipts.{receipt_seen};
+ghost use Rattle.script_workers.specs.Boards.{MayHearName};
+ghost use Rattle.script_workers.specs.Works.{own_calls, IsWork};
+
+use crate::board::{Binding, Board};
+use crate::gate::Gate;
+use crate::room::Room;
+use script_calls::line::{answered, binds, name_used, number_told};
+use script_calls::side::Side;
+use script_output::Answer;
+use sh_script::{Call, CallLine};
+use std::alloc::Global;
+use std::marker::{Model, PhantomData};
+use std::sync::Wait;
+
+/// What all workers share: the script, the board of its names, and the gate that they pass.
+#[derive(Drop)]
+pub struct Shared<'a, G: Gate, B: Room> {
+    pub alloc: Global,
+    pub lines: &'a [CallLine],
+    pub tag: Option<u8>,
+    pub board: &'a Board<B>,
+    pub gate: &'a G,
+}
+
+/// A call that was made: the number that its name was bound to, if it is on a name, and its answer.
+#[derive(Drop)]
+pub struct Made {
+    pub bound: Option<u64>,
+    pub answer: Answer,
+}
+
+/// A pass with its calls. To a contract it is the pass's number.
+#[derive(Drop)]
+pub struct Worker<S: Side, B: Room> {
+    number: usize,
+    side: S,
+    // The number of lines that it has passed, and of names that they bind.
+    next: usize,
+    names: usize,
+    made: Vec<Made>,
+    room: PhantomData<B>,
+}
+
+impl<S: Side, B: Room> Model for Worker<S, B> {
+    ghost use Rattle.std.specs.Prelude.{ℕ, ◌≤◌, take, length};
+    ghost use Rattle.std.specs.Vec.{vec_capacity};
+    ghost use Rattle.script_calls.specs.Parts.{new_part};
+    ghost use Rattle.script_workers.specs.Works.{own_calls, IsWork};
+
+    ghost Value = { ℕ };
+
+    ghost view = { λ w. w.number };
+
+    ghost invariant = { λ w. IsWork B.heap B.terms B.tag (take w.next B.lines) w.number
+        (new_part B.heap w.number) (S.seen w.side) w.made.items × (w.names ≤ w.next)
+        × (length (own_calls w.number B.lines) ≤ vec_capacity w.made) };
+}
+
+// The number that the name of the call is bound to. If the call is on a name, the pass waits for it and heeds the
+// receipt that comes with it. A `wait` waits too, but has no number. `None` if the board is closed.
+fn awaited<S: Side, B: Room, R: Wait>(
+    rt: &R,
+    board: &Board<B>,
+    side: &mut S,
+    call: &Call,
+) -> Option<Option<u64>>
+    requires heap { (S.seen side.old).heap ≡ B.heap }
+    ensures heard { MatchOption result (S.seen side.new ≡ S.seen side.old)
+        (λ number. MayHearName B.tag number (S.seen side.old) (S.seen side.new)) }
+    ensures unnamed { name_used call.now ≡ None → IfSome result (λ number. number ≡ None) }
+{
+    if let Call::Wait(name) = call {
+        return match board.wait(rt, *name, side) {
+            Some(_) => Some(None),
+            None => None,
+        };
+    }
+    match name_used(call) {
+        Some(name) => board.wait(rt, name, side),
+        None => Some(None),
+    }
+}
+
+// Binds the name, if the call binds one, to the number that the call returned, if it returned one. A receipt of the
+// pass comes with it.
+fn bind<S: Side, B: Room, R: Wait>(
+    rt: &R,
+    board: &Board<B>,
+    name: usize,
+    side: &mut S,
+    call: &Call,
+    answer: &Answer,
+)
+    requires heap { (S.seen side.old).heap ≡ B.heap }
+    requires tells { binds call.now ≡ true
+        → tells_number B.tag (receipt_seen (S.seen side.old)).heard (number_told answer.now) ≡ true }
+    ensures { S.seen side.new ≡ S.seen side.old }
+{
+    if binds(call) {
+        let binding = Binding::new(number_told(answer), side.receipt());
+        board.bind(rt, name, binding);
+    }
+}
+
+// The number of names that the call binds.
+fn names_bound(call: &Call) -> usize
+    ensures { result ≤ 1 }
+{
+    if binds(call) { 1 } else { 0 }
+}
+
+impl<S: Side, B: Room> Worker<S, B> {
+    // Passes the next line, and makes its call if it is its own. False if there is no line left, or the board is
+    // closed. It takes no memory except what the call takes: the room for the answer was taken before.
+    fn step<R: Wait, G: Gate>(&mut self, rt: &R, shared: &Shared<'_, G, B>) -> bool
+        requires lines { shared.now.lines.now ≡ B.lines }
+        requires tag { shared.now.tag ≡ B.tag }
+        requires room { HasTagRoom B.terms.layout shared.now.tag }
+        ensures { self.new ≡ self.old }
+    {
+        let Some(line) = shared.lines.get(self.next) else {
+            return false;
+        };
+        if line.pass as usize == self.number {
+            let call = self.made.len();
+            shared.gate.before(self.number, call);
+            let Some(bound) = awaited(rt, shared.board, &mut self.side, &line.call) else {
+                return false;
+            };
+            let answer = answered(shared.alloc, &mut self.side, shared.tag, &line.call, bound);
+            bind(
+                rt,
+                shared.board,
+                self.names,
+                &mut self.side,
+                &line.call,
+                &answer,
+            );
+            self.made.push_reserved(Made { bound, answer });
+            shared.gate.after(self.number, call);
+        }
+        self.names += names_bound(&line.call);
+        self.next += 1;
+        true
+    }
+
+    /// Makes the calls that are left, in order. If it stops before the last, it closes the board.
+    pub fn run<R: Wait, G: Gate>(&mut self, rt: &R, shared: &Shared<'_, G, B>)
+        requires lines { shared.now.lines.now ≡ B.lines }
+        requires tag { shared.now.tag ≡ B.tag }
+        requires room { HasTagRoom B.terms.layout shared.now.tag }
+        ensures { self.new ≡ self.old }
+    {
+        for _ in 0..shared.lines.len() {
+            if !self.step(rt, shared) {
+                shared.board.close(rt);
+                return;
+            }
+        }
+    }
+
+    /// Whether a line is its own.
+    pub fn has_calls(&self, lines: &[CallLine]) -> bool {
+        lines.iter().any(|line| line.pass as usize == self.number)
+    }
+
+    /// Its number.
+    pub fn number(&self) -> usize
+        ensures { result ≡ self.now }
+    {
+        self.number
+    }
+
+    /// A worker that has made no call yet, with room for the answers to its calls.
+    pub fn new(number: usize, side: S, made: Vec<Made>) -> Self
+        requires side { S.seen side ≡ new_pass B.heap B.terms number }
+        requires made { made.items ≡ [] }
+        requires space { length (own_calls number B.lines) ≤ vec_capacity made }
+        ensures { result ≡ number }
+    {
+        Worker {
+            number,
+            side,
+            next: 0,
+            names: 0,
+            made,
+            room: PhantomData,
+        }
+    }
+
+    /// Its pass and the calls that it made, if it made all of them.
+    pub fn finish(self, count: usize) -> Option<(S, Vec<Made>)>
+        requires { count ≡ length B.lines }
+        ensures { IfSome result (λ r. IsWork B.heap B.terms B.tag B.lines self (new_part B.heap self)
+            (S.seen r.0) r.1.items) }
+    {
+        if self.next != count {
+            return None;
+        }
+        let Worker {
+            number: _,
+            side,
+            next: _,
+            names: _,
+            made,
+            room: _,
+        } = self;
+        Some((side, made))
+    }
+}

@@ -1,6 +1,0 @@
-use Rattle.std.proofs.Common.{take}
-use Rattle.sh_audit.proofs.WholeLemmas.{HasTaken}
-use Rattle.sh_audit.proofs.whole.check.Given as goal
-
-abbrev pub invariant-loop-at : goal.invariant-loop-at
-invariant-loop-at l = HasTaken l.audit l.passes l.guard_max (take l.at l.entries)

@@ -1,7 +1,0 @@
-//! Mode heap beside mode plain: the law that a script has the same replies on the running heap as on the plain store.
-//! The exceptions are keys' numbers and what only a running heap refuses. It is about definitions, so no code is here.
-#![tactic(auto)]
-
-pub mod law;
-
-pub use law::heap_is_beside_plain;

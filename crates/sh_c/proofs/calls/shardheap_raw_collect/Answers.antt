@@ -1,9 +1,0 @@
-use Rattle.std.proofs.Common.{◌∙◌, refl, sym}
-use Rattle.sh_c.proofs.Asking.{asked, unasked}
-use Rattle.sh_c.proofs.calls.shardheap_raw_collect.Goals as goal
-
-pub returns-then-not-is_full : goal.returns-then-not-is_full
-returns-then-not-is_full c = unasked _ _ (sym c.is_full.ensures ∙ c.if-not-is_full.true)
-
-pub returns : goal.returns
-returns c = asked _ _ _ _ _ _ _ c.held.ensures.value refl c.code.ensures c.collect-answer.ensures

@@ -1,5 +1,0 @@
-use Rattle.std.proofs.Common.{true}
-use Rattle.sh_heap_run.proofs.heap_output.lines_on.Given as goal
-
-abbrev pub ghost-gathered : goal.ghost-gathered
-ghost-gathered g a = (g.at.0, g.at.1, g.at.2, true)

@@ -1,5 +1,0 @@
-use Rattle.sh_local.proofs.Renaming as lemmas
-use Rattle.sh_local.proofs.law.keys_may_be_renamed.Goals as goal
-
-pub returns : goal.returns
-returns c = lemmas.keys_may_be_renamed

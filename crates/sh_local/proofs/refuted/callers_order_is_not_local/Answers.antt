@@ -1,5 +1,0 @@
-use Rattle.sh_local.proofs.Counterexamples as lemmas
-use Rattle.sh_local.proofs.refuted.callers_order_is_not_local.Goals as goal
-
-pub returns : goal.returns
-returns c = lemmas.callers_order_is_not_local

@@ -1,5 +1,0 @@
-use Rattle.sh_models.proofs.StepLemmas.{EventsRan}
-use Rattle.sh_models.proofs.steps_output.steps_lines.Given as goal
-
-abbrev pub invariant-loop-line : goal.invariant-loop-line
-invariant-loop-line g l = EventsRan g.L.KeyLayout.layout l.fn.shape l.fn.tag l.yielded l.world l.output.items

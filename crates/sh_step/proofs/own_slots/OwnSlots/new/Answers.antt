@@ -1,5 +1,0 @@
-use Rattle.sh_step.proofs.RunsLaws.{none_in_runs}
-use Rattle.sh_step.proofs.own_slots.OwnSlots.new.Goals as goal
-
-pub returns : goal.returns
-returns c = none_in_runs _ c.new.ensures.items

@@ -1,8 +1,0 @@
-use Rattle.std.proofs.Common.{◌∷◌, ◌∙◌, ap}
-use Rattle.sh_step.proofs.RunsLaws.{slots_in_first}
-use Rattle.sh_step.proofs.own_slots.OwnSlots.put.Goals as goal
-
-pub returns-clause-ok : goal.returns-clause-ok
-returns-clause-ok c =
-    slots_in_first _ c.self.inside.runs.items c.run_of_spot.result _ c.in_ok-put_first.ensures.ok c.run_of_spot.ensures
-    ∙ ap (λ xs. c.args.spot ∷ xs) c.self.view_is

@@ -1,0 +1,19 @@
+use Rattle.std.proofs.Common.{arith, ◌≡◌, ◌==◌, ◌∙◌, sym, Some, None}
+use Rattle.std.specs.List.{position}
+use Rattle.sh_step.proofs.ListLaws.{without_at, without_none, on_some, position_within}
+use Rattle.sh_step.proofs.part.lists.remove_note.Goals as goal
+
+pub returns-in-Some-clause-items : goal.returns-in-Some-clause-items
+returns-in-Some-clause-items c =
+    let items = c.args.notes.now.items in
+    let found : position (λ x. x.0 == c.args.number) items ≡ Some c.in-Some.i = sym c.note_at.ensures ∙ c.in-Some.is in
+    let few = position_within (λ x. x.0 == c.args.number) items c.in-Some.i found in
+    let len = c.args.notes.now.ok in
+    on_some c.remove.result _ (c.remove.ensures.succeeds (0, 0) (omega arith)) c.remove.ensures.items
+    ∙ sym (without_at (λ x. x.0 == c.args.number) items c.in-Some.i found)
+
+pub returns-in_default-clause-items : goal.returns-in_default-clause-items
+returns-in_default-clause-items c =
+    let items = c.args.notes.now.items in
+    let found : position (λ x. x.0 == c.args.number) items ≡ None = sym c.note_at.ensures ∙ c.in_default.is in
+    sym (without_none (λ x. x.0 == c.args.number) items found)

@@ -1,6 +1,0 @@
-use Rattle.std.proofs.Common.{◌∙◌, sym}
-use Rattle.sh_step.proofs.RunsWithout.{none_without}
-use Rattle.sh_step.proofs.runs.remove_spot.Goals as goal
-
-pub returns-in_default : goal.returns-in_default
-returns-in_default c = none_without c.args.spot c.args.runs.now.items (sym c.run_with.ensures ∙ c.in_default.is)

@@ -1,5 +1,0 @@
-use Rattle.std.proofs.Common.{Some}
-use Rattle.sh_stress.proofs.round.play.Given as goal
-
-abbrev pub ghosts-worked : goal.ghosts-worked
-ghosts-worked g a = record { heap = Some a.heap.now }

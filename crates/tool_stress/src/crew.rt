@@ -1,0 +1,44 @@
+//! The passes of one thread.
+use crate::board::Board;
+use crate::home::Home;
+use crate::worker::Worker;
+use sh_key::KeyLayout;
+use std::sync::Wait;
+use tool_judge::dice::Dice;
+
+// Takes one turn of one of the passes. False if the pass found a fault.
+fn turn<R: Wait, L: KeyLayout, H: Home>(
+    workers: &mut [Worker<'_, L, H>],
+    board: &Board<'_, R, H>,
+    dice: &mut Dice,
+) -> bool {
+    let count = workers.len() as u64;
+    if count == 0 {
+        return true;
+    }
+    let number = dice.below(count);
+    let Some(worker) = workers.get_mut(number as usize) else {
+        return true;
+    };
+    worker.turn(board, dice);
+    worker.record().fault().is_none()
+}
+
+/// The passes of one thread take `steps` turns, in an order that the dice give. They stop early if any thread finds a
+/// fault.
+pub fn run<R: Wait, L: KeyLayout, H: Home>(
+    workers: &mut [Worker<'_, L, H>],
+    board: &Board<'_, R, H>,
+    dice: &mut Dice,
+    steps: u64,
+) {
+    for _ in 0..steps {
+        if board.is_stopped() {
+            return;
+        }
+        if !turn(workers, board, dice) {
+            board.stop();
+            return;
+        }
+    }
+}

@@ -1,0 +1,61 @@
+//! Turns on keys.
+use crate::moments::Moments;
+use crate::turn::Turn;
+use crate::user::User;
+use crate::using;
+use sh_key::{KeyLayout, Parts};
+use tool_judge::dice::Dice;
+use tool_judge::record::Record;
+
+// The number of one of the holds, chosen at random, if there is any.
+fn some_hold(record: &Record, dice: &mut Dice) -> Option<u64> {
+    let holds = record.holds();
+    if holds == 0 {
+        return None;
+    }
+    Some(dice.below(holds))
+}
+
+// The key after this one in the same slot, or in the next slot if this one is the slot's last.
+fn next_key<L: KeyLayout>(key: u64) -> u64 {
+    let Some(parts) = L::unpack(key) else {
+        return key;
+    };
+    let next = Parts {
+        generation: parts.generation.saturating_add(1),
+        ..parts
+    };
+    if L::in_range(next) {
+        L::pack(next)
+    } else {
+        key.wrapping_add(1)
+    }
+}
+
+/// Takes a turn on a key that a thread left, if there is one, or on a key that the pass holds. Other turns do nothing.
+pub fn take_turn<L: KeyLayout, U: User>(
+    user: &mut U,
+    record: &mut Record,
+    moments: &Moments,
+    dice: &mut Dice,
+    turn: Turn,
+    key: Option<u64>,
+) {
+    let held = some_hold(record, dice);
+    match (turn, key, held) {
+        (Turn::Get, Some(key), _) => using::get(user, record, moments, key, false),
+        (Turn::Glance, Some(key), _) => using::glance(user, record, moments, key),
+        (Turn::Guess, Some(key), _) => {
+            using::get(user, record, moments, next_key::<L>(key), true);
+        }
+        (Turn::Remove, Some(key), _) => using::remove(user, record, moments, key),
+        (Turn::Read, _, Some(number)) => using::read(user, record, number),
+        (Turn::Release, _, Some(number)) => using::release(user, record, moments, number),
+        (Turn::RemoveHeld, _, Some(number)) => {
+            if let Some(held) = record.hold(number) {
+                using::remove(user, record, moments, held.hold.key);
+            }
+        }
+        _ => {}
+    }
+}

@@ -1,0 +1,139 @@
+//! Turns of owners: they adopt and leave shards, and insert values.
+ghost use Rattle.std.specs.Prelude.{◌≤◌};
+
+use crate::actor::Actor;
+use crate::board::Board;
+use crate::home::{Home, Letter};
+use crate::lone::Lone;
+use crate::moments::Moments;
+use crate::owner::Owner;
+use crate::using;
+use sh_key::KeyLayout;
+use sh_value::Refusal;
+use std::alloc::Global;
+use std::sync::Wait;
+use tool_judge::counts::Count;
+use tool_judge::dice::Dice;
+use tool_judge::fault::Call;
+use tool_judge::line::Told;
+use tool_judge::pattern;
+use tool_judge::record::Record;
+
+// The greatest number of slots that the two segments of a shard may have.
+const MOST_SLOTS: u32 = 768;
+
+/// Tries to adopt a shard.
+pub fn adopt<'a, L: KeyLayout, H: Home>(
+    alloc: Global,
+    lone: Lone<'a, L, H>,
+    record: &mut Record,
+    shard: u64,
+) -> Actor<'a, L, H> {
+    match lone.adopt(alloc, shard) {
+        Ok(owner) => {
+            record.counts.one(Count::Adoptions);
+            Actor::Owner(owner)
+        }
+        Err((lone, refusal)) => {
+            match refusal {
+                Refusal::Taken => record.counts.one(Count::Takens),
+                _ => record.refused(Call::Adopt, refusal),
+            }
+            Actor::Lone(lone)
+        }
+    }
+}
+
+/// Tries to leave the shard.
+pub fn leave<'a, L: KeyLayout, H: Home>(
+    owner: Owner<'a, L, H>,
+    record: &mut Record,
+) -> Actor<'a, L, H> {
+    match owner.leave() {
+        Ok(lone) => {
+            record.counts.one(Count::Leaves);
+            Actor::Lone(lone)
+        }
+        Err((owner, refusal)) => {
+            match refusal {
+                Refusal::Waiting => record.counts.one(Count::Waitings),
+                _ => record.refused(Call::Leave, refusal),
+            }
+            Actor::Owner(owner)
+        }
+    }
+}
+
+// Inserts a value of `len` words, and returns its key, or `None` if the insert was refused.
+fn put<L: KeyLayout, H: Home>(
+    owner: &mut Owner<'_, L, H>,
+    record: &mut Record,
+    moments: &Moments,
+    len: usize,
+) -> Option<u64>
+    requires { len ≤ 16 }
+{
+    let begin = moments.next();
+    let value = pattern::value(begin, len);
+    let answer = owner.insert(&value);
+    let span = moments.since(begin);
+    match answer {
+        Ok(key) => {
+            record.counts.one(Count::Inserts);
+            record.tell(key, span, Told::Inserted(value));
+            Some(key)
+        }
+        Err(Refusal::Full) => {
+            record.counts.one(Count::Fulls);
+            None
+        }
+        Err(refusal) => {
+            record.refused(Call::Insert, refusal);
+            None
+        }
+    }
+}
+
+/// Inserts a value of any length and leaves its key on the board, with a receipt. Removes the key that was there.
+pub fn insert<R: Wait, L: KeyLayout, H: Home>(
+    owner: &mut Owner<'_, L, H>,
+    record: &mut Record,
+    board: &Board<'_, R, H>,
+    dice: &mut Dice,
+) {
+    let len = dice.below(17) as usize;
+    let Some(key) = put(owner, record, &board.moments, len) else {
+        return;
+    };
+    let letter = Letter {
+        key,
+        told: owner.receipt(),
+    };
+    if let Some(old) = board.leave(dice.word(), letter) {
+        owner.heed(old.told);
+        using::remove(owner, record, &board.moments, old.key);
+    }
+}
+
+/// Adopts a shard that nobody owns, inserts values of `len` words until it is full, and leaves it.
+pub fn fill<'a, L: KeyLayout, H: Home>(
+    alloc: Global,
+    lone: Lone<'a, L, H>,
+    record: &mut Record,
+    moments: &Moments,
+    shard: u64,
+    len: usize,
+) -> Actor<'a, L, H>
+    requires { len ≤ 16 }
+{
+    let Actor::Owner(mut owner) = adopt(alloc, lone, record, shard) else {
+        record.refused(Call::Adopt, Refusal::Taken);
+        return Actor::Moving;
+    };
+    for _ in 0..MOST_SLOTS {
+        if put(&mut owner, record, moments, len).is_none() {
+            break;
+        }
+    }
+    leave(owner, record)
+}

@@ -1,0 +1,104 @@
+//! Calls on keys, which note their results in the record.
+use crate::moments::Moments;
+use crate::user::User;
+use sh_value::{Hold, Refusal, Value};
+use tool_judge::counts::Count;
+use tool_judge::fault::Call;
+use tool_judge::line::{Span, Told};
+use tool_judge::record::Record;
+
+/// Takes a hold on a key. A guessed number may be no key.
+pub fn get<U: User>(user: &mut U, record: &mut Record, moments: &Moments, key: u64, guessed: bool) {
+    let begin = moments.next();
+    let answer = user.get(key);
+    let span = moments.since(begin);
+    match answer {
+        Ok(hold) => record.got(hold, span),
+        Err(Refusal::BadKey) if guessed => record.counts.one(Count::BadKeys),
+        Err(refusal) => not_got(record, key, span, refusal),
+    }
+}
+
+// Notes a get that was refused.
+fn not_got(record: &mut Record, key: u64, span: Span, refusal: Refusal) {
+    match refusal {
+        Refusal::Gone => {
+            record.counts.one(Count::Gones);
+            record.tell(key, span, Told::Gone);
+        }
+        Refusal::Crowded => {
+            record.counts.one(Count::Crowdeds);
+            record.tell(key, span, Told::Crowded);
+        }
+        Refusal::HoldsFull if record.is_full() => record.counts.one(Count::HoldsFulls),
+        refusal => record.refused(Call::Get, refusal),
+    }
+}
+
+/// Takes a hold on a key by a guard, and reads by it.
+pub fn glance<U: User>(user: &mut U, record: &mut Record, moments: &Moments, key: u64) {
+    let mut value = Value::empty();
+    let begin = moments.next();
+    let answer = user.glance(key, &mut value);
+    let span = moments.since(begin);
+    match answer {
+        Ok(hold) => seen(record, hold, span, value),
+        Err(refusal) => not_got(record, key, span, refusal),
+    }
+}
+
+// Notes a hold, and what was read by it.
+fn seen(record: &mut Record, hold: Hold, span: Span, value: Value) {
+    let number = record.holds();
+    record.got(hold, span);
+    if let Some(held) = record.hold(number) {
+        record.read(held, value);
+    }
+}
+
+/// Removes a key.
+pub fn remove<U: User>(user: &mut U, record: &mut Record, moments: &Moments, key: u64) {
+    let begin = moments.next();
+    let answer = user.remove(key);
+    let span = moments.since(begin);
+    match answer {
+        Ok(()) => {
+            record.counts.one(Count::Removes);
+            record.tell(key, span, Told::Removed);
+        }
+        Err(Refusal::Gone) => {
+            record.counts.one(Count::Gones);
+            record.tell(key, span, Told::Gone);
+        }
+        Err(refusal) => record.refused(Call::Remove, refusal),
+    }
+}
+
+/// Reads the value of one of the holds.
+pub fn read<U: User>(user: &mut U, record: &mut Record, number: u64) {
+    let Some(held) = record.hold(number) else {
+        return;
+    };
+    match user.read(held.hold) {
+        Ok(value) => record.read(held, value),
+        Err(refusal) => record.refused(Call::Read, refusal),
+    }
+}
+
+/// Releases one of the holds.
+pub fn release<U: User>(user: &mut U, record: &mut Record, moments: &Moments, number: u64) {
+    let Some(held) = record.hold(number) else {
+        return;
+    };
+    let begin = moments.next();
+    let answer = user.release(held.hold);
+    let span = moments.since(begin);
+    match answer {
+        Ok(()) => {
+            record.counts.one(Count::Releases);
+            record.tell(held.hold.key, span, Told::Released);
+            record.forget(number);
+        }
+        Err(refusal) => record.refused(Call::Release, refusal),
+    }
+}

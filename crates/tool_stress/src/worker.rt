@@ -1,0 +1,211 @@
+//! A pass with its record.
+ghost use Rattle.std.specs.Prelude.{◌≤◌};
+
+use crate::actor::{Actor, Task};
+use crate::board::Board;
+use crate::home::Home;
+use crate::lone::Lone;
+use crate::moments::Moments;
+use crate::owner::Owner;
+use crate::stopped::Stopped;
+use crate::turn::Turn;
+use crate::{by_hand, keys, owning, turn, using};
+use sh_key::KeyLayout;
+use std::alloc::Global;
+use std::mem;
+use std::sync::Wait;
+use tool_judge::counts::Count;
+use tool_judge::dice::Dice;
+use tool_judge::record::Record;
+
+// The greatest number of steps of a call by hand, with its end.
+const STEPS_BY_HAND: u32 = 9;
+
+/// A pass that takes turns.
+#[derive(Drop)]
+pub struct Worker<'a, L: KeyLayout, H: Home> {
+    actor: Actor<'a, L, H>,
+    record: Record,
+    shards: u64,
+    alloc: Global,
+}
+
+impl<'a, L: KeyLayout, H: Home> Worker<'a, L, H> {
+    /// A pass that has done nothing, in a heap with this number of shards.
+    pub fn new(alloc: Global, lone: Lone<'a, L, H>, number: u32, shards: u64) -> Self {
+        Worker {
+            actor: Actor::Lone(lone),
+            record: Record::new(alloc, number),
+            shards,
+            alloc,
+        }
+    }
+
+    /// Its record.
+    pub fn record(&self) -> &Record {
+        &self.record
+    }
+
+    // The turn of a pass that owns no shard.
+    fn lone_turn<R: Wait>(
+        &mut self,
+        mut lone: Lone<'a, L, H>,
+        board: &Board<'_, R, H>,
+        dice: &mut Dice,
+    ) -> Actor<'a, L, H> {
+        match turn::of_lone(dice) {
+            Turn::Adopt => {
+                let shard = dice.below(self.shards.max(1));
+                owning::adopt(self.alloc, lone, &mut self.record, shard)
+            }
+            Turn::Begin => by_hand::begin(lone, &mut self.record, board, dice),
+            turn => {
+                let key = lone.look(board, dice.word());
+                let record = &mut self.record;
+                keys::take_turn::<L, _>(&mut lone, record, &board.moments, dice, turn, key);
+                Actor::Lone(lone)
+            }
+        }
+    }
+
+    // The turn of an owner.
+    fn owner_turn<R: Wait>(
+        &mut self,
+        mut owner: Owner<'a, L, H>,
+        board: &Board<'_, R, H>,
+        dice: &mut Dice,
+    ) -> Actor<'a, L, H> {
+        match turn::of_owner(dice) {
+            Turn::Leave => owning::leave(owner, &mut self.record),
+            Turn::Insert => {
+                owning::insert(&mut owner, &mut self.record, board, dice);
+                Actor::Owner(owner)
+            }
+            turn => {
+                let key = owner.look(board, dice.word());
+                let record = &mut self.record;
+                keys::take_turn::<L, _>(&mut owner, record, &board.moments, dice, turn, key);
+                Actor::Owner(owner)
+            }
+        }
+    }
+
+    // Takes the actor out. It is `Moving` until another one is put there.
+    fn moving(&mut self) -> Actor<'a, L, H> {
+        mem::replace(&mut self.actor, Actor::Moving)
+    }
+
+    // Puts the actor back.
+    fn put(&mut self, actor: Actor<'a, L, H>) {
+        self.actor = actor;
+    }
+
+    // The turn of a pass that stopped in the middle: it does nothing, or does its next step.
+    fn stopped_turn(
+        &mut self,
+        stopped: Stopped<'a, L, H>,
+        task: Task,
+        moments: &Moments,
+        dice: &mut Dice,
+    ) -> Actor<'a, L, H> {
+        if dice.once_in(2) {
+            self.record.counts.one(Count::Stands);
+            return Actor::Stopped(stopped, task);
+        }
+        by_hand::go_on(stopped, task, &mut self.record, moments)
+    }
+
+    // The actor after its turn.
+    fn turned<R: Wait>(
+        &mut self,
+        actor: Actor<'a, L, H>,
+        board: &Board<'_, R, H>,
+        dice: &mut Dice,
+    ) -> Actor<'a, L, H> {
+        match actor {
+            Actor::Lone(lone) => self.lone_turn(lone, board, dice),
+            Actor::Owner(owner) => self.owner_turn(owner, board, dice),
+            Actor::Stopped(stopped, task) => self.stopped_turn(stopped, task, &board.moments, dice),
+            Actor::Moving => Actor::Moving,
+        }
+    }
+
+    /// Takes a turn.
+    pub fn turn<R: Wait>(&mut self, board: &Board<'_, R, H>, dice: &mut Dice) {
+        let actor = self.moving();
+        let turned = self.turned(actor, board, dice);
+        self.put(turned);
+    }
+
+    // Does the next step of what it began by hand.
+    fn go_on(&mut self, moments: &Moments) {
+        let gone_on = self.moving().gone_on(&mut self.record, moments);
+        self.put(gone_on);
+    }
+
+    /// Ends what it began by hand.
+    pub fn end_by_hand(&mut self, moments: &Moments) {
+        for _ in 0..STEPS_BY_HAND {
+            self.go_on(moments);
+        }
+        if self.actor.is_stopped() {
+            self.record.endless();
+        }
+    }
+
+    // Releases one of its holds.
+    fn release(&mut self, moments: &Moments, number: u64) {
+        match &mut self.actor {
+            Actor::Lone(lone) => using::release(lone, &mut self.record, moments, number),
+            Actor::Owner(owner) => using::release(owner, &mut self.record, moments, number),
+            _ => {}
+        }
+    }
+
+    /// Releases about two thirds of its holds.
+    pub fn release_most(&mut self, moments: &Moments, dice: &mut Dice) {
+        for number in (0..self.record.holds()).rev() {
+            if !dice.once_in(3) {
+                self.release(moments, number);
+            }
+        }
+    }
+
+    /// Leaves its shard, if it has one. No pass has a call open, so a refusal to leave is a fault.
+    pub fn retire(&mut self) {
+        let left = self.moving().left(&mut self.record);
+        self.put(left);
+        if self.actor.is_owner() {
+            self.record.waits();
+        }
+    }
+
+    // Fills a shard that nobody owns.
+    fn fill_one(&mut self, moments: &Moments, shard: u64, len: usize)
+        requires { len ≤ 16 }
+    {
+        let actor = self.moving();
+        let filled = actor.filled(self.alloc, &mut self.record, moments, shard, len);
+        self.put(filled);
+    }
+
+    /// Fills each shard with values of `len` words. Nobody owns a shard.
+    pub fn fill(&mut self, moments: &Moments, len: usize)
+        requires { len ≤ 16 }
+    {
+        for shard in 0..self.shards {
+            self.fill_one(moments, shard, len);
+        }
+    }
+
+    /// The pass, if it owns nothing and has begun nothing, with its record.
+    pub fn finish(self) -> (Option<Lone<'a, L, H>>, Record) {
+        let Worker {
+            actor,
+            record,
+            shards: _,
+            alloc: _,
+        } = self;
+        (actor.into_lone(), record)
+    }
+}
