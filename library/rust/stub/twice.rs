@@ -188,6 +188,12 @@ fn the_place_of_a_value_of_a_pool_is_not_written() {
     assert_eq!(guard.0, "one");
     drop(guard);
     // The place is free, and its value is cleared and used again.
-    let later = create().expect("there is room");
-    assert!(pool.get(later).is_some_and(|line| line.0 == "two") && pool.get(key).is_none());
+    issue(next(next(key)));
+    let later = pool.create_with(|line| {
+        line.0.push_str("three");
+        issue(next(key));
+        assert!(panics(create), "while the value is made");
+    });
+    let later = later.expect("there is room");
+    assert!(pool.get(later).is_some_and(|line| line.0 == "three") && pool.get(key).is_none());
 }

@@ -46,7 +46,10 @@ fn numbers_that_are_no_keys_find_nothing() {
     let slab = Slab::new();
     let keys: Vec<usize> = (0..100).flat_map(|n| slab.insert(Counted::of(n, &dropped))).collect();
     let flipped = keys.iter().flat_map(|key| (0..64).map(move |bit| key ^ 1 << bit));
-    for number in numbers(7).take(COUNT).chain(flipped).filter(|number| !keys.contains(number)) {
+    // The page after the last of a shard is not the first of the next shard.
+    let beyond = keys.iter().map(|key| key - (1 << 14) + (8 << 6));
+    let all = numbers(7).take(COUNT).chain(flipped).chain(beyond);
+    for number in all.filter(|number| !keys.contains(number)) {
         assert!(slab.get(number).is_none() && !slab.contains(number));
         assert!(!slab.remove(number) && slab.take(number).is_none());
     }

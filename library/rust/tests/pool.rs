@@ -101,12 +101,17 @@ fn each_value_is_cleared_once_and_dropped_with_the_pool() {
 #[test]
 fn a_cleared_value_keeps_its_memory_for_the_next_key() {
     let pool: Pool<Vec<usize>> = Pool::new();
-    let key = pool.create_with(|values| values.extend(0..1000)).expect("there is room");
-    assert!(pool.clear(key));
-    // The same place comes again before long.
+    let made = pool.create_with(|values| values.extend(0..1000)).expect("there is room");
+    let mut guard = pool.create().expect("there is room");
+    guard.extend(0..1000);
+    let written = guard.key();
+    drop(guard);
+    assert!(pool.clear(made) && pool.clear(written));
+    // The same places come again before long.
     let keys: Vec<usize> = (0..1536).flat_map(|_| pool.create_with(|_| {})).collect();
     assert!(keys.iter().all(|key| pool.get(*key).is_some_and(|values| values.is_empty())));
-    assert!(keys.iter().any(|key| pool.get(*key).is_some_and(|values| values.capacity() >= 1000)));
+    let is_used_again = |key: &&usize| pool.get(**key).is_some_and(|values| values.capacity() >= 1000);
+    assert_eq!(keys.iter().filter(is_used_again).count(), 2);
 }
 
 #[test]

@@ -83,22 +83,30 @@ fn slab(threads: usize) {
     });
 }
 
+/// Makes a value, leaves its key before or after it is written, and returns the key that was left before.
+fn make(pool: &Pool<Vec<usize>>, board: &Board, round: usize) -> Option<usize> {
+    if round % 3 == 0 {
+        let key = pool.create_with(|values| values.extend([round; 2])).expect("there is room");
+        return board.swap(round, key);
+    }
+    let mut guard = pool.create().expect("there is room");
+    let old = board.swap(round, guard.key());
+    guard.extend([round; 2]);
+    if round % 2 == 0 {
+        assert_eq!(guard.downgrade().len(), 2);
+    }
+    old
+}
+
 /// The same with a pool, whose values are written, read and cleared in place.
 fn pool(threads: usize) {
     let (pool, board) = (Pool::<Vec<usize>>::new(), Board::new());
-    in_threads(threads, &|number| {
+    in_threads(threads, &|_| {
         for round in 0..ROUNDS {
-            let mut guard = pool.create().expect("there is room");
-            let early = board.swap(round, guard.key());
-            guard.extend([round, number]);
-            if round % 2 == 0 {
-                assert_eq!(guard.downgrade().len(), 2);
-            } else {
-                drop(guard);
-            }
-            let late = board.look(round + 1).and_then(|key| pool.get(key));
-            assert!(late.is_none_or(|values| values.len() == 2));
-            assert!(early.is_none_or(|key| pool.clear(key)));
+            let old = make(&pool, &board, round);
+            let found = board.look(round + 1).and_then(|key| pool.get(key));
+            assert!(found.is_none_or(|values| values.len() == 2));
+            assert!(old.is_none_or(|key| pool.clear(key)));
         }
     });
 }

@@ -58,9 +58,9 @@ impl Chunk {
         self.shards
     }
 
-    /// The logarithm of the number of pages of a shard.
-    pub(super) fn page_bits(&self) -> u32 {
-        (self.segments * PAGES).ilog2()
+    /// How many pages a shard has.
+    pub(super) fn pages(&self) -> usize {
+        (self.segments * PAGES) as usize
     }
 
     /// A pass, if one is at home.
@@ -167,7 +167,7 @@ mod tests {
     #[test]
     fn shards_are_taken_and_released() {
         let chunk = Chunk::open(4, 1).expect("it opens");
-        assert_eq!((chunk.room(), chunk.page_bits()), (4 * 384, 3));
+        assert_eq!((chunk.room(), chunk.pages()), (4 * 384, 8));
         let claimed = [(); 4].map(|()| chunk.claim());
         assert_eq!(claimed, [Search::Found(1), Search::Found(2), Search::Found(3), Search::Taken]);
         chunk.release(2);

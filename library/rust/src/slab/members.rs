@@ -193,9 +193,9 @@ impl Members {
         }
     }
 
-    /// The logarithm of the number of pages of each shard of this number's heap. None if no such heap is open.
-    pub(super) fn page_bits(&self, number: u64) -> Option<u32> {
-        self.heaps.chunk(number::heap(number)).map(Chunk::page_bits)
+    /// How many pages each shard of this number's heap has. None if no such heap is open.
+    pub(super) fn pages(&self, number: u64) -> Option<usize> {
+        self.heaps.chunk(number::heap(number)).map(Chunk::pages)
     }
 }
 

@@ -8,6 +8,7 @@
 //! |---|---|
 //! | none | the place has no value |
 //! | `MADE` | the node has a value, which no key finds |
+//! | `WRITING` | the call that issued the key makes its value: no key finds or removes it |
 //! | `MADE`, `OPEN` | the key finds it |
 //! | `MADE`, `WRITING` | one guard may write it, and its key does not find it yet |
 //! | `MARKED` with one of these two | the key was removed: nobody becomes a user, and the last user ends the value |
@@ -82,28 +83,56 @@ impl<T> Node<T> {
     /// If the place has a value, which no heap lets happen: it issues a place again once its key is removed.
     #[inline]
     pub(super) fn fill(&self, generation: u32, value: T) {
-        assert_eq!(self.state.load(Acquire), 0, "a place was issued that is in use");
+        assert!(self.state.load(Acquire) == 0, "a place was issued that is in use");
         // SAFETY: the place has no value, so that nobody uses it, and its key was issued to this call alone.
         unsafe { self.at().write(value) };
         self.state.store(open(generation), Release);
     }
 
-    /// Begins the exclusive use of a place that was issued, and makes its value if there is none.
+    /// Begins the exclusive use of a place that was issued, and makes its value if there is none. The use is that of a
+    /// guard: the key can be removed.
     ///
     /// # Panics
     ///
     /// If the place is in use, and if `make` panics.
     #[inline]
     pub(super) fn begin_writing(&self, generation: u32, make: impl FnOnce() -> T) {
+        self.begin_alone(written(generation) + 1, make);
+    }
+
+    /// The same, for a call that keeps the key to itself meanwhile: no key removes the value.
+    ///
+    /// # Panics
+    ///
+    /// If the place is in use, and if `make` panics.
+    #[inline]
+    pub(super) fn begin_making(&self, make: impl FnOnce() -> T) {
+        self.begin_alone(WRITING, make);
+    }
+
+    // Begins an exclusive use with this state.
+    #[inline]
+    fn begin_alone(&self, state: u64, make: impl FnOnce() -> T) {
         let before = self.state.load(Acquire);
-        assert_eq!(before & !MADE, 0, "a place was issued that is in use");
+        assert!(before & !MADE == 0, "a place was issued that is in use");
         if before == 0 {
             let value = make();
             // SAFETY: as in `fill`.
             unsafe { self.at().write(value) };
         }
         // Others read the value only once it is shared, which orders what was written.
-        self.state.store(written(generation) + 1, Relaxed);
+        self.state.store(state, Relaxed);
+    }
+
+    /// Ends the exclusive use that [`begin_making`](Node::begin_making) began, and lets the key find the value. No
+    /// other call changed the state meanwhile, so that it is stored and not exchanged.
+    ///
+    /// # Safety
+    ///
+    /// The caller has that use, and has none afterwards.
+    #[inline]
+    pub(super) unsafe fn end_making(&self, generation: u32) {
+        self.state.store(open(generation), Release);
     }
 
     /// Turns the exclusive use of the caller into a shared one, and lets the key find the value.
@@ -132,7 +161,8 @@ impl<T> Node<T> {
     pub(super) fn begin(&self, generation: u32) -> bool {
         let none = open(generation);
         let mut state = self.state.load(Relaxed);
-        while state & !COUNT == none && state & COUNT != COUNT {
+        // Both are the same above the count, and the count is not the greatest: one comparison for both.
+        while state ^ none < COUNT {
             match self.state.compare_exchange_weak(state, state + 1, Acquire, Relaxed) {
                 Ok(_) => return true,
                 Err(now) => state = now,
@@ -266,15 +296,34 @@ mod tests {
     }
 
     #[test]
+    fn a_value_that_is_made_is_neither_found_nor_removed() {
+        let node = node();
+        node.begin_making(|| 'a');
+        assert!(!node.begin(7) && node.remove(7) == Removal::Nothing);
+        // SAFETY: the exclusive use is this test's.
+        unsafe { node.end_making(7) };
+        assert!(node.begin(7) && !node.begin(8));
+        assert_eq!(node.remove(7), Removal::Marked);
+    }
+
+    #[test]
     fn a_place_that_is_in_use_is_not_filled() {
-        for removed in [false, true] {
+        let uses: [fn(&Node<char>); 4] = [
+            |node| node.fill(7, 'a'),
+            |node| node.begin_writing(7, || 'a'),
+            |node| node.begin_making(|| 'a'),
+            |node| {
+                node.fill(7, 'a');
+                assert_eq!(node.remove(7), Removal::Alone);
+            },
+        ];
+        for first in uses {
             let node = node();
-            node.fill(7, 'a');
-            assert!(!removed || node.remove(7) == Removal::Alone);
-            let filled = std::panic::catch_unwind(std::panic::AssertUnwindSafe(|| node.fill(8, 'b')));
-            assert!(filled.is_err());
-            let written = std::panic::catch_unwind(std::panic::AssertUnwindSafe(|| node.begin_writing(8, || 'b')));
-            assert!(written.is_err());
+            first(&node);
+            for second in uses {
+                let used = std::panic::catch_unwind(std::panic::AssertUnwindSafe(|| second(&node)));
+                assert!(used.is_err());
+            }
         }
     }
 

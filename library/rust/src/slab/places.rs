@@ -7,15 +7,16 @@ use std::alloc::{alloc_zeroed, dealloc, Layout};
 use std::ptr;
 use std::slice;
 use std::sync::atomic::Ordering::{AcqRel, Acquire, Relaxed};
-use std::sync::atomic::{AtomicPtr, AtomicU32};
+use std::sync::atomic::{AtomicPtr, AtomicUsize};
 
 type Page<T> = [Node<T>; SLOTS];
 
 /// The pages of one heap.
 struct Pages<T> {
-    // Of each shard 2 to the power of `bits`, or null before the heap has a key.
+    // The pages of each shard, one shard after the other. Null before the heap has a key.
     table: AtomicPtr<AtomicPtr<Page<T>>>,
-    bits: AtomicU32,
+    // How many pages a shard has.
+    of_shard: AtomicUsize,
 }
 
 /// The nodes of a slab.
@@ -36,32 +37,32 @@ fn zeroed<U>(layout: Layout) -> *mut U {
 }
 
 impl<T> Pages<T> {
-    fn layout(bits: u32) -> Option<Layout> {
-        Layout::array::<AtomicPtr<Page<T>>>((MOST_SHARDS as usize) << bits).ok()
+    fn layout(of_shard: usize) -> Option<Layout> {
+        Layout::array::<AtomicPtr<Page<T>>>(MOST_SHARDS as usize * of_shard).ok()
     }
 
-    // The entry of a page: None if the heap has no key yet, or no such page.
+    // Runs it with the entry of a page. None if the heap has no key yet, or no such page.
     #[inline]
-    fn entry(&self, number: u64) -> Option<&AtomicPtr<Page<T>>> {
+    fn entry<R>(&self, number: u64, act: impl FnOnce(&AtomicPtr<Page<T>>) -> R) -> Option<R> {
         let table = self.table.load(Acquire);
-        let bits = self.bits.load(Relaxed);
+        let of_shard = self.of_shard.load(Relaxed);
         let page = number::page(number);
-        if table.is_null() || page >> bits != 0 {
+        if table.is_null() || page >= of_shard {
             return None;
         }
         // SAFETY: the table has this many pages of each shard, and stays as long as `self`.
-        Some(unsafe { &*table.add((number::shard(number) as usize) << bits | page) })
+        Some(act(unsafe { &*table.add(number::shard(number) as usize * of_shard + page) }))
     }
 
-    // Allocates the table of a heap whose shards have 2 to the power of `bits` pages. None if memory is refused.
-    fn prepare(&self, bits: u32) -> Option<()> {
-        let layout = Self::layout(bits)?;
+    // Allocates the table of a heap whose shards have this many pages. None if memory is refused.
+    fn prepare(&self, of_shard: usize) -> Option<()> {
+        let layout = Self::layout(of_shard)?;
         let new: *mut AtomicPtr<Page<T>> = zeroed(layout);
         if new.is_null() {
             return None;
         }
         // All that prepare this heap store the same number.
-        self.bits.store(bits, Relaxed);
+        self.of_shard.store(of_shard, Relaxed);
         if self.table.compare_exchange(ptr::null_mut(), new, AcqRel, Relaxed).is_err() {
             // SAFETY: it was allocated here with this layout, and no other thread knows of it.
             unsafe { dealloc(new.cast(), layout) };
@@ -72,42 +73,33 @@ impl<T> Pages<T> {
 
 impl<T> Places<T> {
     pub(super) fn new() -> Places<T> {
-        let none = |_| Pages { table: AtomicPtr::new(ptr::null_mut()), bits: AtomicU32::new(0) };
+        let none = |_| Pages { table: AtomicPtr::new(ptr::null_mut()), of_shard: AtomicUsize::new(0) };
         Places { heaps: Box::new(std::array::from_fn(none)) }
     }
 
     /// The node of a number's place. None if no key of its page was ever issued.
     #[inline]
     pub(super) fn node(&self, number: u64) -> Option<&Node<T>> {
-        let page = self.heaps.get(number::heap(number))?.entry(number)?.load(Acquire);
+        let page = self.heaps.get(number::heap(number))?.entry(number, |entry| entry.load(Acquire))?;
         // SAFETY: a page that was published stays as long as `self`.
         unsafe { page.as_ref() }?.get(number::slot(number))
     }
 
-    /// The node of a number that was just issued, by a heap whose shards have 2 to the power of `bits` pages, which is
-    /// always the same for a heap. None if there is no such place, or memory is refused.
-    #[inline]
-    pub(super) fn issued(&self, number: u64, bits: impl FnOnce() -> Option<u32>) -> Option<&Node<T>> {
-        match self.node(number) {
-            Some(node) => Some(node),
-            None => self.allocate(number, bits()?),
-        }
-    }
-
-    #[cold]
-    fn allocate(&self, number: u64, bits: u32) -> Option<&Node<T>> {
+    /// The node of a number that was issued, after the nodes of its page are allocated. The shards of the number's heap
+    /// have `of_shard` pages, which is always the same. None if there is no such place, or memory is refused.
+    pub(super) fn allocate(&self, number: u64, of_shard: usize) -> Option<&Node<T>> {
         let pages = self.heaps.get(number::heap(number))?;
-        if pages.entry(number).is_none() {
-            pages.prepare(bits)?;
+        if pages.entry(number, |_| ()).is_none() {
+            pages.prepare(of_shard)?;
         }
-        let entry = pages.entry(number)?;
         // Zeroed memory is a page of nodes without values. It is not built on the stack, where large values have no
         // room.
         let new: *mut Page<T> = zeroed(Layout::new::<Page<T>>());
         if new.is_null() {
             return None;
         }
-        if entry.compare_exchange(ptr::null_mut(), new, AcqRel, Relaxed).is_err() {
+        let publish = |entry: &AtomicPtr<Page<T>>| entry.compare_exchange(ptr::null_mut(), new, AcqRel, Relaxed);
+        if !matches!(pages.entry(number, publish), Some(Ok(_))) {
             // SAFETY: it was allocated here with this layout, and no other thread knows of it.
             unsafe { dealloc(new.cast(), Layout::new::<Page<T>>()) };
         }
@@ -118,7 +110,7 @@ impl<T> Places<T> {
     fn pages_mut(&mut self) -> impl Iterator<Item = *mut Page<T>> + '_ {
         let tables = self.heaps.iter_mut().filter_map(|pages| {
             let table = *pages.table.get_mut();
-            let length = (MOST_SHARDS as usize) << *pages.bits.get_mut();
+            let length = MOST_SHARDS as usize * *pages.of_shard.get_mut();
             // SAFETY: a table has this many entries, and `&mut self` is the only way to them.
             (!table.is_null()).then(|| unsafe { slice::from_raw_parts_mut(table, length) })
         });
@@ -140,21 +132,11 @@ impl<T> Drop for Places<T> {
             unsafe { dealloc(page.cast(), Layout::new::<Page<T>>()) };
         }
         for pages in self.heaps.iter_mut() {
-            let (table, bits) = (*pages.table.get_mut(), *pages.bits.get_mut());
-            if let Some(layout) = Self::table_layout(table, bits) {
+            let (table, of_shard) = (*pages.table.get_mut(), *pages.of_shard.get_mut());
+            if let Some(layout) = Pages::<T>::layout(of_shard).filter(|_| !table.is_null()) {
                 // SAFETY: as above, for a table.
                 unsafe { dealloc(table.cast(), layout) };
             }
         }
-    }
-}
-
-impl<T> Places<T> {
-    // The layout of a table that was allocated.
-    fn table_layout(table: *mut AtomicPtr<Page<T>>, bits: u32) -> Option<Layout> {
-        if table.is_null() {
-            return None;
-        }
-        Pages::<T>::layout(bits)
     }
 }

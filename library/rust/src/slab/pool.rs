@@ -138,10 +138,7 @@ impl<T: Clear + Default, C: Config> Pool<T, C> {
     /// assert_eq!(*pool.get(key).expect("it is there"), "hello");
     /// ```
     pub fn create_with(&self, init: impl FnOnce(&mut T)) -> Option<usize> {
-        let mut guard = Unfinished(Some(self.create()?));
-        let value = guard.0.as_mut()?;
-        init(value);
-        Some(guard.0.take()?.key())
+        Some(self.store.vacant()?.make(T::default, init) as usize)
     }
 
     /// Returns a guard of the value of a key. None if the key has no value, or a guard may write it.
@@ -188,17 +185,6 @@ impl<T: Clear + Default, C: Config> Pool<T, C> {
     #[inline]
     pub fn clear(&self, key: usize) -> bool {
         self.store.remove(key as u64 & mask::<C>())
-    }
-}
-
-// Removes the key of a value whose initialisation panicked.
-struct Unfinished<'a, T: Clear + Default, C: Config>(Option<RefMut<'a, T, C>>);
-
-impl<T: Clear + Default, C: Config> Drop for Unfinished<'_, T, C> {
-    fn drop(&mut self) {
-        if let Some(guard) = self.0.take() {
-            guard.remove();
-        }
     }
 }
 

@@ -125,11 +125,6 @@ impl<'a, T: Clear + Default, C: Config> RefMut<'a, T, C> {
         unsafe { this.node.share() };
         Ref { key: this.key, node: this.node, pool: this.pool }
     }
-
-    // Removes the key, so that the value is cleared as the guard is dropped.
-    pub(super) fn remove(self) {
-        self.pool.clear(self.key);
-    }
 }
 
 impl<T: Clear + Default, C: Config> OwnedRef<T, C> {

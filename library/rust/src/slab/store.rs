@@ -57,6 +57,20 @@ impl<T, E: Ending<T>> Drop for Freed<'_, T, E> {
     }
 }
 
+// A value that is being made. If it is dropped, the value is ended and its place given back.
+struct Unfinished<'s, T, E: Ending<T>> {
+    store: &'s Store<T, E>,
+    node: &'s Node<T>,
+    number: u64,
+}
+
+impl<T, E: Ending<T>> Drop for Unfinished<'_, T, E> {
+    fn drop(&mut self) {
+        // SAFETY: one is made only of a node that is the caller's alone, and whose value is there.
+        unsafe { self.store.finish(self.node, self.number) };
+    }
+}
+
 impl<T, E: Ending<T>> Store<T, E> {
     pub(super) fn open(limits: Limits) -> Result<Store<T, E>, Error> {
         Ok(Store { places: Places::new(), members: Members::open(limits)?, ending: PhantomData })
@@ -66,13 +80,20 @@ impl<T, E: Ending<T>> Store<T, E> {
     #[inline]
     pub(super) fn vacant(&self) -> Option<Vacant<'_, T, E>> {
         let number = self.members.insert()?;
-        match self.places.issued(number, || self.members.page_bits(number)) {
+        match self.places.node(number) {
             Some(node) => Some(Vacant { store: self, node, number }),
-            None => {
-                self.members.remove(number);
-                None
-            }
+            None => self.vacant_in_new_page(number),
         }
+    }
+
+    // The same with a number that was issued as the first of its page.
+    #[cold]
+    fn vacant_in_new_page(&self, number: u64) -> Option<Vacant<'_, T, E>> {
+        let node = self.members.pages(number).and_then(|pages| self.places.allocate(number, pages));
+        if node.is_none() {
+            self.members.remove(number);
+        }
+        Some(Vacant { store: self, node: node?, number })
     }
 
     /// Becomes a user of a value.
@@ -92,7 +113,7 @@ impl<T, E: Ending<T>> Store<T, E> {
         // SAFETY: the caller is a user.
         if unsafe { node.end() } {
             // SAFETY: it was the last one.
-            unsafe { self.finish(node, number) };
+            unsafe { self.finish_late(node, number) };
         }
     }
 
@@ -106,15 +127,23 @@ impl<T, E: Ending<T>> Store<T, E> {
         // SAFETY: the caller has the exclusive use.
         if unsafe { node.end_writing() } {
             // SAFETY: it was the last user.
-            unsafe { self.finish(node, number) };
+            unsafe { self.finish_late(node, number) };
         }
     }
 
     // Ends the value of a node that is the caller's alone, and gives the place back.
+    #[inline]
     unsafe fn finish(&self, node: &Node<T>, number: u64) {
         let _freed = Freed { store: self, node, number };
         // SAFETY: the caller says so.
         unsafe { E::end(node.at()) };
+    }
+
+    // The same for the end of a guard. Few guards outlast their keys: the others do not carry its code.
+    #[cold]
+    unsafe fn finish_late(&self, node: &Node<T>, number: u64) {
+        // SAFETY: the caller says so.
+        unsafe { self.finish(node, number) };
     }
 
     /// Removes a key: whether this call did.
@@ -195,7 +224,24 @@ impl<'s, T, E: Ending<T>> Vacant<'s, T, E> {
         number
     }
 
+    /// Makes the value if the node has none, and lets `init` change it before its key finds it. If `init` panics, the
+    /// value is ended and the place given back.
+    #[inline]
+    pub(super) fn make(self, make: impl FnOnce() -> T, init: impl FnOnce(&mut T)) -> u64 {
+        self.node.begin_making(make);
+        let store = self.store;
+        let (node, number) = self.keep();
+        let unfinished = Unfinished { store, node, number };
+        // SAFETY: the exclusive use began above, and its value is there.
+        init(unsafe { &mut *node.at() });
+        std::mem::forget(unfinished);
+        // SAFETY: it is the same use, and the borrow of the value has ended.
+        unsafe { node.end_making(number::generation(number)) };
+        number
+    }
+
     /// Begins an exclusive use, whose value is made if the node has none.
+    #[inline]
     pub(super) fn write(self, make: impl FnOnce() -> T) -> (&'s Node<T>, u64) {
         self.node.begin_writing(number::generation(self.number), make);
         self.keep()
