@@ -45,7 +45,7 @@ static void refused(shardheap *heap, shardheap_pass *pass, uint64_t key, uint32_
     each_call_of_a_heap(heap, code);
     TRUE(misuses - before == 10 && last_misuse == code);
     each_call_of_a_pass(pass, key, code);
-    TRUE(misuses - before == 10 + 20 && last_misuse == code);
+    TRUE(misuses - before == 10 + 21 && last_misuse == code);
 }
 
 static void copied_and_moved(void) {

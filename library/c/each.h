@@ -43,7 +43,7 @@ static void each_call_of_a_pass(shardheap_pass *pass, uint64_t key, uint32_t ref
     shardheap_pass was = *pass;
     shardheap_receipt receipt = SHARDHEAP_INIT;
     shardheap_loaded batch[1] = {{key, 99, 66, {0}}};
-    uint64_t words[16] = {0}, length = 99, other = 77;
+    uint64_t words[16] = {0}, length = 99, other = 77, place = 44;
     uint32_t page = 55;
     IS(shardheap_give(pass), refused);
     IS(shardheap_get(pass, key), refused);
@@ -57,6 +57,7 @@ static void each_call_of_a_pass(shardheap_pass *pass, uint64_t key, uint32_t ref
     IS(shardheap_heed(pass, &receipt), refused);
     IS(shardheap_pages_left(pass, &other), refused);
     IS(shardheap_slots_out(pass, &other), refused);
+    IS(shardheap_next_own_key(pass, &place, &other), refused);
     IS(shardheap_adopt(pass, 0), refused);
     IS(shardheap_leave(pass), refused);
     IS(shardheap_collect(pass), refused);
@@ -66,7 +67,7 @@ static void each_call_of_a_pass(shardheap_pass *pass, uint64_t key, uint32_t ref
     IS(shardheap_pass_close(pass), refused);
     IS(shardheap_pass_lose(pass), refused);
     TRUE(memcmp(pass, &was, sizeof was) == 0);
-    TRUE(length == 99 && other == 77 && page == 55 && words[0] == 0);
+    TRUE(length == 99 && other == 77 && page == 55 && place == 44 && words[0] == 0);
     TRUE(batch[0].key == key && batch[0].length == 99 && batch[0].code == 66 && batch[0].words[0] == 0);
 }
 

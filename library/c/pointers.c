@@ -82,6 +82,9 @@ static void into_handles(shardheap *heap, shardheap_pass *pass, uint64_t key) {
     IS(shardheap_heed(pass, last), SHARDHEAP_OVERLAP);
     IS(shardheap_pages_left(pass, bytes), SHARDHEAP_OVERLAP);
     IS(shardheap_slots_out(pass, last), SHARDHEAP_OVERLAP);
+    IS(shardheap_next_own_key(pass, &length, &length), SHARDHEAP_OVERLAP);
+    IS(shardheap_next_own_key(pass, bytes, &length), SHARDHEAP_OVERLAP);
+    IS(shardheap_next_own_key(pass, &length, last), SHARDHEAP_OVERLAP);
     IS(shardheap_next_key(heap, &length, &length), SHARDHEAP_OVERLAP);
     IS(shardheap_next_key(heap, (void *)heap, &length), SHARDHEAP_OVERLAP);
     IS(shardheap_next_key(heap, &length, (void *)((char *)heap + 24)), SHARDHEAP_OVERLAP);

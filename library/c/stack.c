@@ -94,6 +94,7 @@ static void own_heed(void) { code = shardheap_heed(&owner, &receipt); }
 static void close_receipt(void) { shardheap_receipt_close(&receipt); }
 static void pages_left(void) { code = shardheap_pages_left(&owner, &number); }
 static void slots_out(void) { code = shardheap_slots_out(&owner, &number); }
+static void next_own_key(void) { code = shardheap_next_own_key(&owner, &place, &key); }
 static void next_key(void) { code = shardheap_next_key(&heap, &place, &key); }
 static void give(void) { code = shardheap_give(&pass); }
 static void close_pass(void) { code = shardheap_pass_close(&owner); }
@@ -138,6 +139,7 @@ static void receipts(void) {
     LONG_CALL(close_receipt);
     SHORT_CALL(pages_left);
     SHORT_CALL(slots_out);
+    for (code = 0, place = 0; code == SHARDHEAP_OK;) SHORT_CALL(next_own_key);
 }
 
 /* Fills the shard, empties it by another pass and by its owner, and fills it with longer values. */

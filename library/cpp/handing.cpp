@@ -202,11 +202,13 @@ TEST(what_is_empty_makes_no_receipt) {
     THROWS(pass.take_record<int>(key), empty);
     THROWS(shard.pages_left(), empty);
     THROWS(shard.slots_out(), empty);
+    THROWS(shard.keys().begin(), empty);
     THROWS(heap.keys().begin(), empty);
     IS(shard.try_receipt(receipt), empty);
     IS(shard.try_take(key, value), empty);
     IS(shard.try_pages_left(pages), empty);
     IS(shard.try_slots_out(slots), empty);
+    IS(shard.try_next_key(place, key), empty);
     IS(heap.try_next_key(place, key), empty);
     CHECK(place == 3 && key.number() == 5 && pages == 9 && slots == 9 && value.empty() && !receipt);
 }
@@ -279,6 +281,44 @@ TEST(how_full_a_shard_is) {
     CHECK(slots == 0 && pages == shard.pages_left());
 }
 
+TEST(keys_of_a_shard) {
+    for (const layout of : {layout::wide, layout::tagged, layout::deep, layout::tiny}) {
+        auto heap = gearlongan::heap::open(of, {2, 2, 2});
+        auto shard = heap.take().adopt(1);
+        auto other = heap.take().adopt(0);
+        CHECK(shard.keys().begin() == shard.keys().end());
+        CHECK(other.insert({1}).number() != 0); // (a key of another shard)
+        std::set<gearlongan::key> kept;
+        for (std::uint64_t at = 0; at < 60; at++) {
+            const auto last = at % 2 ? shard.insert({at}) : shard.insert(std::array<std::uint64_t, 16>{at});
+            if (at % 3) kept.insert(last);
+            else CHECK(at % 2 ? shard.remove(last) : other.remove(last));
+        }
+        std::set<gearlongan::key> found;
+        for (const gearlongan::key it : shard.keys()) {
+            CHECK(found.insert(it).second);
+            CHECK(shard.load(it));
+        }
+        CHECK(found == kept);
+        // What is removed meanwhile is not found: here each key but the first.
+        auto it = shard.keys().begin();
+        for (const auto &key : kept)
+            if (key != *it) CHECK(other.remove(key));
+        CHECK(++it == shard.keys().end());
+        // With 16 holds there is no room for that which a walk takes for a moment.
+        std::vector<gearlongan::guard> guards;
+        for (int at = 0; at < 4; at++) {
+            const auto key = shard.insert({1});
+            for (int hold = 0; hold < 4; hold++) guards.push_back(shard.get(key));
+        }
+        std::uint64_t place = 0;
+        gearlongan::key key(5);
+        IS(shard.try_next_key(place, key), holds_full);
+        THROWS(shard.keys().begin(), holds_full);
+        CHECK(place == 0 && key.number() == 5);
+    }
+}
+
 TEST(keys_of_a_gathered_heap) {
     for (const layout of : {layout::wide, layout::tagged, layout::deep, layout::tiny}) {
         auto heap = gearlongan::heap::open(of, {2, 2, 2});
@@ -342,8 +382,10 @@ static_assert(std::is_nothrow_move_constructible_v<gearlongan::receipt> &&
               std::is_nothrow_move_assignable_v<gearlongan::receipt>);
 static_assert(!std::is_copy_constructible_v<gearlongan::receipt> && !std::is_copy_assignable_v<gearlongan::receipt>);
 static_assert(noexcept(std::declval<gearlongan::heap &>().keys()));
+static_assert(noexcept(std::declval<gearlongan::shard &>().keys()));
 #if defined(__cpp_lib_ranges)
 static_assert(std::input_iterator<gearlongan::key_range::iterator>);
+static_assert(std::input_iterator<gearlongan::shard_key_range::iterator>);
 static_assert(std::ranges::input_range<gearlongan::key_range>);
 #endif
 #ifndef SHARDHEAP_CHECKED

@@ -58,6 +58,12 @@ void one_round(gearlongan::heap &heap) {
     IS_OK(shard.try_pages_left(pages));
     IS_OK(shard.try_slots_out(slots));
     CHECK(pages == 6 && slots == 2);
+    std::uint64_t place = 0;
+    gearlongan::key first, second, none;
+    IS_OK(shard.try_next_key(place, first));
+    IS_OK(shard.try_next_key(place, second));
+    CHECK(shard.try_next_key(place, none) == errc::no_key && first != second);
+    CHECK((first == key || first == record) && (second == key || second == record));
     CHECK(shard.try_take_record(key, read) == errc::wrong_size);
     IS_OK(shard.try_take_record(record, read));
     CHECK(shard.try_take_record(record, read) == errc::gone);

@@ -40,9 +40,10 @@ void refused(gearlongan::heap &heap, gearlongan::pass &pass, gearlongan::shard &
     gearlongan::guard late = heap.take().get(key); //~ get
     gearlongan::guard later = heap.take().find(key); //~ find
 
-    // Nor does a range of keys outlive that of its heap.
+    // Nor does a range of keys outlive that of its heap or its shard.
     (void)heap.share().keys(); //~ keys
     (void)gearlongan::key_range(); //~ no matching
+    (void)heap.take().adopt(0).keys(); //~ keys
 
     // What must not be dropped.
     pass.get(key); //~ nodiscard
@@ -54,6 +55,7 @@ void refused(gearlongan::heap &heap, gearlongan::pass &pass, gearlongan::shard &
     shard.pages_left(); //~ nodiscard
     shard.slots_out(); //~ nodiscard
     heap.keys(); //~ nodiscard
+    shard.keys(); //~ nodiscard
     heap.take(); //~ nodiscard
     std::move(pass).adopt(0); //~ nodiscard
     std::move(shard).leave(); //~ nodiscard
@@ -78,6 +80,7 @@ void refused(gearlongan::heap &heap, gearlongan::pass &pass, gearlongan::shard &
     (void)constant.receipt(); //~ const
     (void)static_cast<const gearlongan::shard &>(shard).slots_out(); //~ const
     (void)static_cast<const gearlongan::heap &>(heap).keys(); //~ const
+    (void)static_cast<const gearlongan::shard &>(shard).keys(); //~ const
     static_cast<const gearlongan::heap &>(heap).take(); //~ const
     (void)constant, (void)heap, (void)shard;
 }

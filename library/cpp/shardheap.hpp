@@ -55,6 +55,7 @@
 #include "gearlongan/heaps.hpp"
 #include "gearlongan/keys.hpp"
 #include "gearlongan/passes.hpp"
+#include "gearlongan/ranges.hpp"
 #include "gearlongan/readers.hpp"
 #include "gearlongan/receipts.hpp"
 #include "gearlongan/values.hpp"

@@ -43,9 +43,9 @@
 
    SIGNALS AND STACK. A signal handler is to the calls like another thread: it needs handles that nothing else uses.
    Calls that take and give back no memory are async-signal-safe then: get, release, read, load, load_each, remove,
-   collect, passes, tag, untag, take_value, pages_left and slots_out. The others are not, because they call malloc,
-   realloc or free. The head of each section below has the most stack that its calls took in a test, with the allocator
-   of glibc.
+   collect, passes, tag, untag, take_value, pages_left, slots_out and next_own_key. The others are not, because they
+   call malloc, realloc or free. The head of each section below has the most stack that its calls took in a test, with
+   the allocator of glibc.
 
    ORDER. The calls of all passes are one history of the map, in which those of each pass are in the order in which it
    made them. Between two passes only receipts order calls. When a thread inserts a key and hands it to another without
@@ -256,6 +256,7 @@ uint32_t shardheap_raw_load_each(shardheap_pass *pass, shardheap_loaded *loads, 
 uint32_t shardheap_raw_take_value(shardheap_pass *pass, uint64_t key, uint64_t *words, size_t room, uint64_t *length);
 uint32_t shardheap_raw_pages_left(shardheap_pass *pass, uint64_t *pages);
 uint32_t shardheap_raw_slots_out(shardheap_pass *pass, uint64_t *slots);
+uint32_t shardheap_raw_next_own_key(shardheap_pass *pass, uint64_t *place, uint64_t *key);
 uint32_t shardheap_raw_receipt_make(shardheap_pass *pass, shardheap_receipt *receipt);
 uint32_t shardheap_raw_heed(shardheap_pass *pass, shardheap_receipt *receipt);
 void shardheap_raw_receipt_close(shardheap_receipt *receipt);
@@ -266,6 +267,13 @@ void shardheap_raw_receipt_close(shardheap_receipt *receipt);
 static inline bool shardheap_overlap(const void *one, size_t size, const void *other, size_t length) {
     uintptr_t a = (uintptr_t)one, b = (uintptr_t)other;
     return size != 0 && (b - a < size || a - b < length);
+}
+
+/* Whether the handle, the place and the key of a walk over keys overlap. */
+static inline bool shardheap_walk_overlaps(const void *handle, size_t size, const uint64_t *place,
+                                           const uint64_t *key) {
+    return shardheap_overlap(place, sizeof *place, key, sizeof *key) ||
+           shardheap_overlap(place, sizeof *place, handle, size) || shardheap_overlap(key, sizeof *key, handle, size);
 }
 
 /* Whether a handle with this word is an empty one that began as zeroed bytes: the library's part is 9 of them. */
@@ -497,10 +505,7 @@ static inline uint32_t shardheap_totals(shardheap *heap, shardheap_sums *told) {
        while (shardheap_next_key(&heap, &place, &key) == SHARDHEAP_OK) count++; */
 static inline uint32_t shardheap_next_key(shardheap *heap, uint64_t *place, uint64_t *key) {
     if (!heap || !place || !key) return SHARDHEAP_NULL;
-    if (shardheap_overlap(place, sizeof *place, key, sizeof *key) ||
-        shardheap_overlap(place, sizeof *place, heap, sizeof *heap) ||
-        shardheap_overlap(key, sizeof *key, heap, sizeof *heap))
-        return SHARDHEAP_OVERLAP;
+    if (shardheap_walk_overlaps(heap, sizeof *heap, place, key)) return SHARDHEAP_OVERLAP;
     uint32_t code = shardheap_begin_heap(heap);
     if (code != SHARDHEAP_OK) return code;
     code = shardheap_raw_next_key(heap, place, key);
@@ -726,8 +731,8 @@ static inline void shardheap_receipt_close(shardheap_receipt *receipt) {
 /* ---- The owner of a shard ----
 
    Threads: as of a pass. A shard goes to another owner, of any thread, by a leave and an adopt. Signals: only
-   collect, pages_left and slots_out are async-signal-safe, on a pass that nothing else uses. Stack: measured at most 8
-   KiB, and 1 KiB of these three. */
+   collect, pages_left, slots_out and next_own_key are async-signal-safe, on a pass that nothing else uses. Stack:
+   measured at most 8 KiB, and 1 KiB of these four. */
 
 /* Makes the pass the owner of a shard, by its number from 0. NO_SHARD, TAKEN, MEMORY, EMPTY.
 
@@ -780,6 +785,26 @@ static inline uint32_t shardheap_pages_left(shardheap_pass *pass, uint64_t *page
        code = shardheap_slots_out(&pass, &count); */
 static inline uint32_t shardheap_slots_out(shardheap_pass *pass, uint64_t *slots) {
     return shardheap_know(shardheap_raw_slots_out, pass, slots);
+}
+
+/* Finds the first live key of the shard at the place `*place` or behind it, and writes it to `key`. Places are numbers
+   of slots in the shard, 48 for a page, and `*place` becomes the one behind that of the key. So a loop that begins at
+   place 0 gets the keys of the shard in the order of their places, each at most once, while other passes go on. The key
+   was live at a moment of the call, at which it was got and released; another pass may remove it at once. NO_KEY, if no
+   live key was found; NO_SHARD, HOLDS_FULL, EMPTY, OVERLAP.
+   A key that is live from the loop's begin to its end is found: that is tested, and not proved. A key that is inserted
+   meanwhile may be found or not.
+
+       uint64_t next = 0;
+       while (shardheap_next_own_key(&pass, &next, &key) == SHARDHEAP_OK) count++; */
+static inline uint32_t shardheap_next_own_key(shardheap_pass *pass, uint64_t *place, uint64_t *key) {
+    if (!pass || !place || !key) return SHARDHEAP_NULL;
+    if (shardheap_walk_overlaps(pass, sizeof *pass, place, key)) return SHARDHEAP_OVERLAP;
+    uint32_t code = shardheap_begin_pass(pass);
+    if (code != SHARDHEAP_OK) return code;
+    code = shardheap_raw_next_own_key(pass, place, key);
+    if (code == SHARDHEAP_OK) *key = shardheap_marked(pass->seal.mark, *key);
+    return shardheap_end(&pass->seal, code);
 }
 
 /* Gives a page of the shard to values of `words` words, 0 to 16, and writes its number to `page`. NO_SHARD, TOO_LONG,

@@ -12,6 +12,7 @@ pub mod heap_handle;
 mod keys;
 pub mod member;
 mod moving;
+mod own_keys;
 pub mod pass_handle;
 pub mod receipt_handle;
 pub mod receipts;

@@ -112,6 +112,16 @@
 //! pass has at most 16 holds. An insert into a full shard is refused as `Full`: leave the shard, and adopt another.
 //! `pages_left` and `slots_out` say how full a shard is.
 //!
+//! An owner finds the live keys of its shard by `next_own_key`, one after the other, while other passes go on. Each key
+//! was live at a moment of its call. That a key which nobody removes is found is tested, and no contract says it:
+//!
+//! ```text
+//! let mut place = 0;
+//! while let Some(next) = next_own_key(&mut owner, place)? {
+//!     place = next.behind;                // next.key was got and released
+//! }
+//! ```
+//!
 //! Only the pass that took a hold can release it. A pass that is dropped leaves its holds, so that their slots are
 //! never used again once their keys are removed. A shard that is dropped stays taken. After either, `gather` never
 //! finds all passes.

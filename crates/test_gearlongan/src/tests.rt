@@ -9,6 +9,7 @@ mod reading;
 mod shaping;
 mod stepping;
 mod storing;
+mod walking;
 mod working;
 
 use gearlongan::{Heap, Pass, Refusal, Seats, Shape, Shard, Wide};

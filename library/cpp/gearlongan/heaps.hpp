@@ -3,10 +3,9 @@
 #define GEARLONGAN_HEAPS_HPP
 
 #include "gearlongan/passes.hpp"
+#include "gearlongan/ranges.hpp"
 
-#include <cstddef>
 #include <cstdint>
-#include <iterator>
 
 namespace gearlongan {
 
@@ -34,61 +33,6 @@ struct room {
 /// The slots of a page, and those of all pages (shardheap_page, shardheap_sums).
 using page_accounts = ::shardheap_page;
 using totals = ::shardheap_sums;
-
-#if defined(__cpp_exceptions)
-class heap;
-
-/// The keys of a heap whose passes were gathered (heap::keys), as a range of input iterators. It and its iterators
-/// refer to the heap object, which is not moved or destroyed while they are used. A begin and an increment are a
-/// heap::try_next_key, and throw what that refuses, except no_key: that is the end.
-///
-///     shard.close();
-///     pass.close();
-///     heap.gather();
-///     const gearlongan::key_range range = heap.keys();
-///     assert(std::vector<gearlongan::key>(range.begin(), range.end()) == std::vector<gearlongan::key>{key});
-class key_range {
-public:
-    class iterator {
-    public:
-        using iterator_category = std::input_iterator_tag;
-        using value_type = key;
-        using difference_type = std::ptrdiff_t;
-        using pointer = const key *;
-        using reference = const key &;
-
-        iterator() noexcept = default; ///< The end.
-        [[nodiscard]] reference operator*() const noexcept { return key_; }
-        [[nodiscard]] pointer operator->() const noexcept { return &key_; }
-        inline iterator &operator++();
-        iterator operator++(int) {
-            iterator before = *this;
-            ++*this;
-            return before;
-        }
-
-        friend bool operator==(const iterator &a, const iterator &b) noexcept {
-            return a.of_ == b.of_ && a.place_ == b.place_;
-        }
-        friend bool operator!=(const iterator &a, const iterator &b) noexcept { return !(a == b); }
-
-    private:
-        friend class key_range;
-        explicit iterator(heap &of) : of_(&of) { ++*this; }
-        heap *of_ = nullptr;
-        std::uint64_t place_ = 0;
-        key key_;
-    };
-
-    [[nodiscard]] iterator begin() const { return iterator(*of_); }
-    [[nodiscard]] iterator end() const noexcept { return {}; }
-
-private:
-    friend class heap;
-    explicit key_range(heap &of) noexcept : of_(&of) {}
-    heap *of_;
-};
-#endif
 
 /// A heap, of which threads take passes. A heap object is used by one call at a time: each thread takes passes under a
 /// lock, or by an object of its own, which `share` makes. The heap goes with the last of these objects and its passes.
@@ -256,15 +200,6 @@ public:
 private:
     ::shardheap raw_ = SHARDHEAP_INIT;
 };
-
-#if defined(__cpp_exceptions)
-inline key_range::iterator &key_range::iterator::operator++() {
-    const errc code = of_->try_next_key(place_, key_);
-    if (code == errc::no_key) return *this = iterator();
-    detail::check(code);
-    return *this;
-}
-#endif
 
 } // namespace gearlongan
 

@@ -2,6 +2,7 @@
 #ifndef GEARLONGAN_PASSES_HPP
 #define GEARLONGAN_PASSES_HPP
 
+#include "gearlongan/ranges.hpp"
 #include "gearlongan/readers.hpp"
 
 #include <cstddef>
@@ -104,6 +105,22 @@ public:
         return static_cast<errc>(shardheap_slots_out(&raw_, &slots));
     }
 
+    /// Finds the first live key of the shard at a place or behind it. Places are numbers of slots in the shard, and
+    /// `place` becomes the one behind that of the key. A loop that begins at place 0 gets the keys in the order of
+    /// their places, each at most once, while other passes go on. The key was live at a moment of the call. no_key, if
+    /// no live key was found; holds_full.
+    ///
+    ///     std::uint64_t place = 0;
+    ///     gearlongan::key next;
+    ///     assert(shard.try_next_key(place, next) == gearlongan::errc::ok && next == key);
+    ///     assert(shard.try_next_key(place, next) == gearlongan::errc::no_key);
+    errc try_next_key(std::uint64_t &place, key &into) noexcept {
+        std::uint64_t number = 0;
+        const auto code = static_cast<errc>(shardheap_next_own_key(&raw_, &place, &number));
+        if (code == errc::ok) into = key(number);
+        return code;
+    }
+
     /// Gives a page of the shard to values of `words` words, 0 to 16, and writes its number to `page`. too_long, full,
     /// memory.
     ///
@@ -170,6 +187,12 @@ public:
         detail::check(try_slots_out(slots));
         return slots;
     }
+
+    /// The live keys of the shard, each at most once. The begin and an increment of the range throw holds_full.
+    ///
+    ///     for (const gearlongan::key it : shard.keys()) shard.remove(it);
+    ///     assert(!pass.load(key));
+    [[nodiscard]] shard_key_range keys() & noexcept { return shard_key_range(*this); }
 
     /// Gives a page to values of `words` words, and returns its number.
     ///

@@ -34,6 +34,14 @@ impl Raw {
 /// The code of the library for no further key.
 const NO_KEY: u32 = 28;
 
+/// What a code means of a call that writes the next key.
+fn next_told(code: u32, key: u64) -> Result<Option<Key>, Error> {
+    match code {
+        NO_KEY => Ok(None),
+        code => told(code).map(|()| Some(Key::from(key))),
+    }
+}
+
 /// What C's `shardheap_page` is: used, class, live, marked, retired, queued.
 type PageWords = [u32; 6];
 
@@ -90,6 +98,7 @@ extern "C" {
     fn shardheap_raw_take_value(pass: *mut Raw, key: u64, words: *mut u64, room: usize, length: *mut u64) -> u32;
     fn shardheap_raw_pages_left(pass: *mut Raw, pages: *mut u64) -> u32;
     fn shardheap_raw_slots_out(pass: *mut Raw, slots: *mut u64) -> u32;
+    fn shardheap_raw_next_own_key(pass: *mut Raw, place: *mut u64, key: *mut u64) -> u32;
     fn shardheap_raw_receipt_make(pass: *mut Raw, receipt: *mut Raw) -> u32;
     fn shardheap_raw_heed(pass: *mut Raw, receipt: *mut Raw) -> u32;
     fn shardheap_raw_receipt_close(receipt: *mut Raw);
@@ -183,10 +192,8 @@ impl HeapHandle {
     pub(crate) fn next_key(&self, place: &mut u64) -> Result<Option<Key>, Error> {
         let mut key = 0;
         // SAFETY: as in `passes`.
-        match unsafe { shardheap_raw_next_key(&mut *self.lock(), place, &mut key) } {
-            NO_KEY => Ok(None),
-            code => told(code).map(|()| Some(Key::from(key))),
-        }
+        let code = unsafe { shardheap_raw_next_key(&mut *self.lock(), place, &mut key) };
+        next_told(code, key)
     }
 }
 
@@ -387,6 +394,14 @@ impl PassHandle {
         // SAFETY: as in `get`.
         told(unsafe { shardheap_raw_slots_out(self.at(), &mut slots) })?;
         Ok(slots)
+    }
+
+    /// The first live key of the shard from a place on, which becomes the place behind it.
+    pub(crate) fn next_own_key(&self, place: &mut u64) -> Result<Option<Key>, Error> {
+        let mut key = 0;
+        // SAFETY: as in `get`.
+        let code = unsafe { shardheap_raw_next_own_key(self.at(), place, &mut key) };
+        next_told(code, key)
     }
 
     pub(crate) fn adopt(&self, shard: u32) -> Result<(), Error> {

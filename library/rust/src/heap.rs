@@ -2,9 +2,8 @@
 use crate::accounts::{PageAccounts, Totals};
 use crate::error::Error;
 use crate::ffi::HeapHandle;
-use crate::key::Key;
+use crate::keys::Keys;
 use crate::pass::Pass;
-use std::iter::FusedIterator;
 
 /// How many shards and pages a heap may have, and so what its keys look like. A page has 48 slots for values of a word,
 /// and fewer for longer ones, down to 3 for 16 words; 8 pages are a segment.
@@ -278,33 +277,6 @@ impl Heap {
     /// # Ok::<(), Error>(())
     /// ```
     pub fn keys(&self) -> Keys<'_> {
-        Keys { handle: &self.handle, place: Some(0) }
+        Keys::of(&self.handle)
     }
 }
-
-/// The keys of a heap: see [`Heap::keys`].
-#[derive(Debug)]
-#[must_use = "an iterator does nothing until it is used"]
-pub struct Keys<'a> {
-    handle: &'a HeapHandle,
-    // Where the next key is looked for, if there may be one.
-    place: Option<u64>,
-}
-
-impl Iterator for Keys<'_> {
-    type Item = Result<Key, Error>;
-
-    fn next(&mut self) -> Option<Result<Key, Error>> {
-        let mut place = self.place.take()?;
-        match self.handle.next_key(&mut place) {
-            Ok(None) => None,
-            Ok(Some(key)) => {
-                self.place = Some(place);
-                Some(Ok(key))
-            }
-            Err(error) => Some(Err(error)),
-        }
-    }
-}
-
-impl FusedIterator for Keys<'_> {}

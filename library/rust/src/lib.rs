@@ -73,6 +73,7 @@ mod heap;
 #[cfg(feature = "record")]
 pub mod history;
 mod key;
+mod keys;
 mod pass;
 mod receipt;
 mod record;
@@ -95,8 +96,9 @@ mod readme {}
 pub use accounts::{PageAccounts, Totals};
 pub use error::{AdoptError, Error, LeaveError};
 pub use guard::Guard;
-pub use heap::{Heap, Keys, Layout, Room, Shape};
+pub use heap::{Heap, Layout, Room, Shape};
 pub use key::Key;
+pub use keys::{Keys, ShardKeys};
 pub use pass::Pass;
 pub use receipt::Receipt;
 pub use record::Record;

@@ -1,6 +1,7 @@
 //! Shards.
 use crate::error::{Error, LeaveError};
 use crate::key::Key;
+use crate::keys::ShardKeys;
 use crate::pass::Pass;
 use crate::record::{with_words, Record};
 use std::ops::Deref;
@@ -172,6 +173,30 @@ impl Shard {
     /// ```
     pub fn slots_out(&self) -> Result<u64, Error> {
         self.pass.handle.slots_out()
+    }
+
+    /// The live keys of the shard, one after the other, while other passes go on: in the order of their slots, each at
+    /// most once. Each key was live at a moment of the call that returned it. A key that is inserted or removed
+    /// meanwhile may be among them or not.
+    ///
+    /// A recording (feature `record`) has nothing of these calls.
+    ///
+    /// # Errors
+    ///
+    /// The iterator returns [`Error::HoldsFull`], and then nothing more, if the pass has 16 guards: it holds each key for
+    /// a moment.
+    ///
+    /// ```
+    /// # use gearlongan::{Error, Heap, Key, Layout, Shape};
+    /// # let heap = Heap::open(Layout::Wide, Shape { shards: 1, segments: 1, passes: 2 })?;
+    /// let (shard, pass) = (heap.take()?.adopt(0)?, heap.take()?);
+    /// let (first, second) = (shard.insert(&[7])?, shard.insert(&[8])?);
+    /// pass.remove(first)?;
+    /// assert_eq!(shard.keys().collect::<Result<Vec<Key>, Error>>()?, [second]);
+    /// # Ok::<(), Error>(())
+    /// ```
+    pub fn keys(&self) -> ShardKeys<'_> {
+        ShardKeys::of(&self.pass.handle)
     }
 
     /// Leaves the shard, with all that is in it, to the pass that adopts it next, and gets the pass back.

@@ -317,6 +317,11 @@ uint32_t shardheap_raw_slots_out(shardheap_pass *pass, uint64_t *slots) {
     abort();
 }
 
+uint32_t shardheap_raw_next_own_key(shardheap_pass *pass, uint64_t *place, uint64_t *key) {
+    (void)pass, (void)place, (void)key;
+    abort();
+}
+
 uint32_t shardheap_raw_receipt_make(shardheap_pass *pass, shardheap_receipt *receipt) {
     (void)pass, (void)receipt;
     abort();

@@ -115,6 +115,54 @@ fn a_shard_knows_how_full_it_is() {
 }
 
 #[test]
+fn the_keys_of_a_shard_come_once_each() {
+    for layout in LAYOUTS {
+        let heap = Heap::open(layout, SMALL).expect("it opens");
+        let shard = heap.take().expect("a pass is at home").adopt(1).expect("it has no owner");
+        let other = heap.take().expect("another is at home").adopt(0).expect("it has no owner");
+        assert_eq!(shard.keys().next(), None);
+        other.insert(&[1]).expect("there is room");
+        let mut kept = Vec::new();
+        for at in 0..60 {
+            let key = shard.insert(&[at; 16][..1 + at as usize % 2 * 15]).expect("there is room");
+            match at % 3 {
+                0 => other.remove(key).expect("it is there"),
+                1 => shard.remove(key).expect("it is there"),
+                _ => kept.push(key),
+            }
+        }
+        let mut found = shard.keys().collect::<Result<Vec<Key>, Error>>().expect("there is room for a hold");
+        found.sort_unstable();
+        kept.sort_unstable();
+        assert_eq!(found, kept);
+        // What is removed during the walk is not found any more.
+        let mut keys = shard.keys();
+        let first = keys.next().expect("there are some").expect("there is room for a hold");
+        for key in kept.iter().filter(|key| **key != first) {
+            other.remove(*key).expect("it is there");
+        }
+        assert_eq!((keys.next(), keys.next()), (None, None));
+        shard.remove(first).expect("no hold was left on it");
+        assert_eq!(shard.keys().next(), None);
+    }
+}
+
+#[test]
+fn a_walk_takes_a_hold_for_a_moment() {
+    let (shard, pass) = two(Layout::Tiny);
+    let crowded = shard.insert(&[1]).expect("there is room");
+    let limit = [(); 4].map(|()| pass.get(crowded).expect("it is there"));
+    assert_eq!(shard.get(crowded).map(|_| ()), Err(Error::Crowded));
+    assert_eq!(shard.keys().collect::<Vec<_>>(), [Ok(crowded)]);
+    drop(limit);
+    let keys = [(); 4].map(|()| shard.insert(&[1]).expect("there is room"));
+    let guards = [0, 1, 2, 3].map(|at| [(); 4].map(|()| shard.get(keys[at]).expect("it is there")));
+    assert_eq!(shard.keys().collect::<Vec<_>>(), [Err(Error::HoldsFull)]);
+    drop(guards);
+    assert_eq!(shard.keys().count(), 5);
+}
+
+#[test]
 fn the_keys_of_a_heap_come_once_each() {
     for layout in LAYOUTS {
         let heap = Heap::open(layout, SMALL).expect("it opens");

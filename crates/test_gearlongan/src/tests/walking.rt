@@ -1,0 +1,84 @@
+//! Tests of the keys of a shard, one after the other, as its owner finds them.
+use super::{agree, opened, owner_and_reader};
+use gearlongan::{Hold, NextKey, Pass, Reader, Refusal, Shard, Value, Wide, next_own_key};
+use std::process::Abort;
+
+// The place of a key in its shard, by the format of keys of layout `Wide`: 48 for each page before its own, and its
+// slot.
+fn place_of(key: u64) -> u64 {
+    key / 64 % 1024 * 48 + key % 64
+}
+
+// Asserts that the walk goes on with this key, and returns where it continues.
+fn finds(rt: &impl Abort, owner: &mut Shard<'_, Wide>, from: u64, key: u64) -> u64 {
+    let next = NextKey {
+        key,
+        behind: place_of(key) + 1,
+    };
+    agree(rt, next_own_key(owner, from), Ok(Some(next)));
+    next.behind
+}
+
+// Asserts that the walk ends.
+fn ends(rt: &impl Abort, owner: &mut Shard<'_, Wide>, from: u64) {
+    agree(rt, next_own_key(owner, from), Ok(None));
+}
+
+// Walks over two values of one word and one of two words, which is on the next page.
+fn walk_over_three(rt: &impl Abort, owner: &mut Shard<'_, Wide>) -> (u64, u64, u64) {
+    let first = owner.insert(&Value::from(7)).expect(rt, "a key");
+    let second = owner.insert(&Value::from(8)).expect(rt, "a key");
+    let third = owner.insert(&Value::of([7, 8])).expect(rt, "a key");
+    let place = finds(rt, owner, 0, first);
+    let place = finds(rt, owner, place, second);
+    let place = finds(rt, owner, place, third);
+    ends(rt, owner, place);
+    (first, second, third)
+}
+
+// Walks again after another pass removed the second key and the owner the first one.
+fn walk_over_the_last(
+    rt: &impl Abort,
+    owner: &mut Shard<'_, Wide>,
+    reader: &mut Pass<'_, Wide>,
+    keys: (u64, u64, u64),
+) {
+    let (first, second, third) = keys;
+    let place = finds(rt, owner, 0, first);
+    agree(rt, reader.remove(second), Ok(()));
+    let place = finds(rt, owner, place, third);
+    ends(rt, owner, place);
+    agree(rt, owner.remove(first), Ok(()));
+    finds(rt, owner, 0, third);
+}
+
+#[test]
+fn an_owner_finds_the_keys_of_its_shard(rt: HostRuntime) {
+    let (heap, seats) = opened(&rt, rt.alloc(), 2);
+    let (mut owner, mut reader) = owner_and_reader(&rt, rt.alloc(), &heap, seats);
+    ends(&rt, &mut owner, 0);
+    let keys = walk_over_three(&rt, &mut owner);
+    walk_over_the_last(&rt, &mut owner, &mut reader, keys);
+    ends(&rt, &mut owner, u64::MAX);
+}
+
+// Asserts that a walk finds the key and leaves no hold on it, except while the owner has 16 of its own.
+fn walk_with_holds(rt: &impl Abort, owner: &mut Shard<'_, Wide>, key: u64) {
+    for _ in 0..16 {
+        agree(rt, owner.get(key), Ok(Hold { key }));
+    }
+    agree(rt, next_own_key(owner, 0), Err(Refusal::HoldsFull));
+    for _ in 0..16 {
+        agree(rt, owner.release(Hold { key }), Ok(()));
+    }
+    finds(rt, owner, 0, key);
+    agree(rt, owner.release(Hold { key }), Err(Refusal::NotHeld));
+}
+
+#[test]
+fn a_walk_needs_room_for_a_hold(rt: HostRuntime) {
+    let (heap, seats) = opened(&rt, rt.alloc(), 2);
+    let (mut owner, _) = owner_and_reader(&rt, rt.alloc(), &heap, seats);
+    let key = owner.insert(&Value::from(7)).expect(&rt, "a key");
+    walk_with_holds(&rt, &mut owner, key);
+}
