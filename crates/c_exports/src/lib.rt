@@ -16,4 +16,6 @@ pub mod passes;
 pub mod receipts;
 pub mod tags;
 pub mod taking;
+#[cfg(test)]
+mod tests;
 pub mod values;
