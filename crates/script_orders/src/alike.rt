@@ -1,4 +1,7 @@
 //! Which states are alike.
+ghost use Rattle.std.specs.Prelude.{◌↔◌, IsTrue};
+ghost use Rattle.script_orders.specs.States.{AreAlike};
+
 use crate::lane::Lane;
 use crate::state::State;
 
@@ -29,6 +32,8 @@ pub fn mark_of(state: &State) -> u64 {
 
 /// Whether the states go on alike: they have the same words, and each pass did the same, found the same and was replied
 /// the same.
-pub fn are_alike(state: &State, other: &State) -> bool {
+pub fn are_alike(state: &State, other: &State) -> bool
+    ensures { IsTrue result ↔ AreAlike state.now other.now }
+{
     state.lanes == other.lanes && state.words == other.words
 }

@@ -1,4 +1,6 @@
 //! What an exploration is asked, and what it finds.
+ghost use Rattle.std.specs.Prelude.{◌≡◌, ◌+◌, ◌-◌, ◌^◌, min};
+
 use sh_shape::Shape;
 use sh_step::Event;
 
@@ -78,8 +80,10 @@ impl Orders {
     /// None.
     pub const NONE: Orders = Orders { count: 0 };
 
-    /// These and those.
-    pub fn plus(self, other: Orders) -> Orders {
+    /// These and those: their sum, or 2^128 - 1 if it is greater.
+    pub fn plus(self, other: Orders) -> Orders
+        ensures { result.count ≡ min (self.count + other.count) (2 ^ 128 - 1) }
+    {
         Orders {
             count: self.count.saturating_add(other.count),
         }

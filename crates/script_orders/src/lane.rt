@@ -1,4 +1,7 @@
 //! What a pass did so far.
+ghost use Rattle.std.specs.Prelude.{◌≡◌, ◌+◌, ◌++◌, ◌<◌, OnOk, IfOk, map, replicate};
+ghost use Rattle.script_orders.specs.Lanes.{did, nothing, and_then};
+ghost use Rattle.script_orders.specs.Orders.{reply_line};
 
 use script_models::event_line::push_event;
 use sh_core::Outcome;
@@ -26,7 +29,9 @@ pub struct Lane {
 }
 
 // Adds the line of what came of an event, if it is a reply.
-fn push_reply(out: &mut Vec<u8>, event: &Event, outcome: &Outcome) -> Result<(), AllocError> {
+fn push_reply(out: &mut Vec<u8>, event: &Event, outcome: &Outcome) -> Result<(), AllocError>
+    ensures { OnOk result (out.new.items ≡ out.old.items ++ reply_line event.now outcome.now) }
+{
     match outcome {
         Outcome::Replied(_) => push_event(out, None, event.pass, event.action.kind(), outcome),
         Outcome::Moved | Outcome::Skipped => Ok(()),
@@ -35,7 +40,9 @@ fn push_reply(out: &mut Vec<u8>, event: &Event, outcome: &Outcome) -> Result<(),
 
 impl Lane {
     /// A pass that did nothing yet.
-    pub fn new(alloc: Global) -> Lane {
+    pub fn new(alloc: Global) -> Lane
+        ensures { did result ≡ nothing }
+    {
         Lane {
             behind: 0,
             story: Vec::new(alloc),
@@ -44,7 +51,9 @@ impl Lane {
     }
 
     /// The same again.
-    pub fn copy(&self, alloc: Global) -> Result<Lane, AllocError> {
+    pub fn copy(&self, alloc: Global) -> Result<Lane, AllocError>
+        ensures { IfOk result (λ lane. did lane ≡ did self.now) }
+    {
         Ok(Lane {
             behind: self.behind,
             story: Vec::from_slice(alloc, self.story.as_slice())?,
@@ -60,9 +69,12 @@ impl Lane {
         seen: u64,
         event: &Event,
         outcome: &Outcome,
-    ) -> Result<Lane, AllocError> {
+    ) -> Result<Lane, AllocError>
+        requires { line < usize.MAX }
+        ensures { IfOk result (λ lane. did lane ≡ and_then (did self.now) line seen (reply_line event.now outcome.now)) }
+    {
         let mut lane = self.copy(alloc)?;
-        lane.behind = line.saturating_add(1);
+        lane.behind = line + 1;
         lane.story.push(Step { line, seen })?;
         push_reply(&mut lane.replies, event, outcome)?;
         Ok(lane)
@@ -70,7 +82,9 @@ impl Lane {
 }
 
 /// The lanes of this number of passes that did nothing yet.
-pub fn new_lanes(alloc: Global, passes: u32) -> Result<Vec<Lane>, AllocError> {
+pub fn new_lanes(alloc: Global, passes: u32) -> Result<Vec<Lane>, AllocError>
+    ensures { IfOk result (λ lanes. map did lanes.items ≡ replicate passes nothing) }
+{
     let mut lanes = Vec::new(alloc);
     for _ in 0..passes {
         lanes.push(Lane::new(alloc))?;
@@ -79,7 +93,9 @@ pub fn new_lanes(alloc: Global, passes: u32) -> Result<Vec<Lane>, AllocError> {
 }
 
 /// The same lanes again.
-pub fn copy_lanes(alloc: Global, lanes: &[Lane]) -> Result<Vec<Lane>, AllocError> {
+pub fn copy_lanes(alloc: Global, lanes: &[Lane]) -> Result<Vec<Lane>, AllocError>
+    ensures { IfOk result (λ copies. map did copies.items ≡ map did lanes.now) }
+{
     let mut copies = Vec::new(alloc);
     for lane in lanes {
         copies.push(lane.copy(alloc)?)?;

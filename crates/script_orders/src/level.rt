@@ -1,5 +1,7 @@
 //! The states after one number of steps.
-ghost use Rattle.std.specs.Prelude.{◌<◌, IfSome, vec_len};
+ghost use Rattle.std.specs.Prelude.{◌≡◌, ◌<◌, [], Some, IfSome, OnOk, slice_get};
+ghost use Rattle.script_orders.specs.declared.state.State.{State};
+ghost use Rattle.script_orders.specs.States.{AreAlike, Added};
 
 use crate::alike::{are_alike, mark_of};
 use crate::state::State;
@@ -16,7 +18,9 @@ pub struct Level {
 
 impl Level {
     /// No states.
-    pub fn new(alloc: Global) -> Level {
+    pub fn new(alloc: Global) -> Level
+        ensures { result.states.items ≡ [] }
+    {
         Level {
             states: Vec::new(alloc),
             marks: Vec::new(alloc),
@@ -25,7 +29,8 @@ impl Level {
 
     // The place of the state that is alike.
     fn place_of(&self, mark: u64, state: &State) -> Option<usize>
-        ensures { IfSome result (λ place. place < vec_len self.now.states) }
+        ensures { IfSome result (λ place. (there : State)
+            × (slice_get self.now.states.items place ≡ Some there) × AreAlike there state.now) }
     {
         for (place, other) in self.marks.iter().enumerate() {
             if *other == mark
@@ -39,7 +44,9 @@ impl Level {
     }
 
     /// Adds a state: its orders to those of the state that is alike, if there is one.
-    pub fn add(&mut self, state: State) -> Result<(), AllocError> {
+    pub fn add(&mut self, state: State) -> Result<(), AllocError>
+        ensures { OnOk result (Added self.old.states.items state self.new.states.items) }
+    {
         let mark = mark_of(&state);
         if let Some(place) = self.place_of(mark, &state) {
             let there = &mut self.states[place];

@@ -1,4 +1,7 @@
 //! Which line a pass does next.
+ghost use Rattle.std.specs.Prelude.{MatchOption};
+ghost use Rattle.sh_step.specs.Plans.{plan_of};
+ghost use Rattle.script_orders.specs.Reached.{IsNext, HasNoNext};
 
 use sh_core::World;
 use sh_key::KeyLayout;
@@ -11,7 +14,11 @@ pub fn next_line<L: KeyLayout>(
     lines: &[Event],
     pass: u32,
     behind: usize,
-) -> Option<usize> {
+) -> Option<usize>
+    ensures { MatchOption result
+        (HasNoNext (plan_of L.layout world.now.shape) world.now.parts lines.now pass behind)
+        (IsNext (plan_of L.layout world.now.shape) world.now.parts lines.now pass behind) }
+{
     let shape = world.shape();
     let part = world.parts().get(pass as usize)?;
     for number in behind..lines.len() {

@@ -1,4 +1,7 @@
 //! Doing lines on a heap.
+ghost use Rattle.std.specs.Prelude.{◌≡◌, IfOk, OnErr, Ok};
+ghost use Rattle.sh_core.specs.Kept.{StepsWorld, RunsWorld};
+ghost use Rattle.script_orders.specs.Reached.{done_by};
 
 use crate::found::Program;
 use crate::seen::{found_at, seen};
@@ -7,8 +10,11 @@ use sh_key::KeyLayout;
 use sh_step::{Event, Move};
 use std::alloc::{AllocError, Global};
 
-/// Does an event.
-pub fn step<L: KeyLayout>(world: &mut World<L>, event: &Event) -> Result<Outcome, AllocError> {
+/// Does an event. If memory is refused, nothing is done.
+pub fn step<L: KeyLayout>(world: &mut World<L>, event: &Event) -> Result<Outcome, AllocError>
+    ensures ok { IfOk result (λ outcome. StepsWorld L.layout world.old event.now outcome world.new) }
+    ensures err { OnErr result (world.new ≡ world.old) }
+{
     match world.step(event) {
         Ok(outcome) => Ok(outcome),
         Err(_) => Err(AllocError),
@@ -16,7 +22,9 @@ pub fn step<L: KeyLayout>(world: &mut World<L>, event: &Event) -> Result<Outcome
 }
 
 /// The heap after what is done first.
-pub fn opened<L: KeyLayout>(alloc: Global, program: &Program<'_>) -> Result<World<L>, AllocError> {
+pub fn opened<L: KeyLayout>(alloc: Global, program: &Program<'_>) -> Result<World<L>, AllocError>
+    ensures { IfOk result (λ world. RunsWorld L.layout program.now.shape program.now.before.now (Ok world)) }
+{
     match sh_core::run::<L>(alloc, program.shape, program.before) {
         Ok(world) => Ok(world),
         Err(_) => Err(AllocError),
@@ -28,7 +36,9 @@ pub fn played<L: KeyLayout>(
     alloc: Global,
     program: &Program<'_>,
     order: &[usize],
-) -> Result<World<L>, AllocError> {
+) -> Result<World<L>, AllocError>
+    ensures { IfOk result (λ world. RunsWorld L.layout program.now.shape (done_by program.now order.now) (Ok world)) }
+{
     let mut world = opened::<L>(alloc, program)?;
     for number in order {
         if let Some(event) = program.lines.get(*number) {

@@ -1,4 +1,10 @@
 //! States, each by one order that leads to it.
+ghost use Rattle.std.specs.Prelude.{◌≡◌, ◌++◌, ◌<◌, OnOk, IfOk, length, map, vec_items};
+ghost use Rattle.sh_key.specs.Layout.{Layout};
+ghost use Rattle.script_orders.specs.Lanes.{did};
+ghost use Rattle.script_orders.specs.Orders.{is_of, lines_within};
+ghost use Rattle.script_orders.specs.Reached.{IsReached, lanes_of};
+ghost use Rattle.script_orders.specs.States.{Follows, all_left};
 
 use crate::found::{Orders, Program};
 use crate::lane::{Lane, copy_lanes, new_lanes};
@@ -22,6 +28,16 @@ pub struct State {
     pub orders: Orders,
 }
 
+// Whether the line of this number is one of the pass's.
+fn is_of(lines: &[Event], pass: u32, number: usize) -> bool
+    ensures { result ≡ is_of lines.now pass number }
+{
+    match lines.get(number) {
+        Some(event) => event.pass == pass,
+        None => false,
+    }
+}
+
 // Adds the numbers of the pass's lines from one number on and before another.
 fn push_lines(
     order: &mut Vec<usize>,
@@ -29,12 +45,12 @@ fn push_lines(
     pass: u32,
     from: usize,
     to: usize,
-) -> Result<(), AllocError> {
+) -> Result<(), AllocError>
+    ensures { OnOk result (order.new.items ≡ order.old.items ++ lines_within lines.now pass from to) }
+{
     for number in from..to {
-        if let Some(event) = lines.get(number) {
-            if event.pass == pass {
-                order.push(number)?;
-            }
+        if is_of(lines, pass, number) {
+            order.push(number)?;
         }
     }
     Ok(())
@@ -42,7 +58,10 @@ fn push_lines(
 
 impl State {
     /// The state in which the lines begin.
-    pub fn first<L: KeyLayout>(alloc: Global, program: &Program<'_>) -> Result<State, AllocError> {
+    pub fn first<L: KeyLayout>(alloc: Global, program: &Program<'_>) -> Result<State, AllocError>
+        ensures reached { IfOk result (IsReached L.layout program.now) }
+        ensures orders { IfOk result (λ state. state.orders ≡ Orders.ONE) }
+    {
         let world = opened::<L>(alloc, program)?;
         Ok(State {
             order: Vec::new(alloc),
@@ -53,7 +72,7 @@ impl State {
         })
     }
 
-    /// The state once the pass did the line too, by which it has done so, and which left these words.
+    /// The state once the pass did one more line. `lane` is what it has done then, and `words` is what the line left.
     pub fn after(
         &self,
         alloc: Global,
@@ -61,14 +80,16 @@ impl State {
         pass: u32,
         lane: Lane,
         words: &[u64],
-    ) -> Result<State, AllocError> {
+    ) -> Result<State, AllocError>
+        requires { pass < length self.now.lanes.items }
+        ensures { IfOk result (Follows lines.now pass (did lane) words.now self.now) }
+    {
         let mut order = Vec::from_slice(alloc, self.order.as_slice())?;
         let mut passes = Vec::from_slice(alloc, self.passes.as_slice())?;
         let mut lanes = copy_lanes(alloc, self.lanes.as_slice())?;
-        if let Some(there) = lanes.get_mut(pass as usize) {
-            push_lines(&mut order, lines, pass, there.behind, lane.behind)?;
-            *there = lane;
-        }
+        let behind = self.lanes[pass as usize].behind;
+        push_lines(&mut order, lines, pass, behind, lane.behind)?;
+        lanes[pass as usize] = lane;
         passes.push(pass)?;
         Ok(State {
             order,
@@ -79,13 +100,16 @@ impl State {
         })
     }
 
-    /// The order, and then the lines that are left, which are all skipped.
+    /// The order, and then the lines that the passes have left.
     pub fn whole_order(
         &self,
         alloc: Global,
         lines: &[Event],
         passes: u32,
-    ) -> Result<Vec<usize>, AllocError> {
+    ) -> Result<Vec<usize>, AllocError>
+        ensures { IfOk result (λ order. order.items ≡ self.now.order.items
+            ++ all_left lines.now (lanes_of self.now) passes) }
+    {
         let mut order = Vec::from_slice(alloc, self.order.as_slice())?;
         for pass in 0..passes {
             if let Some(lane) = self.lanes.get(pass as usize) {
@@ -96,7 +120,9 @@ impl State {
     }
 
     /// The reply lines of each pass.
-    pub fn replies(&self, alloc: Global) -> Result<Vec<Vec<u8>>, AllocError> {
+    pub fn replies(&self, alloc: Global) -> Result<Vec<Vec<u8>>, AllocError>
+        ensures { IfOk result (λ replies. map vec_items replies.items ≡ map (λ d. d.replies) (lanes_of self.now)) }
+    {
         let mut replies = Vec::new(alloc);
         for lane in &self.lanes {
             replies.push(Vec::from_slice(alloc, lane.replies.as_slice())?)?;

@@ -1,5 +1,10 @@
 //! Going through all orders.
-ghost use Rattle.std.specs.Prelude.{◌<◌, IfSome, length};
+ghost use Rattle.std.specs.Prelude.{◌≡◌, ℕ, ◌<◌, false, cond, [], List, IfSome, IfOk, OnOk, MatchOption, length};
+ghost use Rattle.std.specs.List.{All};
+ghost use Rattle.sh_key.specs.Layout.{Layout};
+ghost use Rattle.script_orders.specs.declared.found.Program.{Program};
+ghost use Rattle.script_orders.specs.Counts.{CountsEnd};
+ghost use Rattle.script_orders.specs.Reached.{world_by, pages_by, IsReached, Rests, IsOutcome, AreOutcomes};
 
 use crate::found::{Cut, Explored, Found, Orders, Program, Whole};
 use crate::level::Level;
@@ -17,7 +22,11 @@ fn gone_on<L: KeyLayout>(
     program: &Program<'_>,
     state: &State,
     pass: u32,
-) -> Result<Option<State>, AllocError> {
+) -> Result<Option<State>, AllocError>
+    requires reached { IsReached L.layout program.now state.now }
+    ensures { IfOk result (λ next. MatchOption next (Rests L.layout program.now state.now pass)
+        (IsReached L.layout program.now)) }
+{
     let mut world = played::<L>(alloc, program, state.order.as_slice())?;
     let Some(lane) = state.lanes.get(pass as usize) else {
         return Ok(None);
@@ -41,7 +50,13 @@ fn go_on<L: KeyLayout>(
     program: &Program<'_>,
     state: &State,
     next: &mut Level,
-) -> Result<bool, AllocError> {
+) -> Result<bool, AllocError>
+    requires reached { IsReached L.layout program.now state.now }
+    requires all { All (IsReached L.layout program.now) next.old.states.items }
+    ensures all { OnOk result (All (IsReached L.layout program.now) next.new.states.items) }
+    ensures rests { IfOk result (λ goes_on. goes_on ≡ false
+        → (pass : ℕ) → pass < program.now.shape.passes → Rests L.layout program.now state.now pass) }
+{
     let mut goes_on = false;
     for pass in 0..program.shape.passes() {
         if let Some(after) = gone_on::<L>(alloc, program, state, pass)? {
@@ -57,7 +72,11 @@ fn pages<L: KeyLayout>(
     alloc: Global,
     program: &Program<'_>,
     state: &State,
-) -> Result<Vec<u8>, AllocError> {
+) -> Result<Vec<u8>, AllocError>
+    ensures { IfOk result (λ pages. (order : List ℕ)
+        → world_by L.layout program.now order ≡ world_by L.layout program.now state.now.order.items
+        → pages.items ≡ cond program.now.accounts (pages_by L.layout program.now order) []) }
+{
     let mut pages = Vec::new(alloc);
     if program.accounts {
         let mut world: World<L> = played::<L>(alloc, program, state.order.as_slice())?;
@@ -71,7 +90,12 @@ fn outcome<L: KeyLayout>(
     alloc: Global,
     program: &Program<'_>,
     state: &State,
-) -> Result<Found, AllocError> {
+) -> Result<Found, AllocError>
+    requires reached { IsReached L.layout program.now state.now }
+    requires rests { (pass : ℕ) → pass < program.now.shape.passes → Rests L.layout program.now state.now pass }
+    ensures is { IfOk result (IsOutcome L.layout program.now) }
+    ensures orders { IfOk result (λ found. found.orders ≡ state.now.orders) }
+{
     Ok(Found {
         replies: state.replies(alloc)?,
         pages: pages::<L>(alloc, program, state)?,
@@ -94,7 +118,10 @@ fn place_of(found: &[Found], new: &Found) -> Option<usize>
 }
 
 // Adds an outcome: its orders to those of the same outcome, if there is one.
-fn add(found: &mut Vec<Found>, new: Found) -> Result<(), AllocError> {
+fn add(found: &mut Vec<Found>, new: Found) -> Result<(), AllocError>
+    ensures { (layout : Layout) (program : Program) → All (IsOutcome layout program) found.old.items
+        → IsOutcome layout program new → OnOk result (All (IsOutcome layout program) found.new.items) }
+{
     if let Some(place) = place_of(found.as_slice(), &new) {
         let there = &mut found[place];
         there.orders = there.orders.plus(new.orders);
@@ -104,6 +131,25 @@ fn add(found: &mut Vec<Found>, new: Found) -> Result<(), AllocError> {
     Ok(())
 }
 
+// Counts a state in which no pass has a step left, and adds its outcome.
+fn add_end<L: KeyLayout>(
+    alloc: Global,
+    program: &Program<'_>,
+    state: &State,
+    whole: &mut Whole,
+) -> Result<(), AllocError>
+    requires reached { IsReached L.layout program.now state.now }
+    requires rests { (pass : ℕ) → pass < program.now.shape.passes → Rests L.layout program.now state.now pass }
+    requires found { All (IsOutcome L.layout program.now) whole.old.found.items }
+    ensures found { OnOk result (All (IsOutcome L.layout program.now) whole.new.found.items) }
+    ensures counts { OnOk result (CountsEnd state.now.orders whole.old whole.new) }
+{
+    let new = outcome::<L>(alloc, program, state)?;
+    whole.ends = whole.ends.saturating_add(1);
+    whole.orders = whole.orders.plus(state.orders);
+    add(&mut whole.found, new)
+}
+
 // The states after one further step than these. Those that have none end an order. None if there are too many.
 fn next_level<L: KeyLayout>(
     alloc: Global,
@@ -111,14 +157,17 @@ fn next_level<L: KeyLayout>(
     level: &Level,
     most: u64,
     whole: &mut Whole,
-) -> Result<Option<Level>, AllocError> {
+) -> Result<Option<Level>, AllocError>
+    requires reached { All (IsReached L.layout program.now) level.now.states.items }
+    requires found { All (IsOutcome L.layout program.now) whole.old.found.items }
+    ensures reached { IfOk result (λ next. IfSome next (λ level.
+        All (IsReached L.layout program.now) level.states.items)) }
+    ensures found { OnOk result (All (IsOutcome L.layout program.now) whole.new.found.items) }
+{
     let mut next = Level::new(alloc);
     for state in &level.states {
         if !go_on::<L>(alloc, program, state, &mut next)? {
-            let new = outcome::<L>(alloc, program, state)?;
-            whole.ends = whole.ends.saturating_add(1);
-            whole.orders = whole.orders.plus(state.orders);
-            add(&mut whole.found, new)?;
+            add_end::<L>(alloc, program, state, whole)?;
         }
         if next.states.len() as u64 > most {
             return Ok(None);
@@ -128,7 +177,9 @@ fn next_level<L: KeyLayout>(
 }
 
 // The first level.
-fn first_level<L: KeyLayout>(alloc: Global, program: &Program<'_>) -> Result<Level, AllocError> {
+fn first_level<L: KeyLayout>(alloc: Global, program: &Program<'_>) -> Result<Level, AllocError>
+    ensures { IfOk result (λ level. All (IsReached L.layout program.now) level.states.items) }
+{
     let mut level = Level::new(alloc);
     level.add(State::first::<L>(alloc, program)?)?;
     Ok(level)
@@ -136,7 +187,9 @@ fn first_level<L: KeyLayout>(alloc: Global, program: &Program<'_>) -> Result<Lev
 
 /// Does the lines in every order that keeps the order of each pass, and returns each outcome. A line whose condition
 /// does not hold is skipped. `AllocError` is returned if memory was refused, or if the shape does not fit the layout.
-pub fn explore<L: KeyLayout>(alloc: Global, program: &Program<'_>) -> Result<Explored, AllocError> {
+pub fn explore<L: KeyLayout>(alloc: Global, program: &Program<'_>) -> Result<Explored, AllocError>
+    ensures { IfOk result (AreOutcomes L.layout program.now) }
+{
     let mut whole = Whole {
         states: 0,
         ends: 0,

@@ -1,4 +1,12 @@
+use Rattle.std.specs.List.{All}
+use Rattle.script_orders.specs.Reached.{IsReached, IsOutcome}
 use Rattle.script_orders.proofs.walk.explore.Given as goal
 
 abbrev pub decreases-loop-alloc : goal.decreases-loop-alloc
 decreases-loop-alloc g l = l.room
+
+abbrev pub invariant-loop-alloc : goal.invariant-loop-alloc
+invariant-loop-alloc g l = record {
+  reached : All (IsReached g.L.KeyLayout.layout l.program) l.level.states.items;
+  found : All (IsOutcome g.L.KeyLayout.layout l.program) l.whole.found.items;
+}

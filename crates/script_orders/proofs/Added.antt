@@ -1,0 +1,48 @@
+-- What holds of each state of a level holds after one was added.
+use Rattle.std.proofs.Common.{◌≡◌, ℕ, ◌<◌, List, [], ◌∷◌, ◌++◌, length, get_or, slice_get, Some, sym, ap, ◌∙◌, subst, arith, inl, inr}
+use Rattle.std.proofs.Common.{set, map}
+use Rattle.std.specs.Prelude.{vec_items}
+use Rattle.std.specs.List.{All}
+use Rattle.std.proofs.lemmas.Bool.{cases_eq}
+use Rattle.std.proofs.lemmas.List.{length-set, get_or-set_same, get_or-set_other}
+use Rattle.std.proofs.lemmas.List.Elements.{All-nil, All-cons, All-append}
+use Rattle.std.proofs.lemmas.Option.{slice_get_within, get_or_from_slice_get}
+use Rattle.sh_key.specs.Layout.{Layout}
+use Rattle.script_orders.specs.declared.found.Program.{Program}
+use Rattle.script_orders.specs.declared.lane.Lane.{Lane}
+use Rattle.script_orders.specs.declared.state.State.{State}
+use Rattle.script_orders.specs.Lanes.{did}
+use Rattle.script_orders.specs.Reached.{LeadsTo, lanes_of, IsReached}
+use Rattle.script_orders.specs.States.{WithOrders, Added}
+use Rattle.script_orders.specs.States.Added.{merged, pushed}
+
+pub all_set : {A : Type 0} (P : A → Type 0) (xs : List A) (i : ℕ) (y : A) → i < length xs → P y → All P xs
+    → All P (set xs i y)
+all_set P xs i y less here all k d within = elim (cases_eq k i) [
+  | inl same ↦
+      subst P (sym (ap (λ (n : ℕ). get_or (set xs i y) n d) same ∙ get_or-set_same xs i y d less)) here
+  | inr ne ↦
+      let l = length-set xs i y in subst P (sym (get_or-set_other xs i k y d ne)) (all k d (omega arith))
+]
+
+pub all_push : {A : Type 0} (P : A → Type 0) (xs : List A) (y : A) → P y → All P xs → All P (xs ++ y ∷ [])
+all_push P xs y here all = All-append P xs (y ∷ []) all (All-cons P y [] here (All-nil P))
+
+with_orders : (layout : Layout) (p : Program) (s t u : State) → WithOrders s t u → IsReached layout p s
+    → IsReached layout p u
+with_orders layout p s t u with' reached =
+    subst (λ (os : List ℕ). LeadsTo layout p os u.words.items (lanes_of u)) (sym (ap vec_items with'.order))
+    (subst (λ (ws : List ℕ). LeadsTo layout p s.order.items ws (lanes_of u)) (sym (ap vec_items with'.words))
+    (subst (λ (ls : List Lane). LeadsTo layout p s.order.items s.words.items (map did ls))
+    (sym (ap vec_items with'.lanes)) reached))
+
+pub added_reached : (layout : Layout) (p : Program) (old new : List State) (s : State) → Added old s new
+    → All (IsReached layout p) old → IsReached layout p s → All (IsReached layout p) new
+added_reached layout p old new s (merged place there both at alike with' is) all reached =
+    let less = slice_get_within old place there at in
+    let here : IsReached layout p there =
+    subst (IsReached layout p) (get_or_from_slice_get old place there there at) (all place there less) in
+    subst (All (IsReached layout p)) (sym is)
+    (all_set (IsReached layout p) old place both less (with_orders layout p there s both with' here) all)
+added_reached layout p old new s (pushed is) all reached =
+    subst (All (IsReached layout p)) (sym is) (all_push (IsReached layout p) old s reached all)

@@ -1,0 +1,66 @@
+-- Lanes are compared by what the passes did.
+use Rattle.std.proofs.Common.{◌≡◌, ◌==◌, ◌&&◌, Bool, true, false, List, [], ◌∷◌, map, refl, sym, ap, ◌∙◌, eq-eqb}
+use lib.Dec.{eqb}
+use Rattle.std.specs.Bool.{Decides}
+use Rattle.std.specs.Cmp.Lexicographic.{pointwise}
+use Rattle.std.proofs.lemmas.Bool.{eqb-true}
+use Rattle.std.proofs.lemmas.Slice.Eq.{slice_eq-Decides, bytes_eq-Decides}
+use Rattle.sh_step.proofs.Truths.{no_bool, and2}
+use Rattle.script_orders.specs.contracts.lane.LanePartialEq.TheImpl as lane_eq
+use Rattle.script_orders.specs.contracts.lane.StepPartialEq.TheImpl as step_eq
+use Rattle.script_orders.specs.declared.lane.Lane.{Lane}
+use Rattle.script_orders.specs.declared.lane.Step.{Step}
+use Rattle.script_orders.specs.Lanes.{Did, did}
+
+both : (a b : Bool) → a ≡ true → b ≡ true → (a && b) ≡ true
+both a b h k = ap (λ (x : Bool). x && b) h ∙ k
+
+step_decides : (x y : Step) → Decides (step_eq.eq-value.it x y) (x ≡ y)
+step_decides x y = (
+  λ h.
+      let k = and2 (x.line == y.line) (x.seen == y.seen) h in
+      λ i. record { line = eqb-true x.line y.line k.0 i; seen = eqb-true x.seen y.seen k.1 i },
+  λ h. both (x.line == y.line) (x.seen == y.seen) (eq-eqb x.line y.line (ap (λ (s : Step). s.line) h))
+      (eq-eqb x.seen y.seen (ap (λ (s : Step). s.seen) h)),
+)
+
+story_decides : (xs ys : List Step) → Decides (pointwise step_eq.eq-value.it xs ys) (xs ≡ ys)
+story_decides xs ys = slice_eq-Decides step_decides xs ys (pointwise step_eq.eq-value.it xs ys) refl
+
+lane_decides : (x y : Lane) → Decides (lane_eq.eq-value.it x y) (did x ≡ did y)
+lane_decides x y =
+    let story = story_decides x.story.items y.story.items in
+    let replies = bytes_eq-Decides x.replies.items y.replies.items in
+    let rest : Bool = pointwise step_eq.eq-value.it x.story.items y.story.items
+    && pointwise eqb x.replies.items y.replies.items in (
+      λ h.
+          let k = and2 (x.behind == y.behind) rest h in
+          let j = and2 (pointwise step_eq.eq-value.it x.story.items y.story.items)
+          (pointwise eqb x.replies.items y.replies.items) k.1 in
+          λ i. record {
+            behind = eqb-true x.behind y.behind k.0 i;
+            story = story.0 j.0 i;
+            replies = replies.0 j.1 i;
+          },
+      λ h. both (x.behind == y.behind) rest (eq-eqb x.behind y.behind (ap (λ (d : Did). d.behind) h))
+          (both (pointwise step_eq.eq-value.it x.story.items y.story.items)
+          (pointwise eqb x.replies.items y.replies.items) (story.1 (ap (λ (d : Did). d.story) h))
+          (replies.1 (ap (λ (d : Did). d.replies) h))),
+    )
+
+pub lanes_decide : (xs ys : List Lane) → Decides (pointwise lane_eq.eq-value.it xs ys) (map did xs ≡ map did ys)
+lanes_decide [] [] = (λ h. refl, λ h. refl)
+lanes_decide [] (y ∷ ys) = (λ h. no_bool h, λ h. absurd (let z : [] ≡ did y ∷ map did ys = h in cc))
+lanes_decide (x ∷ xs) [] = (λ h. no_bool h, λ h. absurd (let z : did x ∷ map did xs ≡ [] = h in cc))
+lanes_decide (x ∷ xs) (y ∷ ys) =
+    let here = lane_decides x y in
+    let rest = lanes_decide xs ys in (
+      λ h.
+          let k = and2 (lane_eq.eq-value.it x y) (pointwise lane_eq.eq-value.it xs ys) h in
+          λ i. here.0 k.0 i ∷ rest.0 k.1 i,
+      λ h.
+          let z : did x ∷ map did xs ≡ did y ∷ map did ys = h in
+          let a : did x ≡ did y = cc in
+          let b : map did xs ≡ map did ys = cc in
+          both (lane_eq.eq-value.it x y) (pointwise lane_eq.eq-value.it xs ys) (here.1 a) (rest.1 b),
+    )

@@ -1,0 +1,105 @@
+-- What a pass does next in a state, or that it rests.
+use Rattle.std.proofs.Common.{◌≡◌, ℕ, ◌+◌, ◌<◌, ◌≤◌, false, true, List, ◌++◌, length, refl, sym, ap, ◌∙◌, subst, arith, Option, Some}
+use Rattle.std.proofs.Common.{None, slice_get, map, get_or, Bool, ◌==◌, ◌&&◌}
+use Rattle.std.specs.Prelude.{Ok, option_map, slice_set}
+use Rattle.std.proofs.lemmas.Option.{slice_get-map, slice_get_within, slice_get_read, slice_get_past}
+use Rattle.sh_key.specs.Layout.{Layout}
+use Rattle.sh_shape.specs.Shape.{Numbers}
+use Rattle.sh_step.specs.declared.action.Event.{Event}
+use Rattle.sh_step.specs.declared.body.Body.{Body}
+use Rattle.sh_step.specs.Moves.{is_enabled}
+use Rattle.sh_step.specs.Plans.{Plan, plan_of}
+use Rattle.sh_core.specs.declared.outcome.Outcome.{Outcome}
+use Rattle.sh_core.specs.Kept.{KeptWorld, HoldsWords, StepsWorld, RunsWorld}
+use Rattle.sh_core.specs.Outcomes.{outcome_of}
+use Rattle.sh_core.specs.Worlds.{step}
+use Rattle.script_orders.specs.declared.found.Program.{Program}
+use Rattle.script_orders.specs.declared.lane.Lane.{Lane}
+use Rattle.script_orders.specs.declared.state.State.{State}
+use Rattle.script_orders.specs.Lanes.{Did, did, and_then}
+use Rattle.script_orders.specs.Orders.{lines_within, reply_line}
+use Rattle.script_orders.specs.Reached.{plan_in, done_by, world_by, is_due, IsNext, HasNoNext, LeadsTo, lanes_of, IsReached, Rests}
+use Rattle.script_orders.specs.States.{Follows}
+use Rattle.script_orders.proofs.GoneOn.{goes_on}
+
+pub lane_at : (s : State) (pass : ℕ) (lane : Lane) → slice_get s.lanes.items pass ≡ Some lane
+    → slice_get (lanes_of s) pass ≡ Some (did lane)
+lane_at s pass lane at = slice_get-map did s.lanes.items pass ∙ ap (option_map did) at
+
+pub rests_past : (layout : Layout) (p : Program) (s : State) (pass : ℕ) → slice_get s.lanes.items pass ≡ None
+    → Rests layout p s pass
+rests_past layout p s pass none d at =
+    let z : None ≡ Some d = sym (slice_get-map did s.lanes.items pass ∙ ap (option_map did) none) ∙ at in cc
+
+module _ (layout : Layout) (p : Program) (s : State) (pass : ℕ) (lane : Lane) (k : KeptWorld)
+    (at : slice_get s.lanes.items pass ≡ Some lane)
+    (runs : RunsWorld layout p.shape (done_by p s.order.items) (Ok k)) where
+  pub rests_idle : HasNoNext (plan_of layout k.shape) k.parts p.lines.now pass lane.behind → Rests layout p s pass
+  rests_idle none d is =
+      let same : did lane ≡ d = let z : Some (did lane) ≡ Some d = sym (lane_at s pass lane at) ∙ is in cc in
+      let P : Numbers → Type 0 = λ n. HasNoNext (plan_of layout n) k.parts p.lines.now pass lane.behind in
+      let Q : List Body → Type 0 = λ bs. HasNoNext (plan_in layout p) bs p.lines.now pass lane.behind in
+      let R : Did → Type 0 = λ x.
+      HasNoNext (plan_in layout p) (world_by layout p s.order.items).parts p.lines.now pass x.behind in
+      subst R same (subst Q (runs.2).parts (subst P runs.1 none))
+
+  pub goes : (t : State) (new : Did) (n seen : ℕ) (e : Event) (o : Outcome) (k' : KeptWorld) → IsReached layout p s
+      → IsNext (plan_of layout k.shape) k.parts p.lines.now pass lane.behind n → slice_get p.lines.now n ≡ Some e
+      → StepsWorld layout k e o k' → new ≡ and_then (did lane) n seen (reply_line e o)
+      → Follows p.lines.now pass new k'.words s t → IsReached layout p t
+  goes t new n seen e o k' reached next there steps is follows =
+      let P : Numbers → Type 0 = λ m. IsNext (plan_of layout m) k.parts p.lines.now pass lane.behind n in
+      let Q : List Body → Type 0 = λ bs. IsNext (plan_in layout p) bs p.lines.now pass lane.behind n in
+      let next' : IsNext (plan_in layout p) (world_by layout p s.order.items).parts p.lines.now pass lane.behind n =
+      subst Q (runs.2).parts (subst P runs.1 next) in
+      let came : o ≡ outcome_of (plan_in layout p) (world_by layout p s.order.items) e =
+      steps.outcome_is (world_by layout p s.order.items) (runs.2)
+      ∙ ap (λ (m : Numbers). outcome_of (plan_of layout m) (world_by layout p s.order.items) e) runs.1 in
+      let stepped = steps.world (world_by layout p s.order.items) (runs.2) in
+      let H : Numbers → Numbers → Type 0 = λ a b.
+      HoldsWords a k'.words (step (plan_of layout b) (world_by layout p s.order.items) e).words in
+      let holds : H p.shape p.shape = subst (λ (b : Numbers). H p.shape b) runs.1
+      (subst (λ (a : Numbers). H a k.shape) (steps.shape ∙ runs.1) stepped.words) in
+      let count = reached.count in
+      let within = slice_get_within (lanes_of s) pass (did lane) (lane_at s pass lane at) in
+      let led = goes_on layout p s.order.items s.words.items (lanes_of s) reached pass n seen (did lane)
+      (lane_at s pass lane at) next' e there o came k'.words holds (omega arith) in
+      let behind : n + 1 ≡ new.behind = sym (ap (λ (d : Did). d.behind) is) in
+      let order : s.order.items ++ lines_within p.lines.now pass lane.behind (n + 1) ≡ t.order.items =
+      ap (λ (b : ℕ). s.order.items ++ lines_within p.lines.now pass lane.behind b) behind
+      ∙ sym (follows.order (did lane) (lane_at s pass lane at)) in
+      let lanes : slice_set (lanes_of s) pass (and_then (did lane) n seen (reply_line e o)) ≡ lanes_of t =
+      ap (λ (d : Did). slice_set (lanes_of s) pass d) (sym is) ∙ sym follows.lanes in
+      subst (λ (ws : List ℕ). LeadsTo layout p t.order.items ws (lanes_of t)) (sym follows.words_are)
+      (subst (λ (ls : List Did). LeadsTo layout p t.order.items k'.words ls) lanes
+      (subst (λ (os : List ℕ). LeadsTo layout p os k'.words
+      (slice_set (lanes_of s) pass (and_then (did lane) n seen (reply_line e o)))) order led))
+
+-- ---- what a look-up in a list says
+
+pub found_at : {A : Type 0} (xs ys : List A) (i : ℕ) (x : A) → xs ≡ ys → i < length xs → x ≡ get_or xs i x
+    → slice_get ys i ≡ Some x
+found_at {A} xs ys i x same less is =
+    subst (λ (zs : List A). slice_get zs i ≡ Some x) same (slice_get_read xs (length xs) i x refl less is)
+
+pub lane_past : (s : State) (pass : ℕ) (xs : List Lane) → xs ≡ s.lanes.items → length xs ≤ pass
+    → slice_get (lanes_of s) pass ≡ None
+lane_past s pass xs same le =
+    slice_get-map did s.lanes.items pass ∙ ap (option_map did)
+    (subst (λ (zs : List Lane). slice_get zs pass ≡ None) same (slice_get_past xs pass le))
+
+abbrev due_option : Plan → List Body → ℕ → Option Event → Bool
+due_option plan parts pass o = elim o [
+  | Some e ↦ (e.pass == pass) && (elim (slice_get parts pass) [
+    | Some part ↦ is_enabled plan part e.action
+    | None ↦ false
+  ])
+  | None ↦ false
+]
+
+pub due_within : {P : Type 0} (plan : Plan) (parts : List Body) (lines : List Event) (pass n : ℕ)
+    → is_due plan parts lines pass n ≡ true → length lines ≤ n → P
+due_within plan parts lines pass n due past =
+    let none : is_due plan parts lines pass n ≡ false =
+    ap (due_option plan parts pass) (slice_get_past lines n past) in
+    absurd (let z : false ≡ true = sym none ∙ due in cc)

@@ -1,0 +1,32 @@
+use Rattle.std.proofs.Common.{◌≡◌, ℕ, ◌+◌, ◌++◌, List, Some, arith, rules, refl, sym, ap, ◌∙◌, length}
+use Rattle.std.specs.Prelude.{map, slice_get, slice_set}
+use Rattle.std.proofs.lemmas.Grind.{common_steps}
+use Rattle.std.proofs.lemmas.List.{map-set}
+use Rattle.std.proofs.lemmas.Option.{slice_get_read}
+use Rattle.script_orders.specs.declared.lane.Lane.{Lane}
+use Rattle.script_orders.specs.Lanes.{Did, did}
+use Rattle.script_orders.specs.Orders.{lines_within}
+use Rattle.script_orders.specs.Reached.{lanes_of}
+use Rattle.script_orders.proofs.Walked.{lane_at}
+use Rattle.script_orders.proofs.state.State.after.Goals as goal
+
+pub returns : goal.returns
+returns c = record {
+  order = λ old at.
+      let s = c.args.self.now in
+      let lane = c.index.result.now in
+      let there : slice_get s.lanes.items c.args.pass ≡ Some lane =
+      slice_get_read s.lanes.items (length s.lanes.items) c.args.pass lane refl c.requires c.index.ensures in
+      let here : slice_get (lanes_of s) c.args.pass ≡ Some (did lane) = lane_at s c.args.pass lane there in
+      let same : did lane ≡ old = cc in
+      c.in_ok-push_lines.ensures
+      ∙ ap (λ (xs : List ℕ). xs ++ lines_within c.args.lines.now c.args.pass lane.behind c.args.lane.behind)
+      (c.in_ok-order.ensures.items ∙ c.as_slice.ensures.value)
+      ∙ ap (λ (d : Did). s.order.items ++ lines_within c.args.lines.now c.args.pass d.behind c.args.lane.behind) same;
+  passes = grind (arith, common_steps);
+  lanes = map-set did c.in_ok-lanes.lanes.items c.args.pass c.args.lane
+      ∙ ap (λ (ls : List Did). slice_set ls c.args.pass (did c.args.lane)) (c.in_ok-lanes.ensures
+      ∙ ap (λ (ls : List Lane). map did ls) c.as_slice-3.ensures.value);
+  words_are = search rules;
+  orders = refl;
+}

@@ -1,0 +1,9 @@
+use Rattle.std.specs.List.{All}
+use Rattle.script_orders.specs.Reached.{IsReached, IsOutcome}
+use Rattle.script_orders.proofs.walk.next_level.Given as goal
+
+abbrev pub invariant-loop-state : goal.invariant-loop-state
+invariant-loop-state g l = record {
+  reached : All (IsReached g.L.KeyLayout.layout l.program) l.next.states.items;
+  found : All (IsOutcome g.L.KeyLayout.layout l.program) l.whole.found.items;
+}

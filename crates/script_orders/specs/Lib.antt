@@ -1,0 +1,5 @@
+pub mod Orders
+pub mod Lanes
+pub mod Reached
+pub mod States
+pub mod Counts

@@ -1,0 +1,47 @@
+-- What comes of a state.
+use Rattle.std.specs.Prelude.{ℕ, ◌≡◌, ◌+◌, ◌-◌, ◌^◌, min, ◌++◌, List, [], ◌∷◌, Some, None, length, slice_get, slice_set}
+use Rattle.std.specs.List.{flat_map, range_with_len}
+use Rattle.sh_step.specs.declared.action.Event.{Event}
+use Rattle.script_orders.specs.declared.lane.Lane.{Lane}
+use Rattle.script_orders.specs.declared.state.State.{State}
+use Rattle.script_orders.specs.Lanes.{Did, did}
+use Rattle.script_orders.specs.Orders.{lines_within}
+use Rattle.script_orders.specs.Reached.{lanes_of}
+
+-- each pass did the same, found the same and was replied the same, and the words are the same
+pub record AreAlike (s t : State) : Type 0 where
+  pub lanes : lanes_of s ≡ lanes_of t
+  pub words : s.words.items ≡ t.words.items
+
+-- The pass did one more line, and so has done this; the lines before it that were not done are skipped. The words are
+-- those that it left
+pub record Follows (lines : List Event) (pass : ℕ) (new : Did) (words : List ℕ) (s t : State) : Type 0 where
+  pub order : (old : Did) → slice_get (lanes_of s) pass ≡ Some old
+      → t.order.items ≡ s.order.items ++ lines_within lines pass old.behind new.behind
+  pub passes : t.passes.items ≡ s.passes.items ++ pass ∷ []
+  pub lanes : lanes_of t ≡ slice_set (lanes_of s) pass new
+  pub words_are : t.words.items ≡ words
+  pub orders : t.orders ≡ s.orders
+
+-- the lines that a pass has left
+abbrev pub left_of : List Event → List Did → (pass : ℕ) → List ℕ
+left_of lines lanes pass =
+    elim (slice_get lanes pass) [ Some d ↦ lines_within lines pass d.behind (length lines) | None ↦ [] ]
+
+-- the lines that these passes have left, those of one pass after those of the other
+abbrev pub all_left : List Event → List Did → (passes : ℕ) → List ℕ
+all_left lines lanes passes = flat_map (left_of lines lanes) (range_with_len 0 passes)
+
+-- a state with the orders of another too
+pub record WithOrders (s t u : State) : Type 0 where
+  pub order : u.order ≡ s.order
+  pub passes : u.passes ≡ s.passes
+  pub lanes : u.lanes ≡ s.lanes
+  pub words : u.words ≡ s.words
+  pub orders : u.orders.count ≡ min (s.orders.count + t.orders.count) (2 ^ 128 - 1)
+
+-- a state is added to others: its orders to those of a state that is alike, or else the state itself
+pub data Added (old : List State) (s : State) (new : List State) : Type 0 where
+  merged : (place : ℕ) (there both : State) → slice_get old place ≡ Some there → AreAlike there s
+      → WithOrders there s both → new ≡ slice_set old place both → Added old s new
+  pushed : new ≡ old ++ s ∷ [] → Added old s new
