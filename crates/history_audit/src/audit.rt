@@ -55,6 +55,13 @@ impl Audit {
         self.passes
     }
 
+    /// How many holds a key may have.
+    pub fn guard_max(&self) -> u32
+        ensures { result ≡ self.now.guard_max }
+    {
+        self.guard_max
+    }
+
     /// How many keys were inserted.
     pub fn keys(&self) -> usize
         ensures { (lines : List (ℕ × Said)) → Follows self.now lines → result ≡ insert_count (entries_in lines) }

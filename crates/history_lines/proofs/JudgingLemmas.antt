@@ -1,15 +1,14 @@
 -- A text that is read line by line.
 use Rattle.std.proofs.Common.{◌≡◌, ℕ, ◌+◌, List, [], ◌∷◌, ◌++◌, Option, Some, None, length, refl, sym, ◌∙◌, ap, arith}
-use Rattle.std.proofs.Common.{length-append}
+use Rattle.std.proofs.Common.{length-append, inl, inr}
 use Rattle.std.specs.Prelude.{Ok, Err}
 use Rattle.std.specs.Io.BufRead.{drop_through}
 use Rattle.std.proofs.lemmas.List.Elements.{All-nil, All-push}
 use Rattle.sh_script.specs.Grammar.{spelling, IsLine}
 use Rattle.history_audit.specs.declared.audit.Audit.{Audit}
+use Rattle.history_timed.specs.declared.verdict.Verdict.{Verdict}
 use Rattle.history_lines.specs.declared.fault.Fault.{Fault}
 use Rattle.history_lines.specs.declared.fault.Fault.TheVariants.{Memory, History, Io}
-use Rattle.history_lines.specs.declared.verdict.Verdict.{Verdict}
-use Rattle.history_lines.specs.declared.verdict.Verdict.TheVariants.{Legal, Broken}
 use Rattle.history_lines.specs.declared.reading.Reading.{Reading}
 use Rattle.history_lines.specs.Book.{Book, blank}
 use Rattle.history_lines.specs.Taken.{HasTakenIn, HasFollowed}
@@ -59,25 +58,33 @@ module _ (text : List ℕ) (n : ℕ) (r now : Reading) (rest : List ℕ) (read :
     number = let k = read.number in simp length-append (omega arith);
   }
 
+  -- the line after those that are read is not allowed, or the text ends
   pub is_verdict : (v : Verdict) → CameOfRest read.book n rest now (Ok (Some v)) → IsVerdict text v
-  is_verdict (Legal entries keys) came = record {
-    lines = read.lines;
-    book = read.book;
-    begins = rw came.0 at (begins text n r rest read);
-    headed = came.1;
-    entries_are = came.2;
-    keys_are = came.3;
-  }
-  is_verdict (Broken m clash) came = record {
-    lines = read.lines;
-    bad = came.1.0;
-    rest = drop_through 10 rest;
-    book = read.book;
-    begins = rw came.1.1.in_front at (begins text n r rest read);
-    bad_is = came.1.1.is_line;
-    number = came.0 ∙ read.number;
-    breaks = came.1.2;
-  }
+  is_verdict v (inl broken) = inl (
+    n,
+    broken.0,
+    broken.1,
+    record {
+      lines = read.lines;
+      bad = broken.2.0;
+      rest = drop_through 10 rest;
+      book = read.book;
+      begins = rw broken.2.1.in_front at (begins text n r rest read);
+      bad_is = broken.2.1.is_line;
+      number = read.number;
+      breaks = broken.2.2;
+    },
+  )
+  is_verdict v (inr ends) = inr (
+    ends.1.0,
+    read.book,
+    record {
+      lines = read.lines;
+      begins = rw ends.0 at (begins text n r rest read);
+      headed = ends.1.1;
+    },
+    ends.1.2,
+  )
 
   pub is_fault : (f : Fault) → CameOfRest read.book n rest now (Err f) → IsFaultOf text f
   is_fault (History m cause) came = record {

@@ -1,3 +1,4 @@
+pub mod CallsLemmas
 pub mod ReadingLemmas
 pub mod TextLemmas
 pub mod JudgingLemmas

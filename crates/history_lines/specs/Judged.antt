@@ -11,8 +11,9 @@ use Rattle.history_lines.specs.declared.fault.Cause.{Cause}
 use Rattle.history_lines.specs.declared.fault.Cause.TheVariants.{Size, Cut, Header}
 use Rattle.history_lines.specs.declared.fault.Fault.{Fault}
 use Rattle.history_lines.specs.declared.fault.Fault.TheVariants.{Memory, History, Io}
-use Rattle.history_lines.specs.declared.verdict.Verdict.{Verdict}
-use Rattle.history_lines.specs.declared.verdict.Verdict.TheVariants as verdict
+use Rattle.history_timed.specs.declared.verdict.Verdict.{Verdict}
+use Rattle.history_timed.specs.declared.verdict.Verdict.TheVariants as verdict
+use Rattle.history_timed.specs.Verdicts.{IsVerdictOn}
 use Rattle.history_lines.specs.declared.line.Limits.{Limits}
 use Rattle.history_lines.specs.Book.{Book, book_of, book_after}
 use Rattle.history_lines.specs.declared.reading.Reading.{Reading}
@@ -30,14 +31,20 @@ pub record BeginsLegal (text : List ℕ) (lines : List (List ℕ)) (rest : List 
   pub book_is : book_of lines ≡ Ok book
   pub legal : LegalUnder book.limits book
 
--- the whole text is a legal history, with this number of entries and of inserted keys
-pub record IsLegalText (text : List ℕ) (entries keys : ℕ) : Type 0 where
+-- the whole text says this book, under these limits
+pub record IsWholeText (text : List ℕ) (limits : Limits) (book : Book) : Type 0 where
   pub lines : List (List ℕ)
-  pub book : Book
   pub begins : BeginsLegal text lines [] book
-  pub headed : book.limits ≢ None
-  pub entries_are : entries ≡ length book.lines
-  pub keys_are : keys ≡ insert_count (entries_in book.lines)
+  pub headed : book.limits ≡ Some limits
+
+-- the verdict at the end of a text. Without times its entries are counted; with times it is what was found of its calls
+abbrev pub EndsWith : Limits → Book → Verdict → Type 0
+EndsWith limits book v =
+    ((book.calls ≡ []) × (v ≡ verdict.Legal (length book.lines) (insert_count (entries_in book.lines))))
+    ⊎ ((book.calls ≢ []) × IsVerdictOn limits.passes limits.guard_max book.calls v)
+
+abbrev pub IsEndVerdict : List ℕ → Verdict → Type 0
+IsEndVerdict text v = (limits : Limits) × (book : Book) × IsWholeText text limits book × EndsWith limits book v
 
 -- the line of this number is the first that is not allowed, for this reason
 pub record IsBrokenText (text : List ℕ) (n : ℕ) (clash : Clash) : Type 0 where
@@ -50,9 +57,10 @@ pub record IsBrokenText (text : List ℕ) (n : ℕ) (clash : Clash) : Type 0 whe
   pub number : n ≡ length lines + 1
   pub breaks : Breaks book bad clash
 
+-- a line without times is the first that is not allowed, and the verdict says so, or it is the verdict at the end
 abbrev pub IsVerdict : List ℕ → Verdict → Type 0
-IsVerdict text (verdict.Legal entries keys) = IsLegalText text entries keys
-IsVerdict text (verdict.Broken n clash) = IsBrokenText text n clash
+IsVerdict text v =
+    ((n : ℕ) × (clash : Clash) × (v ≡ verdict.Broken n clash) × IsBrokenText text n clash) ⊎ IsEndVerdict text v
 
 -- what is wrong with a last line that has no newline
 abbrev pub cut_of : List ℕ → Cause
@@ -98,10 +106,10 @@ pub record FirstLine (rest line : List ℕ) : Type 0 where
 abbrev pub CameOfRest : Book → ℕ → List ℕ → Reading → Result (Option Verdict) Fault → Type 0
 CameOfRest book n rest now (Ok None) =
     (line : List ℕ) × (next : Book) × FirstLine rest line × (book_after book n line ≡ Ok next) × HasTakenIn now next
-CameOfRest book n rest now (Ok (Some (verdict.Legal entries keys))) =
-    (rest ≡ []) × (book.limits ≢ None) × (entries ≡ length book.lines) × (keys ≡ insert_count (entries_in book.lines))
-CameOfRest book n rest now (Ok (Some (verdict.Broken m clash))) =
-    (m ≡ n) × ((line : List ℕ) × FirstLine rest line × Breaks book line clash)
+CameOfRest book n rest now (Ok (Some v)) =
+    ((clash : Clash) × (v ≡ verdict.Broken n clash)
+    × ((line : List ℕ) × FirstLine rest line × Breaks book line clash))
+    ⊎ ((rest ≡ []) × ((limits : Limits) × (book.limits ≡ Some limits) × EndsWith limits book v))
 CameOfRest book n rest now (Err (History m cause)) =
     (m ≡ n) × (HasBadLine n rest book cause ⊎ HasBadEnd rest book cause)
 CameOfRest book n rest now (Err Memory) = Unit {0}

@@ -1,4 +1,5 @@
 pub mod Line
+pub mod Calls
 pub mod Book
 pub mod Taken
 pub mod Judged

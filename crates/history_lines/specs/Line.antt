@@ -1,5 +1,5 @@
 -- What a line says, or the first fault in it. The steps are in the order of the faults.
-use Rattle.std.specs.Prelude.{◌≡◌, ℕ, ◌^◌, ◌==◌, ◌&&◌, Bool, true, false, nat_lt, nat_le, List, [], ◌∷◌, ◌++◌, length}
+use Rattle.std.specs.Prelude.{◌≡◌, ℕ, ◌^◌, ◌==◌, ◌&&◌, ◌||◌, Bool, true, false, nat_lt, nat_le, List, [], ◌∷◌, ◌++◌, length}
 use Rattle.std.specs.Prelude.{Option, Some, None, is_some, Result, Ok, Err, slice_index, codes, if◌then◌else◌}
 use Rattle.std.specs.List.{list_all}
 use Rattle.std.specs.Int.{is_in_range}
@@ -10,8 +10,10 @@ use Rattle.sh_history.specs.declared.entry.Entry.TheVariants as entry
 use Rattle.sh_history.specs.declared.entry.Entry.{Entry}
 use Rattle.history_lines.specs.declared.fault.Cause.{Cause}
 use Rattle.history_lines.specs.declared.fault.Cause.TheVariants as cause
-use Rattle.history_lines.specs.declared.line.Said.{Said}
-use Rattle.history_lines.specs.declared.line.Said.TheVariants as said
+use Rattle.history_timed.specs.declared.call.Said.{Said}
+use Rattle.history_timed.specs.declared.call.Said.TheVariants as said
+use Rattle.history_timed.specs.Times.{Times}
+use Rattle.history_lines.specs.declared.line.Answer.{Answer}
 use Rattle.history_lines.specs.declared.line.Limits.{Limits}
 use Rattle.history_lines.specs.declared.fault.Trouble.{Trouble}
 use Rattle.history_lines.specs.declared.fault.Trouble.TheVariants.{Memory, Because}
@@ -82,20 +84,47 @@ said_by kind.Released pass key ws = bare_said (entry.Released pass key) ws
 abbrev pub pass_at : ℕ → List Word → Result (ℕ × List Word) Cause
 pass_at passes ws = number_at ws >>= λ p. if nat_lt p.0 passes then Ok p else Err cause.Pass
 
--- two times come before the pass
-abbrev pub is_timed : List Word → Bool
-is_timed (a ∷ b ∷ c ∷ d ∷ ws) = is_some (number_of b) && is_some (kind_named d)
-is_timed _ = false
-
 -- a pass, an entry, its key, and its value if it has one
 unfoldable pub said_of : ℕ → List Word → Result Said Cause
 said_of passes ws =
-    if is_timed ws then Err cause.Timed
-    else pass_at passes ws >>= λ pass.
+    pass_at passes ws >>= λ pass.
     word_at pass.1 >>= λ word.
     or_cause cause.Entry (kind_named word.0) >>= λ k.
     number_at word.1 >>= λ key.
     said_by k pass.0 key.0 key.1
+
+-- ---- times
+
+-- two times come first: the second word is a number or `-`
+abbrev pub has_times : List Word → Bool
+has_times (begin ∷ end ∷ ws) = bytes_eq end (codes "-") || is_some (number_of end)
+has_times _ = false
+
+-- when the call ended, or nothing if it never did, and the words after it
+abbrev pub end_at : List Word → Result (Option ℕ × List Word) Cause
+end_at ws =
+    word_at ws >>= λ w.
+    if bytes_eq w.0 (codes "-") then Ok (None, w.1)
+    else or_cause cause.Number (number_of w.0) >>= λ n. Ok (Some n, w.1)
+
+abbrev pub times_of : ℕ → Option ℕ → Result Times Cause
+times_of begin None = Ok (record { begin = begin; end = None })
+times_of begin (Some end) =
+    if nat_lt end begin then Err cause.Times else Ok (record { begin = begin; end = Some end })
+
+-- times, and then an answer
+unfoldable pub timed_of : ℕ → List Word → Result Answer Cause
+timed_of passes ws =
+    number_at ws >>= λ begin.
+    end_at begin.1 >>= λ end.
+    times_of begin.0 end.0 >>= λ times.
+    said_of passes end.1 >>= λ s.
+    Ok (record { times = Some times; said = s })
+
+abbrev pub answer_of : ℕ → List Word → Result Answer Cause
+answer_of passes ws =
+    if has_times ws then timed_of passes ws
+    else said_of passes ws >>= λ s. Ok (record { times = None; said = s })
 
 -- ---- the header
 
@@ -131,13 +160,13 @@ is_silent (w ∷ ws) = slice_index w 0 == 59
 abbrev pub header_said : List Word → Result (Option Limits) Cause
 header_said ws = if is_silent ws then Ok None else header_of ws >>= λ l. Ok (Some l)
 
-abbrev pub answer_said : ℕ → List Word → Result (Option Said) Cause
-answer_said passes ws = if is_silent ws then Ok None else said_of passes ws >>= λ s. Ok (Some s)
+abbrev pub answer_said : ℕ → List Word → Result (Option Answer) Cause
+answer_said passes ws = if is_silent ws then Ok None else answer_of passes ws >>= λ a. Ok (Some a)
 
 abbrev pub header_line : List ℕ → Result (Option Limits) Cause
 header_line text = words_of text >>= λ ws. header_said ws
 
-abbrev pub answer_line : ℕ → List ℕ → Result (Option Said) Cause
+abbrev pub answer_line : ℕ → List ℕ → Result (Option Answer) Cause
 answer_line passes text = words_of text >>= λ ws. answer_said passes ws
 
 -- what was returned, seen by view, is what reading gives, unless memory was refused

@@ -2,15 +2,8 @@
 use Rattle.std.specs.Prelude.{◌≡◌, ℕ, List}
 use Rattle.sh_history.specs.History.{Allowed}
 use Rattle.sh_history.specs.declared.entry.Entry.{Entry}
-use Rattle.sh_history.specs.declared.entry.Entry.TheVariants.{Got}
-use Rattle.history_lines.specs.declared.line.Said.{Said}
-use Rattle.history_lines.specs.declared.line.Said.TheVariants.{Known, Unread}
-use Rattle.history_lines.specs.Book.{entry_said}
-
--- the entry may be the one that was said
-abbrev pub MayBe : Said → Entry → Type 0
-MayBe (Known known) entry = entry ≡ known
-MayBe (Unread pass key) entry = (value : List ℕ) × (entry ≡ Got pass key value)
+use Rattle.history_timed.specs.declared.call.Said.{Said}
+use Rattle.history_timed.specs.Calls.{MayBe, entry_said}
 
 -- of the entries that may be the one that was said, no other than the one that is judged is allowed
 abbrev pub OnlyTheIssuedValue : Type 0

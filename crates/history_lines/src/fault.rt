@@ -21,8 +21,12 @@ pub enum Cause {
     Count,
     /// An unknown entry.
     Entry,
-    /// The line begins with two times, which are not read yet.
-    Timed,
+    /// The begin of the call is above its end.
+    Times,
+    /// The line has times and an earlier one has none, or the other way round.
+    Mixed,
+    /// The call began before the pass's last one had ended.
+    Overlap,
 }
 
 /// Why a history was not judged. Its text is what follows `tool_history: ` on the program's fault line.

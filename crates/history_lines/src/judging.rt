@@ -6,8 +6,9 @@ ghost use Rattle.history_lines.specs.Book.{Book};
 ghost use Rattle.history_lines.specs.Taken.{HasTakenIn};
 ghost use Rattle.history_lines.specs.Judged.{cut_of, CameOfRest, IsVerdict, IsFaultOf};
 
+use crate::Reading;
 use crate::fault::{Cause, Fault, Trouble};
-use crate::{Reading, Verdict};
+use history_timed::Verdict;
 use std::alloc::Global;
 use std::io::{BufRead, ErrorKind};
 
@@ -41,12 +42,13 @@ fn cut(line: &[u8]) -> Cause
 }
 
 // The verdict when the input ends before the line of this number.
-fn end(reading: &Reading, number: u64) -> Result<Option<Verdict>, Fault>
+fn end(reading: &Reading, alloc: Global, number: u64) -> Result<Option<Verdict>, Fault>
     ensures { (book : Book) (now : AsRead) → HasTakenIn reading.now book → CameOfRest book number [] now result }
 {
-    match reading.counts() {
-        Some((entries, keys)) => Ok(Some(Verdict::Legal(entries, keys))),
-        None => Err(Fault::History(number, Cause::Header)),
+    match reading.verdict(alloc) {
+        Ok(Some(verdict)) => Ok(Some(verdict)),
+        Ok(None) => Err(Fault::History(number, Cause::Header)),
+        Err(_) => Err(Fault::Memory),
     }
 }
 
@@ -61,7 +63,7 @@ fn turn(
         → CameOfRest book number rest reading.new result }
 {
     let Some((last, line)) = text.split_last() else {
-        return end(reading, number);
+        return end(reading, alloc, number);
     };
     if *last != b'\n' {
         return Err(Fault::History(number, cut(text)));
@@ -76,12 +78,12 @@ fn turn(
 
 /// Reads a history to its end, or to the first line that is not allowed or has a fault, and judges it. Of the lines
 /// `history 1 4`, `0 Insert 4096 1 7`, `0 Removed 4096` and `0 Got 4096` the verdict is `line 4: AfterRemoval, by line
-/// 3`. Memory grows with the keys and the holds, and not with the lines.
+/// 3`. Memory grows with the keys and the holds, and not with the lines, unless they have times.
 pub fn judge<R: BufRead>(alloc: Global, input: &mut R) -> Result<Verdict, Fault>
     ensures { (text : List ℕ) → R.remaining input.old ≡ Some text
         → MatchResult result (IsVerdict text) (IsFaultOf text) }
 {
-    let mut reading = Reading::new();
+    let mut reading = Reading::new(alloc);
     let mut line = Vec::new(alloc);
     for number in 1..u64::MAX {
         next_line(input, &mut line)?;

@@ -1,19 +1,20 @@
-//! Recorded histories: a text with one answer of a map a line, and the verdict on it, which `history_audit` reaches
-//! line by line. What a text is, and what is wrong with one, is said in docs/HISTORIES.md.
+//! Recorded histories: a text with one answer of a map a line, and the verdict on it. Of lines without times
+//! `history_audit` reaches it line by line, of lines with times `history_timed` from all of them. What a text is, and
+//! what is wrong with one, is said in docs/HISTORIES.md.
 //!
 //! `line` says what one line is, `reading` takes lines in, and `judging` reads a whole input to its verdict. It is
 //! proved that the verdict is the right one of the history that the lines of the input say.
 #![tactic(auto)]
 
+pub mod calls;
 pub mod fault;
 pub mod judging;
 pub mod laws;
 pub mod line;
 pub mod reading;
-pub mod verdict;
 
 pub use fault::{Cause, Fault};
+pub use history_timed::Verdict;
 pub use judging::judge;
 pub use laws::only_the_issued_value;
 pub use reading::Reading;
-pub use verdict::Verdict;

@@ -3,22 +3,24 @@ ghost use Rattle.std.specs.Prelude.{◌≡◌, ◌≤◌, map, length, []};
 ghost use Rattle.std.specs.List.{list_all};
 ghost use Rattle.std.specs.Int.{is_in_range};
 ghost use Rattle.history_lines.specs.Line.{seen, kind_named, word_at, number_at, numbers_from, value_said, bare_said};
-ghost use Rattle.history_lines.specs.Line.{said_by, is_timed, pass_at, said_of, small_number, header_of, words_of};
+ghost use Rattle.history_lines.specs.Line.{said_by, has_times, end_at, times_of, timed_of, answer_of, pass_at};
+ghost use Rattle.history_lines.specs.Line.{said_of, small_number, header_of, words_of};
 ghost use Rattle.history_lines.specs.Line.{is_silent, header_said, answer_said, header_line, answer_line, Gives};
 
 use crate::fault::{Cause, Trouble};
+use history_timed::{Said, Span};
 use sh_history::Entry;
 use sh_script::words::{number, words};
 use sh_value::{Value, WORDS_MAX};
 use std::alloc::Global;
 
-/// What a line of the history says.
+/// An answer, and the times of its call, if the line has them.
 #[derive(Drop, Debug, PartialEq, Eq)]
-pub enum Said {
-    /// This entry.
-    Known(Entry),
-    /// The pass got a hold on the key, whose value was not read.
-    Unread(u32, u64),
+pub struct Answer {
+    /// The times.
+    pub times: Option<Span>,
+    /// The answer.
+    pub said: Said,
 }
 
 /// What the header says.
@@ -161,24 +163,11 @@ fn said_by(kind: Kind, pass: u32, key: u64, words: &[&[u8]]) -> Result<Said, Cau
     }
 }
 
-// Whether two times come before the pass.
-fn is_timed(words: &[&[u8]]) -> bool
-    ensures { result ≡ is_timed (map (λ w. w.now) words.now) }
-{
-    match words {
-        [_, end, _, kind, ..] => number(end).is_some() && kind_named(kind).is_some(),
-        _ => false,
-    }
-}
-
-// The answer that the words say, of a map with this number of passes.
+// The pass, the entry, its key, and its value if it has one, of a map with this number of passes.
 #[tactic(auto, unfolding(crate::specs::Line::said_of))]
-fn answer(passes: u32, words: &[&[u8]]) -> Result<Said, Cause>
+fn said_of(passes: u32, words: &[&[u8]]) -> Result<Said, Cause>
     ensures { result ≡ said_of passes (map (λ w. w.now) words.now) }
 {
-    if is_timed(words) {
-        return Err(Cause::Timed);
-    }
     let (pass, rest) = next_pass(passes, words)?;
     let (word, rest) = next(rest)?;
     let Some(kind) = kind_named(word) else {
@@ -186,6 +175,69 @@ fn answer(passes: u32, words: &[&[u8]]) -> Result<Said, Cause>
     };
     let (key, rest) = next_number(rest)?;
     said_by(kind, pass, key, rest)
+}
+
+// Whether two times come first: the second word is a number or `-`.
+fn has_times(words: &[&[u8]]) -> bool
+    ensures { result ≡ has_times (map (λ w. w.now) words.now) }
+{
+    match words {
+        [_, end, ..] => *end == b"-".as_slice() || number(end).is_some(),
+        _ => false,
+    }
+}
+
+// When a call ended, or `None` for `-`, and the words after it.
+fn next_end<'w, 'a>(words: &'w [&'a [u8]]) -> Result<(Option<u64>, &'w [&'a [u8]]), Cause>
+    ensures { seen (λ x. (x.0, map (λ w. w.now) x.1.now)) result ≡ end_at (map (λ w. w.now) words.entry.now) }
+{
+    let (word, rest) = next(words)?;
+    if word == b"-".as_slice() {
+        return Ok((None, rest));
+    }
+    match number(word) {
+        Some(end) => Ok((Some(end), rest)),
+        None => Err(Cause::Number),
+    }
+}
+
+// The times of a call.
+fn times_of(begin: u64, end: Option<u64>) -> Result<Span, Cause>
+    ensures { result ≡ times_of begin end }
+{
+    match end {
+        None => Ok(Span::unended(begin)),
+        Some(end) => match Span::new(begin, end) {
+            Some(times) => Ok(times),
+            None => Err(Cause::Times),
+        },
+    }
+}
+
+// The answer with its times.
+#[tactic(auto, unfolding(crate::specs::Line::timed_of))]
+fn timed_of(passes: u32, words: &[&[u8]]) -> Result<Answer, Cause>
+    ensures { result ≡ timed_of passes (map (λ w. w.now) words.now) }
+{
+    let (begin, rest) = next_number(words)?;
+    let (end, rest) = next_end(rest)?;
+    let times = times_of(begin, end)?;
+    let said = said_of(passes, rest)?;
+    Ok(Answer {
+        times: Some(times),
+        said,
+    })
+}
+
+// The answer that the words say, of a map with this number of passes.
+fn answer_of(passes: u32, words: &[&[u8]]) -> Result<Answer, Cause>
+    ensures { result ≡ answer_of passes (map (λ w. w.now) words.now) }
+{
+    if has_times(words) {
+        return timed_of(passes, words);
+    }
+    let said = said_of(passes, words)?;
+    Ok(Answer { times: None, said })
 }
 
 // A number of the header, below 2^32.
@@ -239,13 +291,13 @@ fn header_said(words: &[&[u8]]) -> Result<Option<Limits>, Cause>
 }
 
 // What the words of a line say under a header with this number of passes.
-fn answer_said(passes: u32, words: &[&[u8]]) -> Result<Option<Said>, Cause>
+fn answer_said(passes: u32, words: &[&[u8]]) -> Result<Option<Answer>, Cause>
     ensures { result ≡ answer_said passes (map (λ w. w.now) words.now) }
 {
     if is_silent(words) {
         return Ok(None);
     }
-    Ok(Some(answer(passes, words)?))
+    Ok(Some(answer_of(passes, words)?))
 }
 
 fn is_text(line: &[u8]) -> bool
@@ -279,7 +331,7 @@ pub fn header_line(alloc: Global, line: &[u8]) -> Result<Option<Limits>, Trouble
 }
 
 /// What a line says under a header with this number of passes: nothing, or an answer.
-pub fn answer_line(alloc: Global, passes: u32, line: &[u8]) -> Result<Option<Said>, Trouble>
+pub fn answer_line(alloc: Global, passes: u32, line: &[u8]) -> Result<Option<Answer>, Trouble>
     ensures { Gives (λ s. s) (answer_line passes line.now) result }
 {
     let words = words_of(alloc, line)?;

@@ -1,48 +1,35 @@
 //! A history that is read line by line.
-ghost use Rattle.std.specs.Prelude.{◌≡◌, ◌≢◌, ℕ, List, None, Some, length, IfNone, IfSome};
-ghost use Rattle.sh_history.specs.declared.entry.Entry.{Entry as Answered};
-ghost use Rattle.sh_history.specs.History.{insert_count};
+ghost use Rattle.std.specs.Prelude.{◌≡◌, ℕ, None, Some, IfOk, IfNone, IfSome};
 ghost use Rattle.history_audit.specs.declared.audit.Audit.{Audit as Auditing};
-ghost use Rattle.history_audit.specs.Lines.{entries_in};
-ghost use Rattle.history_audit.specs.Followed.{Follows};
-ghost use Rattle.history_lines.specs.Book.{Book, blank, entry_said};
+ghost use Rattle.history_lines.specs.declared.line.Limits.{Limits};
+ghost use Rattle.history_lines.specs.Book.{Book, blank};
+ghost use Rattle.history_lines.specs.Judged.{EndsWith};
 ghost use Rattle.history_lines.specs.Taken.{HasTakenIn, limits_of, CameOfAnswer, CameOfLine};
 
-use crate::fault::Trouble;
-use crate::line::{Said, answer_line, header_line};
+use crate::calls::Calls;
+use crate::fault::{Cause, Trouble};
+use crate::line::{Answer, answer_line, header_line};
+use history_timed::{Said, Span, Verdict, judge};
 use history_audit::{Audit, Clash};
-use sh_history::Entry;
-use sh_value::Value;
-use std::alloc::Global;
+use std::alloc::{AllocError, Global};
 
-/// What the lines so far have said: no header yet, or a history that is legal so far.
+/// What the lines so far have said: no header yet, or entries that are legal so far, or calls with times.
 #[derive(Drop)]
 pub struct Reading {
     audit: Option<Audit>,
     entries: u64,
-}
-
-// The entry that was said. A get whose value was not read gave the one that its key was inserted with.
-fn entry_of(audit: &Audit, said: Said) -> Entry
-    ensures { (lines : List (ℕ × Answered)) → Follows audit.now lines → result ≡ entry_said (entries_in lines) said }
-{
-    match said {
-        Said::Known(entry) => entry,
-        Said::Unread(pass, key) => match audit.value_of(key) {
-            Some(value) => Entry::Got(pass, key, value.copy()),
-            None => Entry::Got(pass, key, Value::empty()),
-        },
-    }
+    calls: Calls,
 }
 
 impl Reading {
     /// Before the first line.
-    pub fn new() -> Reading
+    pub fn new(alloc: Global) -> Reading
         ensures { HasTakenIn result blank }
     {
         Reading {
             audit: None,
             entries: 0,
+            calls: Calls::new(alloc),
         }
     }
 
@@ -60,24 +47,53 @@ impl Reading {
         }
     }
 
-    // Takes in an answer, under a header.
-    fn take(&mut self, number: u64, said: Said) -> Result<Option<Clash>, Trouble>
+    // Takes in an answer without times, under a header.
+    fn take_entry(&mut self, number: u64, said: Said) -> Result<Option<Clash>, Trouble>
         ensures { (book : Book) (audit : Auditing) → HasTakenIn self.old book → self.old.audit ≡ Some audit
-            → CameOfAnswer (limits_of audit) book number said self.new result }
+            → CameOfAnswer (limits_of audit) book number (record { times = None; said = said }) self.new result }
     {
+        if !self.calls.is_empty() {
+            return Err(Trouble::Because(Cause::Mixed));
+        }
         let Some(entries) = self.entries.checked_add(1) else {
             return Err(Trouble::Memory);
         };
         let Some(audit) = &mut self.audit else {
             return Ok(None);
         };
-        let entry = entry_of(audit, said);
+        let entry = said.entry(audit);
         match audit.push(number, &entry)? {
             None => {
                 self.entries = entries;
                 Ok(None)
             }
             Some(clash) => Ok(Some(clash)),
+        }
+    }
+
+    // Takes in an answer with times, under a header.
+    fn take_call(&mut self, number: u64, times: Span, said: Said) -> Result<Option<Clash>, Trouble>
+        ensures { (book : Book) (audit : Auditing) → HasTakenIn self.old book → self.old.audit ≡ Some audit
+            → CameOfAnswer (limits_of audit) book number (record { times = Some times; said = said }) self.new
+            result }
+    {
+        if self.entries > 0 {
+            return Err(Trouble::Because(Cause::Mixed));
+        }
+        match self.calls.push(number, times, said) {
+            Ok(()) => Ok(None),
+            Err(trouble) => Err(trouble),
+        }
+    }
+
+    // Takes in an answer, under a header.
+    fn take(&mut self, number: u64, answer: Answer) -> Result<Option<Clash>, Trouble>
+        ensures { (book : Book) (audit : Auditing) → HasTakenIn self.old book → self.old.audit ≡ Some audit
+            → CameOfAnswer (limits_of audit) book number answer self.new result }
+    {
+        match answer.times {
+            None => self.take_entry(number, answer.said),
+            Some(times) => self.take_call(number, times, answer.said),
         }
     }
 
@@ -93,7 +109,7 @@ impl Reading {
             → audit.passes ≡ passes → CameOfLine book number line.now self.new result }
     {
         match answer_line(alloc, passes, line)? {
-            Some(said) => self.take(number, said),
+            Some(answer) => self.take(number, answer),
             None => Ok(None),
         }
     }
@@ -117,15 +133,21 @@ impl Reading {
         }
     }
 
-    /// How many entries there are, and how many keys were inserted; none before the header.
-    pub fn counts(&self) -> Option<(u64, usize)>
-        ensures none { (book : Book) → HasTakenIn self.now book → IfNone result (book ≡ blank) }
-        ensures some { (book : Book) → HasTakenIn self.now book → IfSome result (λ counts. (book.limits ≢ None)
-            × (counts.0 ≡ length book.lines) × (counts.1 ≡ insert_count (entries_in book.lines))) }
+    /// The verdict at the end. Entries without times are legal: it says how many there are, and on how many inserted
+    /// keys. Of calls with times it says what is found. There is none before the header. Refused if memory is.
+    pub fn verdict(&self, alloc: Global) -> Result<Option<Verdict>, AllocError>
+        ensures none { (book : Book) → HasTakenIn self.now book
+            → IfOk result (λ verdict. IfNone verdict (book ≡ blank)) }
+        ensures some { (book : Book) → HasTakenIn self.now book → IfOk result (λ verdict. IfSome verdict
+            (λ v. (limits : Limits) × (book.limits ≡ Some limits) × EndsWith limits book v)) }
     {
-        match &self.audit {
-            Some(audit) => Some((self.entries, audit.keys())),
-            None => None,
+        let Some(audit) = &self.audit else {
+            return Ok(None);
+        };
+        if self.calls.is_empty() {
+            return Ok(Some(Verdict::Legal(self.entries, audit.keys())));
         }
+        let verdict = judge(alloc, self.calls.all(), audit.passes(), audit.guard_max())?;
+        Ok(Some(verdict))
     }
 }

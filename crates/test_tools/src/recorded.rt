@@ -23,7 +23,7 @@ fn says(rt: &impl Abort, alloc: Global, history: &str, wanted: &str) -> Result<(
     Ok(())
 }
 
-const SAID: [(&str, &str); 9] = [
+const SAID: [(&str, &str); 15] = [
     ("history 1 4\n", "legal, 0 entries on 0 keys"),
     (
         "; first\n\nhistory 2 4\n 0  Insert 4096 1 7 \n; then\n1 Gone 5\n",
@@ -38,7 +38,31 @@ const SAID: [(&str, &str); 9] = [
     ("history 1 4\n0 Gone", "fault 14 History line 2 Cut"),
     (
         "history 1 4\n1 2 0 Gone 4096\n",
-        "fault 14 History line 2 Timed",
+        "legal, 1 entries on 0 keys",
+    ),
+    (
+        "history 2 4\n1 4 0 Insert 4096 1 7\n2 3 1 Got 4096\n5 - 0 Removed 4096\n",
+        "legal, 3 entries on 1 keys",
+    ),
+    (
+        "history 2 4\n3 4 0 Insert 4096 1 7\n1 2 1 Got 4096\n",
+        "line 3: NotIssued",
+    ),
+    (
+        "history 3 4\n0 1 0 Insert 1 0\n2 9 0 Crowded 1\n3 4 1 Got 1\n5 6 1 Released 1\n7 8 1 Got 1\n",
+        "undecided, line 3 may be NotCrowded",
+    ),
+    (
+        "history 1 4\n3 2 0 Gone 4096\n",
+        "fault 14 History line 2 Times",
+    ),
+    (
+        "history 1 4\n1 2 0 Gone 4096\n0 Gone 4096\n",
+        "fault 14 History line 3 Mixed",
+    ),
+    (
+        "history 1 4\n1 2 0 Gone 4096\n2 3 0 Gone 4096\n",
+        "fault 14 History line 3 Overlap",
     ),
     (
         "history 1 4\n0 Insert 1 17 1 2 3 4 5 6 7 8 9 10 11 12 13 14 15 16 17\n",

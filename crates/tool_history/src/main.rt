@@ -12,8 +12,10 @@ use std::process::ExitCode;
 
 const AFTER_HELP: &str =
     "The first line is `history PASSES HOLDS_MAX`, and each further line one answer, as
-`PASS ENTRY KEY [LENGTH WORD ..]`, with ENTRY one of Insert, Got, Gone, Crowded,
-Removed and Released. docs/HISTORIES.md says more.
+`[BEGIN END] PASS ENTRY KEY [LENGTH WORD ..]`, with ENTRY one of Insert, Got, Gone,
+Crowded, Removed and Released. All lines have times or none has. Without times their
+order is judged. With times some order that keeps to them is looked for; END is `-`
+if the call never ended. docs/HISTORIES.md says more.
 
 Example, of a file in the folder examples/histories/:
   tool_history < legal.history
@@ -22,7 +24,8 @@ Exit status:
   0  the history is legal, or help or the version was asked for
   1  the history is not legal
   2  the command line or a line of the history is wrong
-  3  memory was refused, or a read or a write failed";
+  3  memory was refused, or a read or a write failed
+  4  the lines have times, and whether an order of them is legal was not decided";
 
 // Reads the command line, which has nothing but the program's name.
 fn options(alloc: Global, words: &[&str]) -> Result<(), Error> {
@@ -56,6 +59,7 @@ fn write_verdict(rt: &HostRuntime, verdict: &Verdict) -> u8 {
     match verdict {
         Verdict::Legal(_, _) => 0,
         Verdict::Broken(_, _) => 1,
+        Verdict::Undecided(_, _) => 4,
     }
 }
 

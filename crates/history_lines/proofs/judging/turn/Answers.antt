@@ -36,7 +36,8 @@ returns-in-Ok-None c = λ book rest is reads.
     )
 
 pub returns-in-Ok-Some : goal.returns-in-Ok-Some
-returns-in-Ok-Some c = λ book rest is reads. (
+returns-in-Ok-Some c = λ book rest is reads. inl (
+  c.in-Ok-Some.clash,
   refl,
   (
     c.in-Some.line.now,

@@ -8,4 +8,5 @@ returns-in-Some c = λ book n is.
     (rw (← c.in-Some.is) c.in_ok-limits.ensures) (record {
       audit = (rw (c.new.ensures.passes, c.new.ensures.guard_max) refl, c.new.ensures.follows);
       entries = rw (book_is_blank c.args.self.now book is c.requires) at is.entries;
+      calls = rw (book_is_blank c.args.self.now book is c.requires) at is.calls;
     })

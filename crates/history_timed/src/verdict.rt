@@ -1,5 +1,6 @@
 //! A verdict, and its text.
 use history_audit::Clash;
+use sh_history::Why;
 use std::fmt;
 
 /// The verdict on a history.
@@ -7,8 +8,11 @@ use std::fmt;
 pub enum Verdict {
     /// It is legal: how many entries it has, and on how many inserted keys.
     Legal(u64, usize),
-    /// The first line that is not allowed by those before it, counted from 1, and why.
+    /// It is not legal: the line that is not allowed, counted from 1, and why. Without times it is the first that those
+    /// before it do not allow. With times no order that keeps to them allows it.
     Broken(u64, Clash),
+    /// With times: the order that was tried does not allow this line, for this reason. Another order may be legal.
+    Undecided(u64, Why),
 }
 
 impl fmt::Display for Verdict {
@@ -19,6 +23,7 @@ impl fmt::Display for Verdict {
             Verdict::Broken(line, Clash { why, by: Some(by) }) => {
                 write!(f, "line {line}: {why:?}, by line {by}")
             }
+            Verdict::Undecided(line, why) => write!(f, "undecided, line {line} may be {why:?}"),
         }
     }
 }

@@ -1,0 +1,8 @@
+pub mod ListLemmas
+pub mod HistoryLemmas
+pub mod PlaceLemmas
+pub mod CountLemmas
+pub mod RefusalLemmas
+pub mod OrderLemmas
+pub mod PointLemmas
+pub mod JudgingLemmas

@@ -1,0 +1,6 @@
+pub mod Times
+pub mod Calls
+pub mod Orders
+pub mod Clashes
+pub mod Placing
+pub mod Verdicts

@@ -1,0 +1,58 @@
+//! The verdict on calls with times.
+ghost use Rattle.std.specs.Prelude.{IfOk, IfErr, map};
+ghost use Rattle.std.specs.List.{Contains};
+ghost use Rattle.history_timed.specs.Placing.{call_of};
+ghost use Rattle.history_timed.specs.Verdicts.{IsVerdictOn, HasLegalHistory};
+
+use crate::call::Call;
+use crate::clashing::refusal;
+use crate::order::{Placed, in_order};
+use crate::verdict::Verdict;
+use history_audit::Audit;
+use sh_history::Why;
+use std::alloc::{AllocError, Global};
+
+// Audits the calls in this order: on how many keys they are, if it is legal. Otherwise the first call that is not
+// allowed, and why.
+fn audited<'a>(
+    alloc: Global,
+    placed: &[Placed<'a>],
+    passes: u32,
+    guard_max: u32,
+) -> Result<Result<usize, (&'a Call, Why)>, AllocError>
+    ensures legal { IfOk result (λ found. IfOk found
+        (HasLegalHistory passes guard_max (map call_of placed.now))) }
+    ensures not_allowed { IfOk result (λ found. IfErr found
+        (λ fault. Contains (map call_of placed.now) fault.0.now)) }
+{
+    let mut audit = Audit::new(alloc, passes, guard_max);
+    for at in placed {
+        let entry = at.call.said.entry(&audit);
+        if let Some(clash) = audit.push(at.call.line, &entry)? {
+            return Ok(Err((at.call, clash.why)));
+        }
+    }
+    Ok(Ok(audit.keys()))
+}
+
+/// Judges calls by their answers and times: whether some order of them that keeps to the times is legal, of a map with
+/// this number of passes. A key may have at most `guard_max` holds. Calls that never ended may be left out. Refused if
+/// memory is.
+pub fn judge(
+    alloc: Global,
+    calls: &[Call],
+    passes: u32,
+    guard_max: u32,
+) -> Result<Verdict, AllocError>
+    ensures { IfOk result (IsVerdictOn passes guard_max calls.now) }
+{
+    let placed = in_order(alloc, calls)?;
+    let (call, why) = match audited(alloc, placed.as_slice(), passes, guard_max)? {
+        Ok(keys) => return Ok(Verdict::Legal(placed.len() as u64, keys)),
+        Err(fault) => fault,
+    };
+    match refusal(calls, call, why, passes, guard_max) {
+        Some((clashing, clash)) => Ok(Verdict::Broken(clashing.line, clash)),
+        None => Ok(Verdict::Undecided(call.line, why)),
+    }
+}

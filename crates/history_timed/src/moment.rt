@@ -1,0 +1,72 @@
+//! The moment of a call, by the course of its key.
+ghost use Rattle.std.specs.Prelude.{◌≡◌, MatchOption, false};
+ghost use Rattle.history_timed.specs.Times.{IsWithin, is_ended};
+
+use crate::call::{Call, Said};
+use crate::course::Course;
+use sh_history::Entry;
+
+/// The order of answers on one key at one moment.
+#[derive(Clone, Copy, Debug, PartialEq, Eq, PartialOrd, Ord)]
+pub enum Rank {
+    /// The key is gone, since it is yet to be inserted.
+    Early,
+    /// An insert.
+    Insert,
+    /// A get.
+    Get,
+    /// A get that is refused as crowded.
+    Crowded,
+    /// A removal.
+    Remove,
+    /// The key is gone, since it was removed.
+    Late,
+    /// A release.
+    Release,
+}
+
+/// A moment, and the order at it.
+#[derive(Clone, Copy, Debug, PartialEq, Eq, PartialOrd, Ord)]
+pub struct Point {
+    /// The moment.
+    pub moment: u64,
+    /// The order at that moment.
+    pub rank: Rank,
+}
+
+// The wish of an answer that the key is gone: before the insert if the call had begun by then, and otherwise after the
+// removal.
+fn gone(course: &Course, begin: u64) -> (u64, Rank) {
+    match course.inserted() {
+        Some(inserted) if inserted < begin => { (course.removed().unwrap_or(u64::MAX), Rank::Late) }
+        _ => (begin, Rank::Early),
+    }
+}
+
+// The moment that a call would have, if its times did not count, and its rank.
+fn wish(course: &Course, call: &Call) -> (u64, Rank) {
+    let inserted = course.inserted().unwrap_or(0);
+    match &call.said {
+        Said::Known(Entry::Insert(_, _, _)) => (inserted, Rank::Insert),
+        Said::Known(Entry::Got(_, _, _)) | Said::Unread(_, _) => (inserted, Rank::Get),
+        Said::Known(Entry::Crowded(_, _)) => (inserted, Rank::Crowded),
+        Said::Known(Entry::Gone(_, _)) => gone(course, call.times.begin()),
+        Said::Known(Entry::Removed(_, _)) => (course.removed().unwrap_or(0), Rank::Remove),
+        Said::Known(Entry::Released(_, _)) => (u64::MAX, Rank::Release),
+    }
+}
+
+/// The point of a call in its times, or `None` if it never ended and is best left out.
+pub fn point_of(course: &Course, call: &Call) -> Option<Point>
+    ensures { MatchOption result (is_ended call.now.times ≡ false)
+        (λ point. IsWithin call.now.times point.moment) }
+{
+    if !call.times.is_ended() && !course.is_change(call.line) {
+        return None;
+    }
+    let (moment, rank) = wish(course, call);
+    Some(Point {
+        moment: call.times.nearest(moment),
+        rank,
+    })
+}

@@ -1,0 +1,37 @@
+//! The calls in the order of their moments.
+ghost use Rattle.std.specs.Prelude.{◌≡◌, IfOk, map, List};
+ghost use Rattle.std.specs.List.Sorted.{IsNonDecreasingBy};
+ghost use Rattle.history_timed.specs.declared.call.Call.{Call as Made};
+ghost use Rattle.history_timed.specs.Placing.{call_of};
+ghost use Rattle.history_timed.specs.Orders.{IsOrder};
+
+use crate::call::Call;
+use crate::course::Courses;
+use crate::moment::{Point, point_of};
+use std::alloc::{AllocError, Global};
+
+/// A call and its point in time.
+#[derive(Clone, Copy, Debug)]
+pub struct Placed<'a> {
+    /// The point, within the times of the call.
+    pub point: Point,
+    /// The call.
+    pub call: &'a Call,
+}
+
+/// The calls in an order that keeps to their times. Calls that never ended are left out, except inserts and removals
+/// that others need. Refused if memory is.
+pub fn in_order<'a>(alloc: Global, calls: &'a [Call]) -> Result<Vec<Placed<'a>>, AllocError>
+    ensures { IfOk result (λ placed. IsOrder calls.now (map call_of placed.items)) }
+{
+    let courses = Courses::new(alloc, calls)?;
+    let mut all = Vec::new(alloc);
+    for call in calls {
+        let course = courses.of(call.said.key());
+        if let Some(point) = point_of(&course, call) {
+            all.push(Placed { point, call })?;
+        }
+    }
+    all.sort_by_key(|placed| placed.point)?;
+    Ok(all)
+}
