@@ -9,8 +9,8 @@ ghost use Rattle.history_lines.specs.Taken.{HasTakenIn, limits_of, CameOfAnswer,
 use crate::calls::Calls;
 use crate::fault::{Cause, Trouble};
 use crate::line::{Answer, answer_line, header_line};
-use history_timed::{Said, Span, Verdict, judge};
 use history_audit::{Audit, Clash};
+use history_timed::{Said, Span, Verdict, judge};
 use std::alloc::{AllocError, Global};
 
 /// What the lines so far have said: no header yet, or entries that are legal so far, or calls with times.

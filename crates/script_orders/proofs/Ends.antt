@@ -82,67 +82,67 @@ left_of_some lines lanes passes from (suc k) less =
 module _ (layout : Layout) (p : Program) (order words : List ℕ) (lanes : List Did)
     (leads : LeadsTo layout p order words lanes) (rests : (a : ℕ) (d : Did) → slice_get lanes a ≡ Some d
     → HasNoNext (plan_in layout p) (world_by layout p order).parts p.lines.now a d.behind) where
-  abbrev lines : List Event
-  lines = p.lines.now
+  abbrev its_lines : List Event
+  its_lines = p.lines.now
 
   abbrev passes : ℕ
   passes = p.shape.passes
 
-  abbrev plan : Plan
-  plan = plan_in layout p
+  abbrev its_plan : Plan
+  its_plan = plan_in layout p
 
-  abbrev w : World
-  w = world_by layout p order
+  abbrev its_end : World
+  its_end = world_by layout p order
 
   abbrev left : List ℕ
-  left = all_left lines lanes passes
+  left = all_left its_lines lanes passes
 
-  one_skips : (a : ℕ) (o : Option Did) → slice_get lanes a ≡ o → Skips plan w (events_of lines (left_option lines a o))
+  one_skips : (a : ℕ) (o : Option Did) → slice_get lanes a ≡ o → Skips its_plan its_end (events_of its_lines (left_option its_lines a o))
   one_skips a (Some d) at =
-      not_due_skips plan w lines a d.behind (length lines - d.behind) (λ n low high. rests a d at n low)
-  one_skips a None at = skips_none plan w
+      not_due_skips its_plan its_end its_lines a d.behind (length its_lines - d.behind) (λ n low high. rests a d at n low)
+  one_skips a None at = skips_none its_plan its_end
 
-  left_skips : (from k : ℕ) → Skips plan w (events_of lines (flat_map (left_of lines lanes) (range_with_len from k)))
-  left_skips from zero = skips_none plan w
+  left_skips : (from k : ℕ) → Skips its_plan its_end (events_of its_lines (flat_map (left_of its_lines lanes) (range_with_len from k)))
+  left_skips from zero = skips_none its_plan its_end
   left_skips from (suc k) =
-      let rest : List ℕ = flat_map (left_of lines lanes) (range_with_len (from + 1) k) in
-      let P : List Event → Type 0 = λ es. Skips plan w es in
-      subst P (sym (events_append lines (left_of lines lanes from) rest))
-      (skips_append plan w (events_of lines (left_of lines lanes from)) (events_of lines rest)
+      let rest : List ℕ = flat_map (left_of its_lines lanes) (range_with_len (from + 1) k) in
+      let P : List Event → Type 0 = λ es. Skips its_plan its_end es in
+      subst P (sym (events_append its_lines (left_of its_lines lanes from) rest))
+      (skips_append its_plan its_end (events_of its_lines (left_of its_lines lanes from)) (events_of its_lines rest)
       (one_skips from (slice_get lanes from) refl) (left_skips (from + 1) k))
 
-  pub world_same : world_by layout p (order ++ left) ≡ w
-  world_same = world_more layout p order left ∙ skips_run plan w (events_of lines left) (left_skips 0 passes)
+  pub world_same : world_by layout p (order ++ left) ≡ its_end
+  world_same = world_more layout p order left ∙ skips_run its_plan its_end (events_of its_lines left) (left_skips 0 passes)
 
   replies_same : (a : ℕ) → replies_by layout p (order ++ left) a ≡ replies_by layout p order a
   replies_same a =
       replies_more layout p order left a
       ∙ ap (λ (t : List ℕ). replies_by layout p order a ++ t)
-      (skips_reply plan w (events_of lines left) a (left_skips 0 passes))
+      (skips_reply its_plan its_end (events_of its_lines left) a (left_skips 0 passes))
       ∙ append-nil (replies_by layout p order a)
 
   there : (a : ℕ) → a < passes → slice_get lanes a ≡ Some (get_or lanes a nothing)
   there a less = let count = leads.count in slice_get-get_or lanes a nothing (omega arith)
 
-  pub is_order : IsOrder lines passes (order ++ left)
+  pub is_order : IsOrder its_lines passes (order ++ left)
   is_order = record {
     all = λ a less.
         let d : Did = get_or lanes a nothing in
         let done = leads.each a d (there a less) in
         let within = done.within in
-        filter-append (is_of lines a) order left
-        ∙ ap (λ (xs : List ℕ). xs ++ filter (is_of lines a) left) done.lines
-        ∙ ap (λ (xs : List ℕ). lines_within lines a 0 d.behind ++ xs)
-        (left_own lines lanes a 0 passes (omega arith) (omega arith)
-        ∙ ap (λ (o : Option Did). left_option lines a o) (there a less))
-        ∙ sym (lines_join lines a 0 d.behind (length lines) (omega arith) within);
-    only = All-append (IsOfSome lines passes) order left leads.only
-        (left_of_some lines lanes passes 0 passes (omega arith));
+        filter-append (is_of its_lines a) order left
+        ∙ ap (λ (xs : List ℕ). xs ++ filter (is_of its_lines a) left) done.lines
+        ∙ ap (λ (xs : List ℕ). lines_within its_lines a 0 d.behind ++ xs)
+        (left_own its_lines lanes a 0 passes (omega arith) (omega arith)
+        ∙ ap (λ (o : Option Did). left_option its_lines a o) (there a less))
+        ∙ sym (lines_join its_lines a 0 d.behind (length its_lines) (omega arith) within);
+    only = All-append (IsOfSome its_lines passes) order left leads.only
+        (left_of_some its_lines lanes passes 0 passes (omega arith));
   }
 
-  pub replies_are : map (λ (d : Did). d.replies) lanes ≡ map (replies_by layout p (order ++ left))
+  pub all_replies : map (λ (d : Did). d.replies) lanes ≡ map (replies_by layout p (order ++ left))
       (range_with_len 0 passes)
-  replies_are =
+  all_replies =
       let f : Did → List ℕ = λ d. d.replies in
       fill_by_all (replies_by layout p (order ++ left)) (map f lanes) passes []
       (length-map lanes f ∙ leads.count) (λ a less.

@@ -104,8 +104,8 @@ first_leads layout p k words lanes runs same none =
 
 -- ---- what the passes have left
 
-abbrev left_option : List Event → ℕ → Option Did → List ℕ
-left_option lines a o = elim o [ Some d ↦ lines_within lines a d.behind (length lines) | None ↦ [] ]
+abbrev left_there : List Event → ℕ → Option Did → List ℕ
+left_there lines a o = elim o [ Some d ↦ lines_within lines a d.behind (length lines) | None ↦ [] ]
 
 pub left_more : (lines : List Event) (lanes : List Did) (n : ℕ) → all_left lines lanes (n + 1)
     ≡ all_left lines lanes n ++ left_of lines lanes n
@@ -121,7 +121,7 @@ pub left_lines : (lines : List Event) (lanes : List Did) (n : ℕ) (d : Did) (st
     → new ≡ old ++ lines_within lines n d.behind (length lines) → new ≡ start ++ all_left lines lanes (n + 1)
 left_lines lines lanes n d start old new at so more =
     let these : List ℕ = lines_within lines n d.behind (length lines) in
-    let is : left_of lines lanes n ≡ these = ap (left_option lines n) at in
+    let is : left_of lines lanes n ≡ these = ap (left_there lines n) at in
     more ∙ ap (λ (xs : List ℕ). xs ++ these) so ∙ append_assoc start (all_left lines lanes n) these
     ∙ ap (λ (xs : List ℕ). start ++ xs) (sym (left_more lines lanes n
     ∙ ap (λ (xs : List ℕ). all_left lines lanes n ++ xs) is))
@@ -129,6 +129,6 @@ left_lines lines lanes n d start old new at so more =
 pub left_past : (lines : List Event) (lanes : List Did) (n : ℕ) (start old : List ℕ) → slice_get lanes n ≡ None
     → old ≡ start ++ all_left lines lanes n → old ≡ start ++ all_left lines lanes (n + 1)
 left_past lines lanes n start old at so =
-    let is : left_of lines lanes n ≡ [] = ap (left_option lines n) at in
+    let is : left_of lines lanes n ≡ [] = ap (left_there lines n) at in
     so ∙ ap (λ (xs : List ℕ). start ++ xs) (sym (left_more lines lanes n
     ∙ ap (λ (xs : List ℕ). all_left lines lanes n ++ xs) is ∙ append-nil (all_left lines lanes n)))

@@ -116,8 +116,8 @@ skipped_at plan w e a same h =
     [ Some part ↦ is_enabled plan part e.action | None ↦ false ]) ≡ false in
     no_row plan w.parts e (subst P (sym same) h)
 
-abbrev of_option : ℕ → Option Event → Bool
-of_option a o = elim o [ Some e ↦ e.pass == a | None ↦ false ]
+abbrev event_is_of : ℕ → Option Event → Bool
+event_is_of a o = elim o [ Some e ↦ e.pass == a | None ↦ false ]
 
 abbrev may_do : Plan → List Body → ℕ → Event → Bool
 may_do plan parts a e = elim (slice_get parts a) [ Some part ↦ is_enabled plan part e.action | None ↦ false ]
@@ -137,7 +137,7 @@ skips_event plan w lines a from rest e at false is h more = more
 
 skips_more : (plan : Plan) (w : World) (lines : List Event) (a from : ℕ) (rest : List ℕ) (o : Option Event)
     → slice_get lines from ≡ o → due_option plan w.parts a o ≡ false → Skips plan w (events_of lines rest)
-    → Skips plan w (events_of lines (cond (of_option a o) (from ∷ rest) rest))
+    → Skips plan w (events_of lines (cond (event_is_of a o) (from ∷ rest) rest))
 skips_more plan w lines a from rest (Some e) at due more =
     skips_event plan w lines a from rest e at (e.pass == a) refl due more
 skips_more plan w lines a from rest None at due more = more

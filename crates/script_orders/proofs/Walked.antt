@@ -88,8 +88,8 @@ lane_past s pass xs same le =
     slice_get-map did s.lanes.items pass ∙ ap (option_map did)
     (subst (λ (zs : List Lane). slice_get zs pass ≡ None) same (slice_get_past xs pass le))
 
-abbrev due_option : Plan → List Body → ℕ → Option Event → Bool
-due_option plan parts pass o = elim o [
+abbrev due_there : Plan → List Body → ℕ → Option Event → Bool
+due_there plan parts pass o = elim o [
   | Some e ↦ (e.pass == pass) && (elim (slice_get parts pass) [
     | Some part ↦ is_enabled plan part e.action
     | None ↦ false
@@ -101,5 +101,5 @@ pub due_within : {P : Type 0} (plan : Plan) (parts : List Body) (lines : List Ev
     → is_due plan parts lines pass n ≡ true → length lines ≤ n → P
 due_within plan parts lines pass n due past =
     let none : is_due plan parts lines pass n ≡ false =
-    ap (due_option plan parts pass) (slice_get_past lines n past) in
+    ap (due_there plan parts pass) (slice_get_past lines n past) in
     absurd (let z : false ≡ true = sym none ∙ due in cc)

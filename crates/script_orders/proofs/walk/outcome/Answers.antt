@@ -5,7 +5,7 @@ use Rattle.script_orders.specs.Lanes.{Did}
 use Rattle.script_orders.specs.Orders.{IsOrder}
 use Rattle.script_orders.specs.Reached.{plan_in, lanes_of, world_by, replies_by, HasNoNext}
 use Rattle.script_orders.specs.States.{all_left}
-use Rattle.script_orders.proofs.Ends.{is_order, world_same, replies_are}
+use Rattle.script_orders.proofs.Ends.{is_order, world_same, all_replies}
 use Rattle.script_orders.proofs.walk.outcome.Goals as goal
 
 pub returns-clause-is : goal.returns-clause-is
@@ -31,7 +31,7 @@ returns-clause-is g c =
           (is_order layout p order words lanes leads rests);
       replies =
           c.in_ok-replies.ensures
-          ∙ replies_are layout p order words lanes leads rests
+          ∙ all_replies layout p order words lanes leads rests
           ∙ ap (λ (xs : List ℕ). map (replies_by layout p xs) (range_with_len 0 p.shape.passes)) (sym is);
       pages = c.in_ok-pages.ensures witness (ap (world_by layout p) is
           ∙ world_same layout p order words lanes leads rests);
