@@ -1,0 +1,4 @@
+pub mod Alone
+pub mod GoesOn
+pub mod Emptied
+pub mod Exact

@@ -1,0 +1,5 @@
+use Rattle.sh_quiet.proofs.Exact.{full_is_exact}
+use Rattle.sh_quiet.proofs.laws.full_is_exact.Goals as goal
+
+pub returns : goal.returns
+returns c = full_is_exact
