@@ -3,17 +3,17 @@ use super::{agree, opened, owner_and_reader};
 use gearlongan::{Hold, NextKey, Pass, Reader, Refusal, Shard, Value, Wide, next_own_key};
 use std::process::Abort;
 
-// The place of a key in its shard, by the format of keys of layout `Wide`: 48 for each page before its own, and its
-// slot.
-fn place_of(key: u64) -> u64 {
-    key / 64 % 1024 * 48 + key % 64
+// The place behind that of a key in its shard, by the format of keys of layout `Wide`: there are 48 places for each
+// page before its own, and its place on the page is its slot.
+fn behind(key: u64) -> u64 {
+    key / 64 % 1024 * 48 + (key % 64 + 1)
 }
 
 // Asserts that the walk goes on with this key, and returns where it continues.
 fn finds(rt: &impl Abort, owner: &mut Shard<'_, Wide>, from: u64, key: u64) -> u64 {
     let next = NextKey {
         key,
-        behind: place_of(key) + 1,
+        behind: behind(key),
     };
     agree(rt, next_own_key(owner, from), Ok(Some(next)));
     next.behind
