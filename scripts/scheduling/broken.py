@@ -237,9 +237,9 @@ HEAPS = [
     Broken(
         "page_of_an_own_free_stays_full",
         "sh_shard/src/shard.rt",
-        "        let (answer, came) = self.pages.remove(key);\n",
-        "        let (answer, came) = self.pages.remove(key);\n"
-        "        let came = if BROKEN { None } else { came };\n",
+        "        let (answer, gained) = self.pages.remove(key);\n",
+        "        let (answer, gained) = self.pages.remove(key);\n"
+        "        let gained = if BROKEN { None } else { gained };\n",
         False,
     ),
     # What other threads could have brought about, so that no contract refuses it.
