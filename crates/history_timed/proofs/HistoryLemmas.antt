@@ -1,7 +1,7 @@
 -- What a legal history has said before each entry.
-use Rattle.std.proofs.Common.{◌≡◌, ◌∙◌, ℕ, ◌<◌, Bool, true, false, cond, List, [], ◌∷◌, ◌++◌, Option, Some, None, zero, suc}
-use Rattle.std.proofs.Common.{refl, sym, subst, ap, take, append_assoc, eqb-true, inl, inr}
-use Rattle.std.specs.Prelude.{slice_get, IsSome, is_some, ◌==◌, ◌||◌, ◌⊎◌}
+use Rattle.std.proofs.Common.{◌≡◌, ℕ, Bool, true, false, cond, List, [], ◌∷◌, ◌++◌, Option, Some, None, zero, suc}
+use Rattle.std.proofs.Common.{refl, sym, subst, ap, take, append_assoc, eqb-true}
+use Rattle.std.specs.Prelude.{slice_get, IsSome, is_some, ◌==◌, ◌||◌}
 use Rattle.std.specs.List.{list_any}
 use Rattle.std.proofs.lemmas.List.{append-nil}
 use Rattle.std.proofs.lemmas.Bool.{true≢false}

@@ -1,5 +1,5 @@
 -- Lists, place by place.
-use Rattle.std.proofs.Common.{◌≡◌, ◌∙◌, ℕ, ◌+◌, ◌<◌, Bool, true, false, List, [], ◌∷◌, Option, Some, None, zero, suc, refl}
+use Rattle.std.proofs.Common.{◌≡◌, ℕ, ◌<◌, Bool, true, false, List, [], ◌∷◌, Some, None, zero, suc, refl}
 use Rattle.std.proofs.Common.{sym, subst, arith, take, length, inl, inr}
 use Rattle.std.specs.Prelude.{slice_get, ◌||◌, ◌&&◌, ◌⊎◌, not}
 use Rattle.std.specs.List.{AllZip, Contains, list_any, list_all}

@@ -1,8 +1,8 @@
 -- What a legal order that keeps to the times has at its places.
-use Rattle.std.proofs.Common.{◌≡◌, ◌∙◌, ℕ, ◌<◌, ◌≤◌, true, false, List, ◌++◌, Some, refl, sym, subst, take, inl, inr, arith}
+use Rattle.std.proofs.Common.{◌≡◌, ◌∙◌, ℕ, ◌<◌, true, false, List, ◌++◌, Some, sym, take, inl, inr, arith}
 use Rattle.std.proofs.Common.{None, rules}
 use Rattle.std.specs.Prelude.{slice_get, IsSome, ◌||◌, nat_eq}
-use Rattle.std.specs.List.{Contains, list_any}
+use Rattle.std.specs.List.{Contains}
 use Rattle.std.proofs.lemmas.Bool.{true≢false}
 use Rattle.std.proofs.lemmas.Bool.Decides.{leb_tells}
 use Rattle.std.proofs.lemmas.List.Elements.{All-contains, Contains-append_left, Contains-append_cases}

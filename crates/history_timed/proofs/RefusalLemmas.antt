@@ -1,5 +1,5 @@
 -- If lines clash, no order that keeps to the times is legal.
-use Rattle.std.proofs.Common.{◌≡◌, ◌≢◌, ◌∙◌, ℕ, ◌+◌, ◌<◌, ◌≤◌, true, false, List, Option, Some, None, refl, sym, subst, ap}
+use Rattle.std.proofs.Common.{◌≡◌, ◌≢◌, ◌∙◌, ℕ, ◌<◌, ◌≤◌, true, List, Option, Some, None, refl, sym, subst, ap}
 use Rattle.std.proofs.Common.{take, inl, inr, arith, rules}
 use Rattle.std.specs.Prelude.{slice_get, is_some, ◌⊎◌, not}
 use Rattle.std.specs.List.{Contains}
@@ -9,7 +9,7 @@ use Rattle.sh_history.specs.declared.checker.Why.{Why}
 use Rattle.sh_history.specs.declared.checker.Why.TheVariants.{NotNew, NotIssued, OtherValue, AfterRemoval, StillThere}
 use Rattle.sh_history.specs.declared.checker.Why.TheVariants.{NotCrowded, NotHeld}
 use Rattle.sh_history.specs.declared.entry.Entry.{Entry}
-use Rattle.sh_history.specs.declared.entry.Entry.TheVariants.{Insert, Got, Gone, Crowded, Removed, Released}
+use Rattle.sh_history.specs.declared.entry.Entry.TheVariants.{Insert, Got, Gone, Crowded, Released}
 use Rattle.sh_history.specs.History.{Allowed, is_removed, holds_by, is_got_by, is_got_of, is_release_by, is_release_of}
 use Rattle.history_timed.specs.declared.call.Call.{Call}
 use Rattle.history_timed.specs.declared.call.Said.{Said}
@@ -17,7 +17,7 @@ use Rattle.history_timed.specs.declared.call.Said.TheVariants.{Known, Unread}
 use Rattle.history_timed.specs.Calls.{MayBe, key_said, inserts, gets, releases, gets_by, releases_by}
 use Rattle.history_timed.specs.Times.{is_ended, is_below, ends_before}
 use Rattle.history_timed.specs.Orders.{IsLegalOrder, HasLegalOrder}
-use Rattle.history_timed.specs.Clashes.{AtLine, IsAnother, IsInsertedTwice, IsNeverIssued, HasNoSuchInsert, IsUsedLate}
+use Rattle.history_timed.specs.Clashes.{AtLine, IsInsertedTwice, IsNeverIssued, HasNoSuchInsert, IsUsedLate}
 use Rattle.history_timed.specs.Clashes.{IsRemovedTwice, IsNotGone, IsHeldByNone, IsUncrowded, ClashesOn, IsClash}
 use Rattle.history_timed.specs.Clashes.{inserts_value, StaysThere}
 use Rattle.history_timed.proofs.ListLemmas.{any_at, all_holds, contained, not_first, both}

@@ -1,9 +1,9 @@
 -- What calls say of a key.
 use Rattle.std.specs.Prelude.{◌≡◌, ℕ, ◌==◌, ◌&&◌, ◌||◌, Bool, false, List, []}
 use Rattle.std.specs.Option.{unwrap_or}
-use Rattle.sh_history.specs.History.{value_of, is_got_of, is_got_by, is_release_of, is_release_by, is_removal_of}
+use Rattle.sh_history.specs.History.{value_of, is_got_of, is_got_by, is_release_of, is_release_by}
 use Rattle.sh_history.specs.declared.entry.Entry.{Entry}
-use Rattle.sh_history.specs.declared.entry.Entry.TheVariants.{Insert, Got, Gone, Crowded, Removed, Released}
+use Rattle.sh_history.specs.declared.entry.Entry.TheVariants.{Insert, Got, Crowded, Removed}
 use Rattle.sh_history.specs.Log.{pass_of}
 use Rattle.history_audit.specs.Lines.{key_of}
 use Rattle.history_timed.specs.declared.call.Said.{Said}

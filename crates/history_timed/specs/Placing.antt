@@ -1,6 +1,5 @@
 -- Calls that are placed in time.
-use Rattle.std.specs.Prelude.{◌≡◌, ℕ, List, All, map, ◌++◌}
-use Rattle.std.specs.List.Sorted.{IsPermutation, IsNonDecreasingBy}
+use Rattle.std.specs.Prelude.{List, All}
 use Rattle.history_timed.specs.declared.call.Call.{Call}
 use Rattle.history_timed.specs.declared.order.Placed.{Placed}
 use Rattle.history_timed.specs.Times.{IsWithin}

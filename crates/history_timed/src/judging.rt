@@ -46,7 +46,8 @@ pub fn judge(
 ) -> Result<Verdict, AllocError>
     ensures { IfOk result (IsVerdictOn passes guard_max calls.now) }
 {
-    let placed = in_order(alloc, calls)?;
+    let enough = (guard_max as u64 + 1).saturating_sub(passes as u64);
+    let placed = in_order(alloc, calls, enough)?;
     let (call, why) = match audited(alloc, placed.as_slice(), passes, guard_max)? {
         Ok(keys) => return Ok(Verdict::Legal(placed.len() as u64, keys)),
         Err(fault) => fault,

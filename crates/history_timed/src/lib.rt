@@ -1,13 +1,14 @@
 //! Histories with the times of their calls: some order of the answers that keeps to the times is looked for, and judged
 //! by `history_audit`.
 //!
-//! `course` and `moment` give each call a moment within its times, `order` sorts by it, and `judging` audits that
-//! order. It is proved that a legal order was found, or that there is none by the lines named, or it stays open.
+//! `course`, `holding` and `moment` give each call a moment within its times, `order` sorts by it, and `judging` audits
+//! that order. It is proved that a legal order was found, or that there is none by the lines named, or it stays open.
 #![tactic(auto)]
 
 pub mod call;
 pub mod clashing;
 pub mod course;
+pub mod holding;
 pub mod judging;
 pub mod law;
 pub mod moment;

@@ -1,12 +1,11 @@
 //! The calls in the order of their moments.
-ghost use Rattle.std.specs.Prelude.{◌≡◌, IfOk, map, List};
-ghost use Rattle.std.specs.List.Sorted.{IsNonDecreasingBy};
-ghost use Rattle.history_timed.specs.declared.call.Call.{Call as Made};
+ghost use Rattle.std.specs.Prelude.{IfOk, map};
 ghost use Rattle.history_timed.specs.Placing.{call_of};
 ghost use Rattle.history_timed.specs.Orders.{IsOrder};
 
 use crate::call::Call;
 use crate::course::Courses;
+use crate::holding::Holding;
 use crate::moment::{Point, point_of};
 use std::alloc::{AllocError, Global};
 
@@ -20,15 +19,20 @@ pub struct Placed<'a> {
 }
 
 /// The calls in an order that keeps to their times. Calls that never ended are left out, except inserts and removals
-/// that others need. Refused if memory is.
-pub fn in_order<'a>(alloc: Global, calls: &'a [Call]) -> Result<Vec<Placed<'a>>, AllocError>
+/// that others need. A refusal as crowded comes when its key first has `enough` holds, if it can. Refused if memory is.
+pub fn in_order<'a>(
+    alloc: Global,
+    calls: &'a [Call],
+    enough: u64,
+) -> Result<Vec<Placed<'a>>, AllocError>
     ensures { IfOk result (λ placed. IsOrder calls.now (map call_of placed.items)) }
 {
     let courses = Courses::new(alloc, calls)?;
+    let holding = Holding::new(alloc, calls, &courses)?;
     let mut all = Vec::new(alloc);
     for call in calls {
         let course = courses.of(call.said.key());
-        if let Some(point) = point_of(&course, call) {
+        if let Some(point) = point_of(&course, &holding, enough, call) {
             all.push(Placed { point, call })?;
         }
     }

@@ -2,8 +2,8 @@ use Rattle.std.proofs.Common.{◌≡◌, ℕ, List, refl}
 use Rattle.sh_history.specs.History.{Allowed}
 use Rattle.sh_history.specs.declared.entry.Entry.{Entry}
 use Rattle.sh_history.specs.declared.entry.Entry.TheVariants.{Got}
-use Rattle.history_lines.specs.declared.line.Said.{Said}
-use Rattle.history_lines.specs.declared.line.Said.TheVariants.{Known, Unread}
+use Rattle.history_timed.specs.declared.call.Said.{Said}
+use Rattle.history_timed.specs.declared.call.Said.TheVariants.{Known, Unread}
 use Rattle.history_lines.specs.Book.{entry_said}
 use Rattle.history_lines.specs.Unread.{MayBe}
 use Rattle.history_lines.proofs.laws.only_the_issued_value.Goals as goal
