@@ -1,5 +1,5 @@
 -- What holds of each state of a level holds after one was added.
-use Rattle.std.proofs.Common.{◌≡◌, ℕ, ◌<◌, List, [], ◌∷◌, ◌++◌, length, get_or, slice_get, Some, sym, ap, ◌∙◌, subst, arith, inl, inr}
+use Rattle.std.proofs.Common.{◌≡◌, ℕ, zero, suc, ◌<◌, List, [], ◌∷◌, ◌++◌, length, get_or, slice_get, None, Some, refl, sym, ap, ◌∙◌, subst, arith, inl, inr}
 use Rattle.std.proofs.Common.{set, map}
 use Rattle.std.specs.Prelude.{vec_items}
 use Rattle.std.specs.List.{All}
@@ -13,8 +13,10 @@ use Rattle.script_orders.specs.declared.lane.Lane.{Lane}
 use Rattle.script_orders.specs.declared.state.State.{State}
 use Rattle.script_orders.specs.Lanes.{did}
 use Rattle.script_orders.specs.Reached.{LeadsTo, lanes_of, IsReached}
-use Rattle.script_orders.specs.States.{WithOrders, Added}
+use Rattle.script_orders.specs.States.{AreAlike, WithOrders, Added}
 use Rattle.script_orders.specs.States.Added.{merged, pushed}
+use Rattle.script_orders.specs.Walks.{HasAlike, IsFollowed}
+use Rattle.script_orders.proofs.GoneOn.{get_set_same, get_set_other}
 
 pub all_set : {A : Type 0} (P : A → Type 0) (xs : List A) (i : ℕ) (y : A) → i < length xs → P y → All P xs
     → All P (set xs i y)
@@ -46,3 +48,52 @@ added_reached layout p old new s (merged place there both at alike with' is) all
     (all_set (IsReached layout p) old place both less (with_orders layout p there s both with' here) all)
 added_reached layout p old new s (pushed is) all reached =
     subst (All (IsReached layout p)) (sym is) (all_push (IsReached layout p) old s reached all)
+
+-- ---- which states a level has
+
+get_push : {A : Type 0} (xs : List A) (i : ℕ) (x y : A) → slice_get xs i ≡ Some x → slice_get (xs ++ y ∷ []) i ≡ Some x
+get_push [] i x y h = let z : None ≡ Some x = h in cc
+get_push (z ∷ xs) zero x y h = h
+get_push (z ∷ xs) (suc i) x y h = get_push xs i x y h
+
+get_last : {A : Type 0} (xs : List A) (y : A) → slice_get (xs ++ y ∷ []) (length xs) ≡ Some y
+get_last [] y = refl
+get_last (z ∷ xs) y = get_last xs y
+
+with_alike : (s t u x : State) → WithOrders s t u → AreAlike s x → AreAlike u x
+with_alike s t u x with' alike = record {
+  lanes = ap (λ (ls : List Lane). map did ls) (ap vec_items with'.lanes) ∙ alike.lanes;
+  words = ap vec_items with'.words ∙ alike.words;
+}
+
+pub keeps_alike : (old new : List State) (s : State) → Added old s new → (t : State) → HasAlike old t → HasAlike new t
+keeps_alike old new s (merged place there both at alike with' is) t (k, u, got, same) =
+    let here : slice_get new k ≡ slice_get (set old place both) k = ap (λ (xs : List State). slice_get xs k) is in
+    elim (cases_eq k place) [
+      | inl e ↦
+          let at' : slice_get old k ≡ Some there = ap (slice_get old) e ∙ at in
+          let one : u ≡ there = let z : Some u ≡ Some there = sym got ∙ at' in cc in (
+            k,
+            both,
+            here ∙ ap (λ (n : ℕ). slice_get (set old n both) k) (sym e) ∙ get_set_same old k there both at',
+            with_alike there s both t with' (subst (λ (x : State). AreAlike x t) one same),
+          )
+      | inr ne ↦ (k, u, here ∙ get_set_other old place k both ne ∙ got, same)
+    ]
+keeps_alike old new s (pushed is) t (k, u, got, same) =
+    (k, u, ap (λ (xs : List State). slice_get xs k) is ∙ get_push old k u s got, same)
+
+pub has_added : (old new : List State) (s : State) → Added old s new → HasAlike new s
+has_added old new s (merged place there both at alike with' is) = (
+  place,
+  both,
+  ap (λ (xs : List State). slice_get xs place) is ∙ get_set_same old place there both at,
+  with_alike there s both s with' alike,
+)
+has_added old new s (pushed is) =
+    (length old, s, ap (λ (xs : List State). slice_get xs (length old)) is ∙ get_last old s, record { lanes = refl; words = refl })
+
+pub followed_kept : (layout : Layout) (p : Program) (old new : List State) (s : State) (pass : ℕ)
+    → ((t : State) → HasAlike old t → HasAlike new t) → IsFollowed layout p old s pass → IsFollowed layout p new s pass
+followed_kept layout p old new s pass keeps (inl rests) = inl rests
+followed_kept layout p old new s pass keeps (inr (t, goes, has)) = inr (t, goes, keeps t has)

@@ -20,6 +20,7 @@ use Rattle.script_orders.specs.Lanes.{Did, did, and_then}
 use Rattle.script_orders.specs.Orders.{lines_within, reply_line}
 use Rattle.script_orders.specs.Reached.{plan_in, done_by, world_by, is_due, IsNext, HasNoNext, LeadsTo, lanes_of, IsReached, Rests}
 use Rattle.script_orders.specs.States.{Follows}
+use Rattle.script_orders.specs.Walks.{GoesTo}
 use Rattle.script_orders.proofs.GoneOn.{goes_on}
 
 pub lane_at : (s : State) (pass : ℕ) (lane : Lane) → slice_get s.lanes.items pass ≡ Some lane
@@ -74,6 +75,32 @@ module _ (layout : Layout) (p : Program) (s : State) (pass : ℕ) (lane : Lane) 
       (subst (λ (ls : List Did). LeadsTo layout p t.order.items k'.words ls) lanes
       (subst (λ (os : List ℕ). LeadsTo layout p os k'.words
       (slice_set (lanes_of s) pass (and_then (did lane) n seen (reply_line e o)))) order led))
+
+  pub goes_to : (t : State) (new : Did) (n seen : ℕ) (e : Event) (o : Outcome) (k' : KeptWorld) → IsReached layout p s
+      → IsNext (plan_of layout k.shape) k.parts p.lines.now pass lane.behind n → slice_get p.lines.now n ≡ Some e
+      → StepsWorld layout k e o k' → new ≡ and_then (did lane) n seen (reply_line e o)
+      → Follows p.lines.now pass new k'.words s t → GoesTo layout p pass s t
+  goes_to t new n seen e o k' reached next there steps is follows =
+      let P : Numbers → Type 0 = λ m. IsNext (plan_of layout m) k.parts p.lines.now pass lane.behind n in
+      let Q : List Body → Type 0 = λ bs. IsNext (plan_in layout p) bs p.lines.now pass lane.behind n in
+      let came : o ≡ outcome_of (plan_in layout p) (world_by layout p s.order.items) e =
+      steps.outcome_is (world_by layout p s.order.items) (runs.2)
+      ∙ ap (λ (m : Numbers). outcome_of (plan_of layout m) (world_by layout p s.order.items) e) runs.1 in
+      record {
+        lane = did lane;
+        number = n;
+        seen = seen;
+        event = e;
+        at = lane_at s pass lane at;
+        next = subst Q (runs.2).parts (subst P runs.1 next);
+        there = there;
+        reached = goes t new n seen e o k' reached next there steps is follows;
+        order = follows.order (did lane) (lane_at s pass lane at)
+            ∙ ap (λ (d : Did). s.order.items ++ lines_within p.lines.now pass lane.behind d.behind) is;
+        lanes = follows.lanes ∙ ap (λ (d : Did). slice_set (lanes_of s) pass d) (is
+            ∙ ap (λ (x : Outcome). and_then (did lane) n seen (reply_line e x)) came);
+        orders = follows.orders;
+      }
 
 -- ---- what a look-up in a list says
 

@@ -3,3 +3,4 @@ pub mod Lanes
 pub mod Reached
 pub mod States
 pub mod Counts
+pub mod Walks

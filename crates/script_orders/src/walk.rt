@@ -1,9 +1,11 @@
 //! Going through all orders.
-ghost use Rattle.std.specs.Prelude.{◌≡◌, ℕ, ◌<◌, false, cond, [], List, IfSome, IfOk, OnOk, MatchOption, length};
+ghost use Rattle.std.specs.Prelude.{◌≡◌, ℕ, ◌<◌, false, cond, [], List, IfSome, IfOk, OnOk, MatchOption, Some, length, slice_get};
 ghost use Rattle.std.specs.List.{All};
 ghost use Rattle.sh_key.specs.Layout.{Layout};
 ghost use Rattle.script_orders.specs.declared.found.Program.{Program};
+ghost use Rattle.script_orders.specs.declared.state.State.{State};
 ghost use Rattle.script_orders.specs.Counts.{CountsEnd};
+ghost use Rattle.script_orders.specs.Walks.{GoesTo, HasAlike, IsFollowed};
 ghost use Rattle.script_orders.specs.Reached.{world_by, pages_by, IsReached, Rests, IsOutcome, AreOutcomes};
 
 use crate::found::{Cut, Explored, Found, Orders, Program, Whole};
@@ -25,7 +27,7 @@ fn gone_on<L: KeyLayout>(
 ) -> Result<Option<State>, AllocError>
     requires reached { IsReached L.layout program.now state.now }
     ensures { IfOk result (λ next. MatchOption next (Rests L.layout program.now state.now pass)
-        (IsReached L.layout program.now)) }
+        (GoesTo L.layout program.now pass state.now)) }
 {
     let mut world = played::<L>(alloc, program, state.order.as_slice())?;
     let Some(lane) = state.lanes.get(pass as usize) else {
@@ -56,6 +58,9 @@ fn go_on<L: KeyLayout>(
     ensures all { OnOk result (All (IsReached L.layout program.now) next.new.states.items) }
     ensures rests { IfOk result (λ goes_on. goes_on ≡ false
         → (pass : ℕ) → pass < program.now.shape.passes → Rests L.layout program.now state.now pass) }
+    ensures keeps { OnOk result ((t : State) → HasAlike next.old.states.items t → HasAlike next.new.states.items t) }
+    ensures followed { OnOk result ((pass : ℕ) → pass < program.now.shape.passes
+        → IsFollowed L.layout program.now next.new.states.items state.now pass) }
 {
     let mut goes_on = false;
     for pass in 0..program.shape.passes() {
@@ -163,6 +168,9 @@ fn next_level<L: KeyLayout>(
     ensures reached { IfOk result (λ next. IfSome next (λ level.
         All (IsReached L.layout program.now) level.states.items)) }
     ensures found { OnOk result (All (IsOutcome L.layout program.now) whole.new.found.items) }
+    ensures followed { IfOk result (λ next. IfSome next (λ after. (place : ℕ) (state : State)
+        → slice_get level.now.states.items place ≡ Some state → (pass : ℕ) → pass < program.now.shape.passes
+        → IsFollowed L.layout program.now after.states.items state pass)) }
 {
     let mut next = Level::new(alloc);
     for state in &level.states {

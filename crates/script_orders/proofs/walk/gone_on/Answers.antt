@@ -5,7 +5,7 @@ use Rattle.sh_step.specs.Plans.{plan_of}
 use Rattle.script_orders.specs.Lanes.{did}
 use Rattle.script_orders.specs.Reached.{done_by}
 use Rattle.script_orders.specs.States.{Follows}
-use Rattle.script_orders.proofs.Walked.{rests_idle, goes, found_at, due_within}
+use Rattle.script_orders.proofs.Walked.{rests_idle, goes_to, found_at, due_within}
 use Rattle.script_orders.proofs.walk.gone_on.Goals as goal
 
 pub returns-in_default-next_line : goal.returns-in_default-next_line
@@ -43,7 +43,7 @@ returns g c =
     let next = c.in_ok-next.next in
     let follows = subst (λ (words : List ℕ). Follows p.lines.now c.args.pass new words s next) c.words.ensures.is
     c.in_ok-next.ensures in
-    goes layout p s c.args.pass lane c.in_ok-world.world at runs next new line c.unwrap_or-seen.result event
+    goes_to layout p s c.args.pass lane c.in_ok-world.world at runs next new line c.unwrap_or-seen.result event
     c.in_ok-outcome.outcome c.step.new.world c.requires.reached c.in-Some-next_line.ensures
     (found_at p.lines.now p.lines.now line event refl there.3.0 there.1) c.in_ok-outcome.ensures.ok c.in_ok-lane.ensures
     follows

@@ -1,9 +1,15 @@
+use Rattle.std.proofs.Common.{◌≡◌, ℕ, ◌<◌, Some, slice_get}
 use Rattle.std.specs.List.{All}
+use Rattle.script_orders.specs.declared.state.State.{State}
 use Rattle.script_orders.specs.Reached.{IsReached, IsOutcome}
+use Rattle.script_orders.specs.Walks.{IsFollowed}
 use Rattle.script_orders.proofs.walk.next_level.Given as goal
 
 abbrev pub invariant-loop-state : goal.invariant-loop-state
 invariant-loop-state g l = record {
   reached : All (IsReached g.L.KeyLayout.layout l.program) l.next.states.items;
   found : All (IsOutcome g.L.KeyLayout.layout l.program) l.whole.found.items;
+  followed : (place : ℕ) (s : State) → place < l.state-index → slice_get l.level.states.items place ≡ Some s
+      → (pass : ℕ) → pass < l.program.shape.passes
+      → IsFollowed g.L.KeyLayout.layout l.program l.next.states.items s pass;
 }
