@@ -87,7 +87,7 @@ impl Holding {
             .partition_point(|change| (change.key, change.moment) < (key, moment))
     }
 
-    /// The first moment from this one on at which the key has at least so many holds, if there is one.
+    /// The first moment from this one on at which the key has at least this number of holds, if there is one.
     pub fn first_with(&self, key: u64, from: u64, holds: u64) -> Option<u64> {
         let at = self.before(key, from);
         if let Some(last) = at.checked_sub(1).and_then(|place| self.changes.get(place))
