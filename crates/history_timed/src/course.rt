@@ -2,7 +2,8 @@
 //!
 //! The insert is as late as it may be: at the first end of a call that found the key. A get is as early as it may be,
 //! and a release as late. The removal is as early as it may be: after each use of the value. So if keys are never
-//! crowded, and some order is legal and keeps to the times, this one is and does.
+//! crowded, and some order is legal and keeps to the times, this one is and does. Nothing of this is proved: each order
+//! that is tried is judged.
 use crate::call::Call;
 use std::alloc::{AllocError, Global};
 use std::collections::HashMap;

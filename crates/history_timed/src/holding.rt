@@ -1,4 +1,6 @@
 //! How many holds keys may have had, moment by moment: a get is as early as it may be, and a release as late.
+//!
+//! This only helps to find an order, so nothing is proved of it: each order that is tried is judged.
 use crate::call::{Call, Said};
 use crate::course::Courses;
 use sh_history::Entry;

@@ -4,8 +4,7 @@ use Rattle.sh_history.specs.declared.entry.Entry.{Entry}
 use Rattle.sh_history.specs.declared.entry.Entry.TheVariants.{Got}
 use Rattle.history_timed.specs.declared.call.Said.{Said}
 use Rattle.history_timed.specs.declared.call.Said.TheVariants.{Known, Unread}
-use Rattle.history_lines.specs.Book.{entry_said}
-use Rattle.history_lines.specs.Unread.{MayBe}
+use Rattle.history_timed.specs.Calls.{entry_said, MayBe}
 use Rattle.history_lines.proofs.laws.only_the_issued_value.Goals as goal
 
 only : (passes guard_max : ℕ) (before : List Entry) (s : Said) (entry : Entry) → MayBe s entry

@@ -1,4 +1,3 @@
-use Rattle.std.proofs.Common.{rules}
 use Rattle.history_lines.proofs.CallsLemmas.{has_more}
 use Rattle.history_lines.proofs.calls.Calls.note.Goals as goal
 
