@@ -25,8 +25,8 @@ struct Job<'a> {
     words: Vec<String>,
 }
 
-// What is done, its names in `tool_bench` and in `through`, and how often. With a read go the get and the release of its
-// hold. `tool_bench` has no load: it is beside the three calls that it replaces.
+// What is done, its names in `tool_bench` and in `through`, and how often. With a read go the get and the release of
+// its hold. `tool_bench` has no load: it is beside the three calls that it replaces.
 const WAYS: [(&str, &str, &str, usize); 7] = [
     ("get + release", "get", "get", 1_000_000),
     ("read", "read", "read", 400_000),

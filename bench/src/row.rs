@@ -83,8 +83,8 @@ impl Row {
         (self.live + self.freed).div_ceil(48)
     }
 
-    /// The words of the command line of `tool_bench`: its workload, and all of its numbers as options, which each of them
-    /// takes. `--live` is how many values there are beside what is inserted or churned.
+    /// The words of the command line of `tool_bench`: its workload, and all of its numbers as options, which each of
+    /// them takes. `--live` is how many values there are beside what is inserted or churned.
     pub fn arguments(&self) -> Vec<String> {
         let mut words = vec![self.workload.name().to_string()];
         let numbers = [

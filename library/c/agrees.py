@@ -3,9 +3,9 @@
 
 usage: library/c/agrees.py [ARCHIVE]
 
-It compares each export of crates/c_exports with its declaration in the header, parameter by parameter; the records that the
-library writes; each code with its number; and the version of the header with that of the Rust crate. With an archive it
-also looks whether the archive exports what the header declares, and nothing beside it.
+It compares each export of crates/c_exports with its declaration in the header, parameter by parameter; the records that
+the library writes; each code with its number; and the version of the header with that of the Rust crate. With an
+archive it also looks whether the archive exports what the header declares, and nothing beside it.
 """
 import pathlib
 import re

@@ -1,7 +1,7 @@
 //! Finds the library, and links it. It is the first that is there of these:
 //!
-//! 1. `libshardheap.a`, `libshardheap.so` or `libc_exports.a` in the folder that the variable `SHARDHEAP_LIB_DIR` names. A
-//!    folder without any of them is an error.
+//! 1. `libshardheap.a`, `libshardheap.so` or `libc_exports.a` in the folder that the variable `SHARDHEAP_LIB_DIR`
+//!    names. A folder without any of them is an error.
 //! 2. `crates/c_exports/out/libc_exports.a` of the repository that this crate is in.
 //! 3. The installed library that pkg-config finds under the name `shardheap`, in the minor version of this crate.
 //!

@@ -1,9 +1,9 @@
 #!/usr/bin/env python3
 """Looks that what mutants.md names finds each mutant: library/rust/mutants.py [--tsan ARCHIVE] [WORD ..].
 
-With words only the rows in which one of them occurs are run. ARCHIVE is a libc_exports.a that has the instrumentation of
-ThreadSanitizer (`scripts/trial-archive OUT --tsan`). Without one the rows of tsan.py are skipped, with a line that says
-so.
+With words only the rows in which one of them occurs are run. ARCHIVE is a libc_exports.a that has the instrumentation
+of ThreadSanitizer (`scripts/trial-archive OUT --tsan`). Without one the rows of tsan.py are skipped, with a line that
+says so.
 
 It needs what stub.py and library/rust/build.rs need. SHARDHEAP_LIB_DIR is passed on. It takes about
 a minute for each row of a sanitizer, and is no part of the gate.

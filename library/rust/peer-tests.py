@@ -5,8 +5,8 @@ usage: library/rust/peer-tests.py [FOLDER OF THE ORIGINAL'S SOURCE]
 
 The source is that of Debian's package librust-sharded-slab-dev, if no folder is named. Its tests are written into a
 temporary folder, which is removed at the end; nothing of the original stays here. Three things are changed in them:
-loom's threads are those of std, each model is run 100 times, and what tests reach by `crate::` they reach by the crate's
-name. A test or example that looks inside the original is left out, and named with its reason.
+loom's threads are those of std, each model is run 100 times, and what tests reach by `crate::` they reach by the
+crate's name. A test or example that looks inside the original is left out, and named with its reason.
 
 It needs cargo, and what library/rust/build.rs needs. SHARDHEAP_LIB_DIR is passed on.
 """

@@ -1,10 +1,10 @@
 #!/usr/bin/env python3
 """Runs a program of threads over the slab and the pool under ThreadSanitizer: library/rust/tsan.py ARCHIVE.
 
-ARCHIVE is a libc_exports.a with the sanitizer's instrumentation: `scripts/trial-archive OUT --tsan` makes OUT/tsan/libc_exports.a.
-The crate is copied into a temporary folder. There it gets the locks of tsan/sync.rs in place of those of the standard
-library, which is not instrumented, and the program tsan/main.rs. Threads pass keys on by relaxed atomics in it, so that
-a value which is not ordered by the slab itself is a data race.
+ARCHIVE is a libc_exports.a with the sanitizer's instrumentation: `scripts/trial-archive OUT --tsan` makes
+OUT/tsan/libc_exports.a. The crate is copied into a temporary folder. There it gets the locks of tsan/sync.rs in place
+of those of the standard library, which is not instrumented, and the program tsan/main.rs. Threads pass keys on by
+relaxed atomics in it, so that a value which is not ordered by the slab itself is a data race.
 
 It needs a cargo of the day (`cargo +nightly`) and what library/rust/build.rs needs.
 """

@@ -1,7 +1,7 @@
 """The licences of a package: ours, and those of the toolchain's crates that the archive is built over.
 
-A crate counts if a crate below c_exports names it in crates.txt, or another such crate of the toolchain uses it. What of it
-is in the machine code cannot be seen, since functions are merged into their callers. So all of them are named.
+A crate counts if a crate below c_exports names it in crates.txt, or another such crate of the toolchain uses it. What
+of it is in the machine code cannot be seen, since functions are merged into their callers. So all of them are named.
 """
 import pathlib
 import re

@@ -2,8 +2,8 @@
 //! opening VALUES` prints what a heap with room for this many values takes to open and to fill. `through reuse` prints
 //! whether a key is used again, and whether two callers remove one value.
 //!
-//! It takes some of the options of `tool_bench`, and writes what that writes: counts to the standard output, and the time
-//! to the standard error. The exit status is 2 if the words are wrong, and 3 if a call is refused.
+//! It takes some of the options of `tool_bench`, and writes what that writes: counts to the standard output, and the
+//! time to the standard error. The exit status is 2 if the words are wrong, and 3 if a call is refused.
 mod c;
 mod opening;
 mod options;

@@ -18,8 +18,8 @@ pub struct Opening {
     filled: u64,
 }
 
-// The words of the least heap with room for this many values: pages of 195 words, each with 48 slots, come in eights and
-// the shard has two words.
+// The words of the least heap with room for this many values: pages of 195 words, each with 48 slots, come in eights
+// and the shard has two words.
 fn words_for(values: u64) -> u64 {
     values.div_ceil(48).div_ceil(8) * 8 * 195 + 2
 }

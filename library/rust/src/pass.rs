@@ -210,8 +210,8 @@ impl Pass {
         self.handle.remove(key)
     }
 
-    /// Takes the value of a key: a load and a removal in one. Of all calls that remove one key, exactly one succeeds, so
-    /// that one caller alone has the value.
+    /// Takes the value of a key: a load and a removal in one. Of all calls that remove one key, exactly one succeeds,
+    /// so that one caller alone has the value.
     ///
     /// # Errors
     ///

@@ -4,7 +4,8 @@ use crate::ffi::ReceiptHandle;
 /// A receipt of a pass: what it covers happens before the next calls of the pass that [heeds](crate::Pass::heed) it.
 ///
 /// It covers all calls of the pass that [made](crate::Pass::receipt) it until then, and what the receipts cover that
-/// this pass heeded before. It may go to another thread. It orders no threads itself: what it goes by does, as a channel.
+/// this pass heeded before. It may go to another thread. It orders no threads itself: what it goes by does, as a
+/// channel.
 ///
 /// Calls of two passes are ordered by receipts only. If a thread inserts a key and hands it to another without a
 /// receipt, the contracts of the library allow that the other finds it `Gone`. (Each step of the library is a

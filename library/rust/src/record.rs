@@ -1,8 +1,8 @@
 //! Records: types that are stored as words.
 use crate::value::MAX_WORDS;
 
-/// A type that is stored as a fixed number of words. `u64`, arrays of up to 16 of them and tuples of records are records
-/// as they are.
+/// A type that is stored as a fixed number of words. `u64`, arrays of up to 16 of them and tuples of records are
+/// records as they are.
 ///
 /// A value does not say which type it was stored as, only how many words it has. If two types of one heap have the same
 /// length, give each a word of its own that says which it is, and let `read` look at it.

@@ -183,8 +183,8 @@ impl Shard {
     ///
     /// # Errors
     ///
-    /// The iterator returns [`Error::HoldsFull`], and then nothing more, if the pass has 16 guards: it holds each key for
-    /// a moment.
+    /// The iterator returns [`Error::HoldsFull`], and then nothing more, if the pass has 16 guards: it holds each key
+    /// for a moment.
     ///
     /// ```
     /// # use gearlongan::{Error, Heap, Key, Layout, Shape};
