@@ -17,7 +17,8 @@ use Rattle.history_audit.specs.Held.{held, one_at}
 use Rattle.history_audit.specs.Followed.{Follows}
 use Rattle.history_audit.proofs.LineLemmas.{removed_by_line}
 use Rattle.history_audit.proofs.HeldLemmas.{are_same}
-use Rattle.history_audit.proofs.NoteLemmas.{notes_written, inserted_note, got_note, removed_note, released_note, gone_notes}
+use Rattle.history_audit.proofs.NoteLemmas.{notes_written, inserted_note, got_note, removed_note, released_note}
+use Rattle.history_audit.proofs.NoteLemmas.{gone_notes}
 use Rattle.history_audit.proofs.NoteLemmas.{crowded_notes}
 use Rattle.history_audit.proofs.FollowLemmas.{IsSame, follows_push, is_held}
 

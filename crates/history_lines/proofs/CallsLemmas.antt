@@ -1,5 +1,6 @@
 -- The last call of a pass, after one call more.
-use Rattle.std.proofs.Common.{◌≡◌, ◌∙◌, ℕ, Bool, true, false, cond, List, [], ◌∷◌, ◌++◌, Option, Some, None, refl, sym, ap}
+use Rattle.std.proofs.Common.{◌≡◌, ◌∙◌, ℕ, Bool, true, false, cond, List, [], ◌∷◌, ◌++◌, Option, Some, None, refl, sym}
+use Rattle.std.proofs.Common.{ap}
 use Rattle.std.specs.Prelude.{◌==◌, nat_eq}
 use Rattle.std.specs.Option.{option_or}
 use Rattle.std.specs.HashMap.{get}
@@ -9,7 +10,8 @@ use Rattle.history_timed.specs.Times.{Times}
 use Rattle.history_lines.specs.declared.calls.Calls.{Calls}
 use Rattle.history_lines.specs.Calls.{last_by, HasCalls}
 
-or_chosen : (b : Bool) (t : Option Times) (o x : Option Times) → option_or (cond b t o) x ≡ cond b (option_or t x) (option_or o x)
+or_chosen : (b : Bool) (t : Option Times) (o x : Option Times)
+    → option_or (cond b t o) x ≡ cond b (option_or t x) (option_or o x)
 or_chosen true t o x = refl
 or_chosen false t o x = refl
 

@@ -2,7 +2,8 @@
 use Rattle.std.specs.Prelude.{◌≡◌, ℕ, ◌<◌, ◌↔◌, List, map}
 use Rattle.sh_history.specs.declared.entry.Entry.{Entry}
 use Rattle.sh_history.specs.History.{Legal}
-use Rattle.history_local.specs.Groups.{entries_on_key, entries_in, IsWithin, AreApart, IsInterleaving, renamed, IsOneToOne}
+use Rattle.history_local.specs.Groups.{entries_on_key, entries_in, IsWithin, AreApart, IsInterleaving, renamed}
+use Rattle.history_local.specs.Groups.{IsOneToOne}
 
 -- a history is legal exactly if for each key the entries on it are
 abbrev pub LegalityIsLocal : Type 0

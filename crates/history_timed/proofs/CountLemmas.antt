@@ -1,5 +1,6 @@
 -- How many calls come before a place.
-use Rattle.std.proofs.Common.{◌≡◌, ◌∙◌, ℕ, ◌+◌, ◌<◌, ◌≤◌, Bool, true, false, cond, List, [], ◌∷◌, ◌++◌, Option, Some, None, zero, suc}
+use Rattle.std.proofs.Common.{◌≡◌, ◌∙◌, ℕ, ◌+◌, ◌<◌, ◌≤◌, Bool, true, false, cond, List, [], ◌∷◌, ◌++◌, Option, Some}
+use Rattle.std.proofs.Common.{None, zero, suc}
 use Rattle.std.proofs.Common.{refl, sym, ap, take, arith}
 use Rattle.std.specs.Prelude.{slice_get, count_by, ◌&&◌, not, is_some}
 use Rattle.std.specs.List.{AllZip}

@@ -65,10 +65,11 @@ module _ {X : Type 0} (test : X → Bool) where
 
   pub any_from : (xs : List X) (i : ℕ) (x : X) → slice_get xs i ≡ Some x → test x ≡ true → list_any test xs ≡ true
   any_from [] i x is passes = absurd (none_is x is)
-  any_from (a ∷ xs) zero x is passes = go (test a) (subst (λ (o : X). test o ≡ true) (sym (some_is a x is)) passes) where
-    go : (b : Bool) → b ≡ true → (b || list_any test xs) ≡ true
-    go true e = refl
-    go false e = absurd (true≢false (sym e))
+  any_from (a ∷ xs) zero x is passes =
+      go (test a) (subst (λ (o : X). test o ≡ true) (sym (some_is a x is)) passes) where
+        go : (b : Bool) → b ≡ true → (b || list_any test xs) ≡ true
+        go true e = refl
+        go false e = absurd (true≢false (sym e))
   any_from (a ∷ xs) (suc i) x is passes = go (test a) (any_from xs i x is passes) where
     go : (b : Bool) → list_any test xs ≡ true → (b || list_any test xs) ≡ true
     go true e = refl

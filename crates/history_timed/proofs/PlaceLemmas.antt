@@ -15,7 +15,8 @@ use Rattle.history_timed.specs.declared.call.Call.{Call}
 use Rattle.history_timed.specs.Calls.{MayBe, inserts, uses, removes, finds}
 use Rattle.history_timed.specs.Times.{is_ended, ends_before}
 use Rattle.history_timed.specs.Orders.{IsOrder, IsLegalOrder}
-use Rattle.history_timed.proofs.ListLemmas.{at_place, contained, zip_at, zip_back, in_front, from_front, any_at, any_from}
+use Rattle.history_timed.proofs.ListLemmas.{at_place, contained, zip_at, zip_back, in_front, from_front, any_at}
+use Rattle.history_timed.proofs.ListLemmas.{any_from}
 use Rattle.history_timed.proofs.ListLemmas.{or_cases}
 use Rattle.history_timed.proofs.HistoryLemmas.{value_at, none_inserted, some_value, allowed_at, uses_present}
 use Rattle.history_timed.proofs.HistoryLemmas.{removes_present, insert_said, removal_said, said_removal}

@@ -1,5 +1,6 @@
 -- Lines that no legal order which keeps to the times can have.
-use Rattle.std.specs.Prelude.{◌≡◌, ◌≢◌, ℕ, ◌+◌, ◌-◌, ◌≤◌, ◌⊎◌, ◌==◌, ◌&&◌, ◌||◌, not, Bool, true, false, List, Option, Some}
+use Rattle.std.specs.Prelude.{◌≡◌, ◌≢◌, ℕ, ◌+◌, ◌-◌, ◌≤◌, ◌⊎◌, ◌==◌, ◌&&◌, ◌||◌, not, Bool, true, false, List, Option}
+use Rattle.std.specs.Prelude.{Some}
 use Rattle.std.specs.Prelude.{None, count_by}
 use Rattle.std.specs.List.{Contains, list_all, list_any}
 use Rattle.std.specs.Str.{bytes_eq}

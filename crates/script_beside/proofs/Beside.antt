@@ -6,7 +6,8 @@ use Rattle.std.proofs.lemmas.Bool.Decides.{nat_tests}
 use Rattle.std.proofs.lemmas.List.{get_or-replicate, length-replicate}
 use Rattle.sh_history.specs.declared.entry.Entry.{Entry}
 use Rattle.sh_table.specs.Seats.{Heap}
-use Rattle.script_calls.specs.Parts.{RunTerms, PassPart, PassTold, HasAllLogs, HasLogOf, new_part, passes_below, heap_terms}
+use Rattle.script_calls.specs.Parts.{RunTerms, PassPart, PassTold, HasAllLogs, HasLogOf, new_part, passes_below}
+use Rattle.script_calls.specs.Parts.{heap_terms}
 use Rattle.script_calls.specs.Told.{part_told, IsTold}
 use Rattle.sh_script.specs.HeaderMeaning.{layout_of}
 use Rattle.sh_script.specs.declared.calls.CallLine.{CallLine}

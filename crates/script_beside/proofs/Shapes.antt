@@ -14,7 +14,8 @@ use Rattle.sh_shard.specs.Shards.{Sharded, InsertServes, value_class}
 use Rattle.sh_script.specs.declared.calls.Call.{Call}
 use Rattle.sh_script.specs.declared.calls.Call.TheVariants as call
 use Rattle.script_output.specs.declared.answer.Answer.{Answer}
-use Rattle.script_calls.specs.Standing.{Standing, Alone, Owning, Nowhere, StandingHeeds, Serves, AdoptServed, LeaveServed}
+use Rattle.script_calls.specs.Standing.{Standing, Alone, Owning, Nowhere, StandingHeeds, Serves, AdoptServed}
+use Rattle.script_calls.specs.Standing.{LeaveServed}
 use Rattle.script_calls.specs.Standing.{InsertServed}
 use Rattle.script_calls.specs.Parts.{RunTerms, PassPart, is_placed_key}
 use Rattle.script_calls.specs.Receipts.{MayHeed}

@@ -22,7 +22,8 @@ use Rattle.script_output.specs.Results.{done_answer, key_answer}
 use Rattle.script_calls.specs.Calls.{CallAnswers, UnlessRefused, OnKey, key_meant, PartAdopted}
 use Rattle.script_calls.specs.Calls.{PartLeft, ValueInserted, HoldGot}
 use Rattle.script_calls.specs.Calls.{ValueRead, HoldReleased, KeyRemoved}
-use Rattle.script_calls.specs.Calls.{adopt_refusal, needs_shard, words_refusal, get_refusal, hold_refusal, remove_refusal}
+use Rattle.script_calls.specs.Calls.{adopt_refusal, needs_shard, words_refusal, get_refusal, hold_refusal}
+use Rattle.script_calls.specs.Calls.{remove_refusal}
 use Rattle.script_calls.specs.InOrder.{adds_entry, is_done_gone_or_crowded, is_done_or_gone, is_done, is_key}
 use Rattle.std.proofs.lemmas.Option.{none-some, same_Some}
 use Rattle.script_calls.proofs.ListLemmas.{get_left}

@@ -16,7 +16,8 @@ use Rattle.script_calls.specs.Parts.{RunTerms, PassPart, SeenPass, PassTold, Sam
 use Rattle.script_calls.specs.Parts.{tale_told, told_pass, passes_below}
 use Rattle.script_calls.specs.Calls.{CallAnswers}
 use Rattle.script_output.specs.Replies.{reply_line, replies_text}
-use Rattle.script_calls.specs.Runs.{CallsRun, LineAnswered, LinesAnswered, opening_calls, next_run, with_part, with_number}
+use Rattle.script_calls.specs.Runs.{CallsRun, LineAnswered, LinesAnswered, opening_calls, next_run, with_part}
+use Rattle.script_calls.specs.Runs.{with_number}
 use Rattle.script_calls.specs.Runs.{number_meant}
 use Rattle.script_calls.specs.Receipts.{MayHeed}
 use Rattle.script_calls.specs.Told.{AreReplies, part_told}

@@ -11,7 +11,8 @@ use Rattle.sh_value.specs.declared.refusal.Refusal.TheVariants as refusal
 use Rattle.script_calls.specs.Standing.{Standing, ShardLeaves}
 use Rattle.std.specs.Option.{option_map}
 use Rattle.std.proofs.lemmas.Option.{slice_get-map}
-use Rattle.script_calls.specs.Parts.{RunTerms, SeenPass, PassTold, SamePass, HasAllLogs, tale_told, told_pass, passes_below}
+use Rattle.script_calls.specs.Parts.{RunTerms, SeenPass, PassTold, SamePass, HasAllLogs, tale_told, told_pass}
+use Rattle.script_calls.specs.Parts.{passes_below}
 use Rattle.script_calls.specs.Receipts.{HasOrderedTale}
 use Rattle.script_calls.specs.Meeting.{CarriesTale, MeetsCarrier, HasMet, SomeWaits, tales_told, AllOfHeap, KeepsOrders}
 use Rattle.script_calls.specs.Meeting.{CarriesOrders, OwnsNone, orders_of}

@@ -25,13 +25,16 @@ use Rattle.script_output.specs.Keys.{shown, key_shown, HasTagRoom}
 use Rattle.script_output.specs.Results.{key_answer}
 use Rattle.sh_pass.specs.Passes.{Caller}
 use Rattle.script_calls.specs.Parts.{RunTerms, PassPart, SeenPass, SamePass}
-use Rattle.script_calls.specs.Calls.{CallAnswers, UnlessRefused, WordsAnswers, ValueInserted, words_refusal, needs_shard}
+use Rattle.script_calls.specs.Calls.{CallAnswers, UnlessRefused, WordsAnswers, ValueInserted, words_refusal}
+use Rattle.script_calls.specs.Calls.{needs_shard}
 use Rattle.script_calls.specs.Calls.{name_used, binds, number_told}
 use Rattle.script_calls.specs.Runs.{CallsRun, LineAnswered, LinesAnswered, number_bound, number_meant}
-use Rattle.script_calls.specs.Receipts.{seen_of_receipt, receipt_seen, order_seen, told_heard, MayHeed, PartHeeds, Heeds}
+use Rattle.script_calls.specs.Receipts.{seen_of_receipt, receipt_seen, order_seen, told_heard, MayHeed, PartHeeds}
+use Rattle.script_calls.specs.Receipts.{Heeds}
 use Rattle.script_calls.specs.InOrder.{adds_entry, adding_passes, times}
 use Rattle.script_calls.specs.Meeting.{KeepsOrders, orders_of}
-use Rattle.script_calls.specs.Named.{numbers_told, is_insert_of, has_insert, tells_number, HeardOfNumber, NamesWereHeard}
+use Rattle.script_calls.specs.Named.{numbers_told, is_insert_of, has_insert, tells_number, HeardOfNumber}
+use Rattle.script_calls.specs.Named.{NamesWereHeard}
 use Rattle.script_calls.proofs.ListLemmas.{get_snoc, take_past, contains_map, within}
 use Rattle.script_calls.proofs.LineLemmas.{part_here, part_there}
 use Rattle.script_calls.proofs.OrderLemmas.{times_length, times_here, times_else}

@@ -55,7 +55,8 @@ not_placed layout shape key none = go (unpacked layout key) refl
 
 -- ---- the shard of a key
 
-pub unpacks : (layout : Layout) (shape : Numbers) (key : ℕ) (x : KeyRef) → place_named (plan_of layout shape) key ≡ Some x
+pub unpacks : (layout : Layout) (shape : Numbers) (key : ℕ) (x : KeyRef)
+    → place_named (plan_of layout shape) key ≡ Some x
     → IsSome (unpacked layout key)
 unpacks layout shape key x e = go (unpacked layout key) refl
   where

@@ -22,7 +22,8 @@ use Rattle.sh_pass.specs.Growing.{SameTale}
 use Rattle.sh_pass.specs.Passes.{Caller, IsKeyOfHeap, GetDoes, ReadDoes, RemoveDoes, ReleaseDoes, holds}
 use Rattle.script_calls.specs.Standing.{Standing, Serves}
 use Rattle.script_calls.specs.Parts.{SeenPass, SamePass, Becomes, is_placed_key, heap_terms, with_entry}
-use Rattle.script_calls.specs.Calls.{UnlessRefused, GetAnswers, HoldGot, get_refusal, ReadAnswers, ValueRead, hold_refusal}
+use Rattle.script_calls.specs.Calls.{UnlessRefused, GetAnswers, HoldGot, get_refusal, ReadAnswers, ValueRead}
+use Rattle.script_calls.specs.Calls.{hold_refusal}
 use Rattle.script_calls.specs.Calls.{RemoveAnswers, KeyRemoved, remove_refusal, ReleaseAnswers, HoldReleased}
 use Rattle.script_calls.specs.Running.{part_of_caller, seen_standing, log_told}
 use Rattle.script_calls.proofs.PlacedKeys.{placed, not_placed}

@@ -10,7 +10,8 @@ use Rattle.sh_script.specs.declared.calls.CallLine.{CallLine}
 use Rattle.script_calls.specs.Parts.{RunTerms, PassPart, SeenPass, new_pass}
 use Rattle.script_calls.specs.Calls.{CallAnswers}
 use Rattle.script_output.specs.Replies.{reply_line, replies_text}
-use Rattle.script_calls.specs.Runs.{CallsRun, LineAnswered, LinesAnswered, opening_calls, next_run, with_part, with_number}
+use Rattle.script_calls.specs.Runs.{CallsRun, LineAnswered, LinesAnswered, opening_calls, next_run, with_part}
+use Rattle.script_calls.specs.Runs.{with_number}
 use Rattle.script_calls.specs.Runs.{number_meant}
 use Rattle.script_calls.specs.Alone.{seen_with_part}
 use Rattle.script_calls.specs.InOrder.{adding_passes, times}

@@ -82,10 +82,12 @@ hand_none x p = go p.hand where
   go (RingTying q n) e = refl
 
 -- all passes
-some_mine : (x : SlotRef) (ps : List Body) → list_any (λ p. has (same_slot x) p.mine) ps ≡ true → 0 < total (mine_at x) ps
+some_mine : (x : SlotRef) (ps : List Body) → list_any (λ p. has (same_slot x) p.mine) ps ≡ true
+    → 0 < total (mine_at x) ps
 some_mine x ps = any_some (λ p. has (same_slot x) p.mine) (mine_at x) (mine_some x) ps
 
-none_mine : (x : SlotRef) (ps : List Body) → list_any (λ p. has (same_slot x) p.mine) ps ≡ false → total (mine_at x) ps ≡ 0
+none_mine : (x : SlotRef) (ps : List Body) → list_any (λ p. has (same_slot x) p.mine) ps ≡ false
+    → total (mine_at x) ps ≡ 0
 none_mine x ps = any_none (λ p. has (same_slot x) p.mine) (mine_at x) (mine_none x) ps
 
 some_hand : (x : SlotRef) (ps : List Body) → list_any (has_in_hand x) ps ≡ true → 0 < total (in_hand x) ps

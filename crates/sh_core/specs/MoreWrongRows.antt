@@ -6,7 +6,8 @@ use Rattle.sh_slots.specs.declared.hand.Hand.TheVariants.{Leaving, Finishing, Ri
 use Rattle.sh_slots.specs.declared.reply.Reply.TheVariants as reply
 use Rattle.sh_slots.specs.Slots.{slot_ref_of, name_at, after_drop, marked_word, reusable_word, retired_word}
 use Rattle.sh_step.specs.declared.action.Action.TheVariants.{EnterGet, EnterRemove, Drop, DropHold, Finish, FillSlot}
-use Rattle.sh_step.specs.declared.action.Action.TheVariants.{Publish, ReadClass, ReadLength, Adopt, Leave, Ring, RingTie}
+use Rattle.sh_step.specs.declared.action.Action.TheVariants.{Publish, ReadClass, ReadLength, Adopt, Leave, Ring}
+use Rattle.sh_step.specs.declared.action.Action.TheVariants.{RingTie}
 use Rattle.sh_step.specs.declared.operation.Operation.TheVariants.{Swap, Store, CompareExchange, Load}
 use Rattle.sh_step.specs.Collections.{has}
 use Rattle.sh_step.specs.Moves.{row, named, slotted}

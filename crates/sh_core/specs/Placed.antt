@@ -42,8 +42,8 @@ OwnNotesOf plan class p = OwnNotes plan class p.owned p.classes p.mine p.cursors
 -- what is kept of lists, bells, duties, owners
 pub record ListsAgree (plan : Plan) (class head page_link bell owner : ℕ → ℕ) (link : ℕ → ℕ → ℕ) (ps : List Body)
     (l : PutLists) : Type 0 where
-  pub stacks : Chains (λ q. head q / 2) link (λ q s. total (tying (slot_ref q s)) ps) (λ q s. total (ties_of (slot_ref q s)) ps)
-      (λ q s. total (cursor_at q s) ps) l.stack l.chain
+  pub stacks : Chains (λ q. head q / 2) link (λ q s. total (tying (slot_ref q s)) ps)
+      (λ q s. total (ties_of (slot_ref q s)) ps) (λ q s. total (cursor_at q s) ps) l.stack l.chain
   pub bells : Chains (bell_head plan bell) (bell_link plan page_link) (λ n q. total (ring_tying plan n q) ps)
       (λ n q. total (ring_ties plan n q) ps) (λ n q. total (bell_cursor_at n q) ps) l.bells l.bell_chain
   pub duty : Duty plan head ps l

@@ -129,7 +129,8 @@ PastIsRemoved plan w = (k : ℕ) (n : KeyRef) → plan.keys.unpack k ≡ Some n
 
 -- so a slot issues at most gen_max keys
 abbrev pub GenerationsEnd : Plan → World → Type 0
-GenerationsEnd plan w = (x : SlotRef) → (0 < (state_of w x).generation) × ((state_of w x).generation ≤ plan.keys.gen_max)
+GenerationsEnd plan w = (x : SlotRef)
+    → (0 < (state_of w x).generation) × ((state_of w x).generation ≤ plan.keys.gen_max)
 
 -- if it is retired, its generation is the last one
 abbrev pub RetiredIsLast : Plan → World → Type 0
@@ -161,7 +162,8 @@ EntriesAreOurs plan w = All (λ e. pass_of e < plan.passes) w.log
 
 -- a marked slot with count 0 has a pass that finishes it
 abbrev pub Finished : Plan → World → Type 0
-Finished plan w = (x : SlotRef) → (state_of w x).present ≡ true → (state_of w x).marked ≡ true → (state_of w x).count ≡ 0
+Finished plan w = (x : SlotRef) → (state_of w x).present ≡ true → (state_of w x).marked ≡ true
+    → (state_of w x).count ≡ 0
     → 0 < total (finishing x (state_of w x).generation) w.parts
 
 -- an armed page has exactly one of these: its flag, a pass that must ring, a place on the bell or on the bell chain;

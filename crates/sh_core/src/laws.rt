@@ -50,7 +50,8 @@ pub fn steps_are_wait_free()
 {}
 
 /// The words of a heap are an atomic map. It opens empty, and each event does at most one operation of the map, at
-/// once. So the core is linearizable: the linearization point of each call is one of its own steps.
+/// once. With [`deciding_events_reply`] the core is linearizable: the linearization point of each call is one of its
+/// own steps.
 pub fn words_are_an_atomic_map()
     ensures opens { OpensEmpty }
     ensures events { EventsAreOperations }

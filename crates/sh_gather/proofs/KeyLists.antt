@@ -53,7 +53,8 @@ module _ (plan : Plan) (laws : Lawful plan) (ranges : (k : ℕ) (n : KeyRef) →
       (λ more. in_slot t m low (omega arith) more) where
         go : (b : Bool) → (plan.keys.pack (name_at (slot_ref q t) (suc m)) == k) ≡ b
             → 0 < if1 b + times k (keys_of_slot plan (slot_ref q t) m) →
-            (0 < times k (keys_of_slot plan (slot_ref q t) m) → (n : KeyRef) × (plan.keys.unpack k ≡ Some n) × (n.page ≡ q)
+            (0 < times k (keys_of_slot plan (slot_ref q t) m)
+            → (n : KeyRef) × (plan.keys.unpack k ≡ Some n) × (n.page ≡ q)
             × (n.slot < 48)) → (n : KeyRef) × (plan.keys.unpack k ≡ Some n) × (n.page ≡ q) × (n.slot < 48)
         go true e s rest = let i = eqb-true (plan.keys.pack (name_at (slot_ref q t) (suc m))) k e
             in (
@@ -104,8 +105,8 @@ module _ (plan : Plan) (laws : Lawful plan) (ranges : (k : ℕ) (n : KeyRef) →
       top : n.generation ≤ plan.keys.gen_max
       top = ranges k n unpacks
 
-      go : (b : Bool) → same_slot (slot_ref_of n) (slot_ref q t) ≡ b → times k (keys_of_slot plan (slot_ref q t) plan.keys.gen_max)
-          ≡ if1 b
+      go : (b : Bool) → same_slot (slot_ref_of n) (slot_ref q t) ≡ b
+          → times k (keys_of_slot plan (slot_ref q t) plan.keys.gen_max) ≡ if1 b
       go true e =
           let s : slot_ref_of n ≡ slot_ref q t = same_slot-true (slot_ref q t) (slot_ref_of n) e in
           let i : name_at (slot_ref q t) n.generation ≡ n = ap (λ (x : SlotRef). name_at x n.generation) (sym s) in

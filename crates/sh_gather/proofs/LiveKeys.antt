@@ -70,7 +70,8 @@ module _ (layout : Layout) (v : View) (q s word : ℕ) (core : Core) (gathered :
   here : state_of w (slot_ref q s) ≡ seen
   here = ap fields_of (leads_before layout v (State q s) word first.0 first.1).1
 
-  generations : (0 < (state_of w (slot_ref q s)).generation) × ((state_of w (slot_ref q s)).generation ≤ the_plan.keys.gen_max)
+  generations : (0 < (state_of w (slot_ref q s)).generation)
+      × ((state_of w (slot_ref q s)).generation ≤ the_plan.keys.gen_max)
   generations = range the_plan w l law (refined layout u core gathered known first.0)
       (rests layout u core gathered known first.0 first.1) (slot_ref q s) page slot
 
@@ -201,7 +202,8 @@ module _ (layout : Layout) (v u : View) (place word : ℕ) (core : Core) (look :
       m.name h m.unpacks m.page m.slot)
 
   pub live_at : ((fields_of word).present && not (fields_of word).marked) ≡ true → (k : ℕ)
-      → k ≡ (plan_of layout v.shape).keys.pack (name_at (slot_ref (place / 48) (place % 48)) (fields_of word).generation)
+      → k ≡ (plan_of layout v.shape).keys.pack
+      (name_at (slot_ref (place / 48) (place % 48)) (fields_of word).generation)
       → IsLiveAt layout u place k
   live_at on k is =
       let x : View = noting v (State (place / 48) (place % 48)) word in

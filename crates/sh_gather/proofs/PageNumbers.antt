@@ -36,7 +36,8 @@ keys_total plan f g q s (suc n) h =
     in omega arith
 
 -- slots that add 0 need not be counted
-cut_by : (q : ℕ) (f : SlotRef → ℕ) (n m : ℕ) → ((t : ℕ) → n ≤ t → f (slot_ref q t) ≡ 0) → among q f (n + m) ≡ among q f n
+cut_by : (q : ℕ) (f : SlotRef → ℕ) (n m : ℕ) → ((t : ℕ) → n ≤ t → f (slot_ref q t) ≡ 0)
+    → among q f (n + m) ≡ among q f n
 cut_by q f n zero h = let e : n + 0 ≡ n = omega arith in ap (among q f) e
 cut_by q f n (suc m) h =
     let e : n + suc m ≡ n + m + 1 = omega arith in

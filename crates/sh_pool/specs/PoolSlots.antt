@@ -15,7 +15,8 @@ HasPass o = (v : Caller) × (o ≡ Some (Some v))
 abbrev pub RestsOf : Heap → Option (Option Caller) → Type 0
 RestsOf heap o = (v : Caller) × (o ≡ Some (Some v)) × (v.heap ≡ heap)
 
--- the pool slots of a pool, by the heaps that they are for: one pool slot for each pass of this heap, and all for this heap
+-- the pool slots of a pool, by the heaps that they are for: one pool slot for each pass of this heap, and all for this
+-- heap
 pub record ArePoolSlots (heap : Heap) (pool_slots : List Heap) : Type 0 where
   pub count : length pool_slots ≡ heap.shape.passes
   pub of : All (λ h. h ≡ heap) pool_slots

@@ -32,7 +32,8 @@ named_parts shards pages p n h = go (nat_lt p.shard shards) (nat_lt p.page pages
   go true false below h = absurd (let no : ⊥ = cc in no)
   go false b below h = absurd (let no : ⊥ = cc in no)
 
-pub parts_in_range : (layout : Layout) (shards pages k : ℕ) (n : KeyRef) → (keys_of layout shards pages).unpack k ≡ Some n
+pub parts_in_range : (layout : Layout) (shards pages k : ℕ) (n : KeyRef)
+    → (keys_of layout shards pages).unpack k ≡ Some n
     → IsInRange layout (parts_of pages n)
 unfolding keys_of
 parts_in_range layout shards pages k n h = go (unpacked layout k) refl h where

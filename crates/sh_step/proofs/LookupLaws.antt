@@ -85,8 +85,8 @@ behind : {A B : Type 0} (f : A → Option B) (o : Option A) (m : B) → option_a
 behind f (Some x) m h = (x, refl, h)
 behind f None m h = no_some m h
 
-pub named_of : {A : Type 0} (plan : Plan) (k : ℕ) (f : KeyRef → Option A) (m : A) → named plan k f ≡ Some m → (x : KeyRef)
-    × Named plan k x × (f x ≡ Some m)
+pub named_of : {A : Type 0} (plan : Plan) (k : ℕ) (f : KeyRef → Option A) (m : A) → named plan k f ≡ Some m
+    → (x : KeyRef) × Named plan k x × (f x ≡ Some m)
 named_of plan k f m h = let b = behind f (place_named plan k) m h in (b.0, place_is plan k b.0 b.1, b.2)
 
 pub paged_of : {A : Type 0} (plan : Plan) (y : PageName) (f : ℕ → Option A) (m : A) → paged plan y f ≡ Some m

@@ -33,7 +33,8 @@ other_slot x y other = and_right (x.page == y.page) (x.slot == y.slot) other
 
 -- ---- which slots a run has
 
-pub none_of_other_pages : (x : SlotRef) (q s n b : ℕ) → (x.page == q) ≡ false → has (same_slot x) (picked q s n b) ≡ false
+pub none_of_other_pages : (x : SlotRef) (q s n b : ℕ) → (x.page == q) ≡ false
+    → has (same_slot x) (picked q s n b) ≡ false
 unfolding picked has
 none_of_other_pages x q s zero b other = refl
 none_of_other_pages x q s (suc n) b other =

@@ -33,7 +33,8 @@ holds_few plan w know few k = go (plan.keys.unpack k) refl where
       let n = (know s.0 s.1 s.2).named k s.3 in
       absurd (let z : None ≡ Some n.0 = sym name ∙ n.1 in cc)
 
-  go : (o : Option KeyRef) → plan.keys.unpack k ≡ o → total (λ (p : Body). times k p.holds) w.parts ≤ plan.keys.guard_max
+  go : (o : Option KeyRef) → plan.keys.unpack k ≡ o
+      → total (λ (p : Body). times k p.holds) w.parts ≤ plan.keys.guard_max
   go (Some n) name =
       let one : (p : Body) → times k p.holds ≤ held plan (slot_ref_of n) p = λ p. total_le (λ j. if1 (j == k))
       (λ j. if1 (at_slot (slot_ref_of n) (plan.keys.unpack j))) (λ j. on_slot n name j (j == k) refl) p.holds in

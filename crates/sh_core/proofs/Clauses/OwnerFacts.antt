@@ -89,7 +89,8 @@ module _ (plan : Plan) (w : World) (l : PutLists) (laws : Lawful plan) (all : Ag
       × (x.slot < slots_under (w.words.class_at x.page))
   placed x some = ((room_placed plan w.words x all.bounds some).0, room_under w.words x some)
 
-  own_mine : (x : SlotRef) → 0 < mine_at x p → (mine_at x p ≡ 1) × (own plan p x.page ≡ true) × (x.page < heap_pages plan)
+  own_mine : (x : SlotRef) → 0 < mine_at x p
+      → (mine_at x p ≡ 1) × (own plan p x.page ≡ true) × (x.page < heap_pages plan)
       × (x.slot < slots_under (w.words.class_at x.page))
   own_mine x some =
       let t = total_at (mine_at x) w.parts a p at in

@@ -43,14 +43,16 @@ module _ (plan : Plan) (w : World) (p : Body) where
   -- a get takes a hold if it found room for it
   get_bounded : (k : ℕ) (y : KeyRef) (b c : Bool) → plan.keys.unpack k ≡ Some y
       → nat_lt (fields_of (w.words.state_at y.page y.slot)).count plan.keys.guard_max ≡ c → (x : SlotRef)
-      → (held plan x (cond (b && c) (record p { holds = k ∷ p.holds }) (hand p (Leaving (slot_ref_of y)))) ≤ held plan x p)
+      → (held plan x (cond (b && c) (record p { holds = k ∷ p.holds }) (hand p (Leaving (slot_ref_of y)))) ≤ held plan x
+      p)
       ⊎ ((held plan x (cond (b && c) (record p { holds = k ∷ p.holds }) (hand p (Leaving (slot_ref_of y)))) ≤ suc
       (held plan x p)) × ((fields_of (w.words.state_at x.page x.slot)).count < plan.keys.guard_max))
   unfolding total
   get_bounded k y false c name is x = inl (omega arith)
   get_bounded k y true false name is x = inl (omega arith)
   get_bounded k y true true name is x = go (same_slot x (slot_ref_of y)) refl where
-    go : (d : Bool) → same_slot x (slot_ref_of y) ≡ d → (if1 (at_slot x (plan.keys.unpack k)) + held plan x p ≤ held plan x
+    go : (d : Bool) → same_slot x (slot_ref_of y) ≡ d
+        → (if1 (at_slot x (plan.keys.unpack k)) + held plan x p ≤ held plan x
         p) ⊎ ((if1 (at_slot x (plan.keys.unpack k)) + held plan x p ≤ suc (held plan x p))
         × ((fields_of (w.words.state_at x.page x.slot)).count < plan.keys.guard_max))
     go false e = let z : if1 (at_slot x (plan.keys.unpack k)) ≡ 0 = rw (name, e) refl in inl (omega arith)

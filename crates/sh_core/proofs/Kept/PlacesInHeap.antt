@@ -63,7 +63,8 @@ module _ (plan : Plan) (w : World) (l : PutLists) (laws : Lawful plan) (all : Ag
       let r1 = r.1 in omega arith
 
   -- if a value is being filled in
-  filling : (a : ℕ) (p : Body) (x : SlotRef) (v : List ℕ) (i : ℕ) → slice_get w.parts a ≡ Some p → p.hand ≡ Filling x v i
+  filling : (a : ℕ) (p : Body) (x : SlotRef) (v : List ℕ) (i : ℕ) → slice_get w.parts a ≡ Some p
+      → p.hand ≡ Filling x v i
       → i < length v → x.slot * width (class_word_noted p x.page - 1) + i < 48
   filling a p x v i at is less =
       let P : Hand → Type 0 = λ h. FillAgrees w.words p h in

@@ -171,8 +171,8 @@ module _ (plan : Plan) (w : World) (l : PutLists) (a : ℕ) (p : Body) (all : Ag
       o = old a p at
 
       go : (j c : ℕ) (b : Bool) → (k == j) ≡ b → cond b (Some (w.words.length_at x.page x.slot)) (noted j p.lengths)
-          ≡ Some c → (0 < times j p.holds) × ((n : KeyRef) → plan.keys.unpack j ≡ Some n → w.words.length_at n.page n.slot
-          ≡ c)
+          ≡ Some c → (0 < times j p.holds)
+          × ((n : KeyRef) → plan.keys.unpack j ≡ Some n → w.words.length_at n.page n.slot ≡ c)
       go j c true e h =
           let i = eqb-true k j e in
           let t = has_some (λ j. j == k) p.holds is in

@@ -11,7 +11,8 @@ use Rattle.sh_step.specs.Plans.{Plan, home, over_heap}
 use Rattle.sh_step.specs.Collections.{total, if1, without}
 use Rattle.sh_step.specs.declared.body.Body.{Body}
 use Rattle.sh_core.specs.Lists.{PutLists, times, bells_taken}
-use Rattle.sh_core.specs.Stacks.{slot_ref, top, link_to, first_is, tying, ties_of, cursor_at, ring_tying, ring_ties, is_at}
+use Rattle.sh_core.specs.Stacks.{slot_ref, top, link_to, first_is, tying, ties_of, cursor_at, ring_tying, ring_ties}
+use Rattle.sh_core.specs.Stacks.{is_at}
 use Rattle.sh_core.specs.Stacks.{bell_cursor_at, bell_link, bell_head}
 use Rattle.sh_core.specs.Bells.{rings, armed_at, owns}
 use Rattle.sh_core.specs.Placed.{ListsAgreeOf}

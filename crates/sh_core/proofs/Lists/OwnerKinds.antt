@@ -168,7 +168,8 @@ read_page_agrees plan w ps l a p q r at small =
           in (ap w.class_at (sym i) ∙ z, omega arith)
       go k c e false f h = (r.own_notes a p at).notes k c e h
 
-pub times_drop : (x : SlotRef) (q : ℕ) (xs : List SlotRef) → total (λ y. if1 (same_slot x y)) (off (λ y. y.page == q) xs)
+pub times_drop : (x : SlotRef) (q : ℕ) (xs : List SlotRef)
+    → total (λ y. if1 (same_slot x y)) (off (λ y. y.page == q) xs)
     ≡ cond (x.page == q) 0 (total (λ y. if1 (same_slot x y)) xs)
 unfolding total off
 times_drop x q [] = go (x.page == q) where
@@ -199,7 +200,8 @@ classed p q c = record p {
       ++ off (λ x. x.page == q) p.mine;
 }
 
-pub slots_else : (x : SlotRef) (q s n : ℕ) → (x.page == q) ≡ false → total (λ y. if1 (same_slot x y)) (slot_refs q s n) ≡ 0
+pub slots_else : (x : SlotRef) (q s n : ℕ) → (x.page == q) ≡ false
+    → total (λ y. if1 (same_slot x y)) (slot_refs q s n) ≡ 0
 unfolding total slot_refs
 slots_else x q s zero h = refl
 slots_else x q s (suc n) h = let r = slots_else x q (s + 1) n h in let z : if1

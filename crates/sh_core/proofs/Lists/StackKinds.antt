@@ -333,7 +333,8 @@ module _ (plan : Plan) (w : Words) (ps : List Body) (l : PutLists) (a : ℕ) (p 
         owed_same : (g i : ℕ) → total (tying (slot_ref g i)) (set ps a follow_after) ≡ total (tying (slot_ref g i)) ps
         owed_same g i = total_same (tying (slot_ref g i)) ps a p follow_after at refl
 
-        tied_same : (g i : ℕ) → total (ties_of (slot_ref g i)) (set ps a follow_after) ≡ total (ties_of (slot_ref g i)) ps
+        tied_same : (g i : ℕ)
+            → total (ties_of (slot_ref g i)) (set ps a follow_after) ≡ total (ties_of (slot_ref g i)) ps
         tied_same g i = total_same (ties_of (slot_ref g i)) ps a p follow_after at refl
 
         link_is : w.link_at q s ≡ link_to rest

@@ -156,7 +156,8 @@ all_drop_key plan w l a p k y old at name is =
     (bounds_count plan w.words x (n - 1) _ old.bounds (fields_of-sub n some))
 
 -- one more of `mine`, on a page of the own shard
-pub mine_more : (plan : Plan) (class : ℕ → ℕ) (p : Body) (x : SlotRef) → own plan p x.page ≡ true → OwnNotesOf plan class p
+pub mine_more : (plan : Plan) (class : ℕ → ℕ) (p : Body) (x : SlotRef) → own plan p x.page ≡ true
+    → OwnNotesOf plan class p
     → OwnNotesOf plan class (record p { mine = x ∷ p.mine })
 unfolding total
 mine_more plan class p x mine h = record {

@@ -33,14 +33,16 @@ use Rattle.sh_core.proofs.Sums.Tests.{if1_neither}
 use Rattle.sh_core.proofs.Sums.ListCounts.{has_some}
 use Rattle.sh_core.proofs.Sums.Writes.{put2_same, put2_other, put_same, put_other}
 
-every_slots : (f : SlotRef → Bool) (q s m : ℕ) → every f (slot_refs q s m) ≡ true → (t : ℕ) → s ≤ t → t < s + m → f (slot_ref q t)
-    ≡ true
+every_slots : (f : SlotRef → Bool) (q s m : ℕ) → every f (slot_refs q s m) ≡ true → (t : ℕ) → s ≤ t → t < s + m
+    → f (slot_ref q t) ≡ true
 unfolding every slot_refs
 every_slots f q s zero h t a b = absurd (omega arith)
-every_slots f q s (suc m) h t a b = go (f (slot_ref q s)) refl h (t == s) refl (λ g c d. every_slots f q (s + 1) m g t c d)
+every_slots f q s (suc m) h t a b =
+    go (f (slot_ref q s)) refl h (t == s) refl (λ g c d. every_slots f q (s + 1) m g t c d)
   where
     go : (b : Bool) → f (slot_ref q s) ≡ b → (b && every f (slot_refs q (s + 1) m)) ≡ true → (c : Bool) → (t == s) ≡ c
-        → (every f (slot_refs q (s + 1) m) ≡ true → s + 1 ≤ t → t < s + 1 + m → f (slot_ref q t) ≡ true) → f (slot_ref q t) ≡ true
+        → (every f (slot_refs q (s + 1) m) ≡ true → s + 1 ≤ t → t < s + 1 + m → f (slot_ref q t) ≡ true)
+        → f (slot_ref q t) ≡ true
     go false e h c d rest = absurd (let z : false ≡ true = h in cc)
     go true e h true d rest = let i = eqb-true t s d in rw i e
     go true e h false d rest = rest h (let n : s ≢ t = (λ x. let z : (t == s) ≡ true = rw x (eq-eqb t t refl)

@@ -55,21 +55,23 @@ but_one f h (x ∷ xs) (suc i) v e z = let one = h x in let r = but_one f h xs i
 
 -- a hold on the slot is on the present key, or lost
 on_key : (plan : Plan) (st : Fields) (k : ℕ) (y : KeyRef) → Lawful plan → plan.keys.unpack k ≡ Some y → y.generation
-    ≡ st.generation → (j : ℕ) → if1 (at_slot (slot_ref_of y) (plan.keys.unpack j)) ≤ if1 (j == k) + stale st (slot_ref_of y)
-    (plan.keys.unpack j)
+    ≡ st.generation → (j : ℕ)
+    → if1 (at_slot (slot_ref_of y) (plan.keys.unpack j)) ≤ if1 (j == k) + stale st (slot_ref_of y) (plan.keys.unpack j)
 on_key plan st k y laws name gen j = go (plan.keys.unpack j) refl where
-  go : (o : Option KeyRef) → plan.keys.unpack j ≡ o → if1 (at_slot (slot_ref_of y) o) ≤ if1 (j == k) + stale st (slot_ref_of y) o
+  go : (o : Option KeyRef) → plan.keys.unpack j ≡ o
+      → if1 (at_slot (slot_ref_of y) o) ≤ if1 (j == k) + stale st (slot_ref_of y) o
   go None e = omega arith
-  go (Some z) e = by (same_slot (slot_ref_of y) (slot_ref_of z)) st.present (z.generation == st.generation) refl refl where
-    by : (b c d : Bool) → same_slot (slot_ref_of y) (slot_ref_of z) ≡ b → (z.generation == st.generation) ≡ d
-        → if1 b ≤ if1 (j == k) + cond b (if1 (not (c && d))) 0
-    by true true true h f =
-        let s : slot_ref_of z ≡ slot_ref_of y = sym (same_slot-true (slot_ref_of z) (slot_ref_of y) h) in
-        let g : z.generation ≡ y.generation = eqb-true z.generation st.generation f ∙ sym gen in
-        let t = same_key plan j k z y laws e name (sym s) (sym g) in omega arith
-    by true true false h f = omega arith
-    by true false d h f = omega arith
-    by false c d h f = omega arith
+  go (Some z) e = by (same_slot (slot_ref_of y) (slot_ref_of z)) st.present (z.generation == st.generation) refl
+      refl where
+        by : (b c d : Bool) → same_slot (slot_ref_of y) (slot_ref_of z) ≡ b → (z.generation == st.generation) ≡ d
+            → if1 b ≤ if1 (j == k) + cond b (if1 (not (c && d))) 0
+        by true true true h f =
+            let s : slot_ref_of z ≡ slot_ref_of y = sym (same_slot-true (slot_ref_of z) (slot_ref_of y) h) in
+            let g : z.generation ≡ y.generation = eqb-true z.generation st.generation f ∙ sym gen in
+            let t = same_key plan j k z y laws e name (sym s) (sym g) in omega arith
+        by true true false h f = omega arith
+        by true false d h f = omega arith
+        by false c d h f = omega arith
 
 pub crowded_permitted : (plan : Plan) (w : World) (l : PutLists) (a : ℕ) (p : Body) (k : ℕ) (y : KeyRef) → Lawful plan
     → Sums plan w l → slice_get w.parts a ≡ Some (hand p Idle) → plan.keys.unpack k ≡ Some y

@@ -45,7 +45,8 @@ keys_value plan w W log old state others k z name = rw (state z.page z.slot) (�
     (value_at w z.page z.slot) (value_at W z.page z.slot) (old k z name) n.1 n.0)
     (others (slot_ref_of z)))
 
-fill_due : (plan : Plan) (p : Body) (x : SlotRef) (v : List ℕ) → has (same_slot x) p.mine ≡ true → (y : SlotRef) (st : Fields)
+fill_due : (plan : Plan) (p : Body) (x : SlotRef) (v : List ℕ) → has (same_slot x) p.mine ≡ true
+    → (y : SlotRef) (st : Fields)
     → same_slot y x ≡ false → due plan y st (hand (record p { mine = without (same_slot x) p.mine }) (Filling x v 0))
     ≡ due plan y st (hand p Idle)
 fill_due plan p x v is y st h =
@@ -74,7 +75,8 @@ not_mine plan w l a b p q x y u i g at is at' e = go (same_slot y x) refl where
       let t : same_slot x y ≡ true = ap (same_slot x) s ∙ same_slot-refl x in
       let one : if1 (same_slot x y) ≡ 1 = rw t refl in absurd (omega arith)
 
-pub sums_fill_slot : (plan : Plan) (w : World) (l : PutLists) (a : ℕ) (p : Body) (x : SlotRef) (v : List ℕ) → Sums plan w l
+pub sums_fill_slot : (plan : Plan) (w : World) (l : PutLists) (a : ℕ) (p : Body) (x : SlotRef) (v : List ℕ)
+    → Sums plan w l
     → slice_get w.parts a ≡ Some (hand p Idle) → has (same_slot x) p.mine ≡ true → class_word_noted p x.page
     ≡ w.words.class_at x.page → length v ≤ width (w.words.class_at x.page - 1)
     → Sums plan (apply w a (fill_slot (hand p Idle) x v)) l

@@ -112,7 +112,8 @@ drop_key_due b g plan p k z name is y st h =
     p.holds is in
     let v = total_without (λ j. stale st y (plan.keys.unpack j)) (λ j. j == k) 0 (one (stale st y) c) p.holds is in
     let fin : if1 (same_slot y (slot_ref_of z) && (g == st.generation)) ≡ 0 = rw h refl in
-    cond_either (λ u. due plan y st (hand (freed p k) u) ≡ due plan y st (hand p Idle)) b (Finishing (slot_ref_of z) g) Idle
+    cond_either (λ u. due plan y st (hand (freed p k) u) ≡ due plan y st (hand p Idle)) b (Finishing (slot_ref_of z) g)
+    Idle
     (tally_ext (due plan y st (hand (freed p k) (Finishing (slot_ref_of z) g))) (due plan y st (hand p Idle)) refl refl
     (omega arith) refl (omega arith) fin)
     (tally_ext (due plan y st (hand (freed p k) Idle)) (due plan y st (hand p Idle)) refl refl (omega arith) refl

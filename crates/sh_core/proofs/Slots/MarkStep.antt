@@ -80,7 +80,8 @@ pub mark_slots : (plan : Plan) (w : Words) (ps : List Body) (l : PutLists) (a : 
 mark_slots plan w ps l a p k y name old at =
     let f = old (slot_ref_of y) in
     let c = is_current _ _ (fields_of n) plan ps a p k y name at f in
-    slots_state plan w ps l a (hand p (Removing k)) (hand p (Leaving (slot_ref_of y))) (slot_ref_of y) (bit_or n (2 ^ 31)) old
+    slots_state plan w ps l a (hand p (Removing k)) (hand p (Leaving (slot_ref_of y))) (slot_ref_of y)
+    (bit_or n (2 ^ 31)) old
     at (mark_due plan p k y name) (rw fields_of-or_mark (mark_adds_up _ _ (fields_of n) plan ps a p k y name c.0 at f))
   where
     n : ℕ
@@ -98,8 +99,8 @@ mark_keys true plan w log a k y laws name old m p gen =
     let same = ap (λ (s : Fields). s.marked) (fields_of-or_mark (w.state_at y.page y.slot)) ∙ sym m in
     let s = (old k y name).mark gen in
     let one : if1 (fields_of (w.state_at y.page y.slot)).marked ≡ 1 = rw m refl in (
-      keys_quiet plan w log (Gone a k) (slot_ref_of y) (bit_or (w.state_at y.page y.slot) (2 ^ 31)) old (λ j. (refl, refl))
-          (ap (λ (t : Fields). t.generation) (fields_of-or_mark (w.state_at y.page y.slot))) same
+      keys_quiet plan w log (Gone a k) (slot_ref_of y) (bit_or (w.state_at y.page y.slot) (2 ^ 31)) old
+          (λ j. (refl, refl)) (ap (λ (t : Fields). t.generation) (fields_of-or_mark (w.state_at y.page y.slot))) same
           (ap (λ (t : Fields). t.present) (fields_of-or_mark (w.state_at y.page y.slot))),
       inr (omega arith),
     )

@@ -57,7 +57,8 @@ drop_due true g plan p x y st h = rw h refl
 drop_due false g plan p x y st h = rw h refl
 
 -- a pass that leaves a slot is one of its visitors
-pub leaving : (plan : Plan) (ps : List Body) (a : ℕ) (p : Body) (x : SlotRef) → slice_get ps a ≡ Some (hand p (Leaving x))
+pub leaving : (plan : Plan) (ps : List Body) (a : ℕ) (p : Body) (x : SlotRef)
+    → slice_get ps a ≡ Some (hand p (Leaving x))
     → 0 < total (visits plan x) ps
 leaving plan ps a p x at = let here = if1_same_slot x
     in let t = total_at (visits plan x) ps a (hand p (Leaving x)) at in omega arith
@@ -147,7 +148,8 @@ pub mark_due : (plan : Plan) (p : Body) (k : ℕ) (z : KeyRef) → plan.keys.unp
     ≡ due plan y st (hand p (Removing k))
 mark_due plan p k z name y st h = rw (name, h) refl
 
-pub remove_due : (plan : Plan) (p : Body) (k : ℕ) (z : KeyRef) → plan.keys.unpack k ≡ Some z → (y : SlotRef) (st : Fields)
+pub remove_due : (plan : Plan) (p : Body) (k : ℕ) (z : KeyRef) → plan.keys.unpack k ≡ Some z
+    → (y : SlotRef) (st : Fields)
     → same_slot y (slot_ref_of z) ≡ false → due plan y st (hand p (Removing k)) ≡ due plan y st (hand p Idle)
 remove_due plan p k z name y st h = rw (name, h) refl
 
@@ -196,8 +198,8 @@ finish_hand r q st plan ps a p x g there none at f =
     record { kinds = omega arith; counts = omega arith; none_lost = omega arith; owed = λ c d n. cc }
 
 -- Publish: the slot in the hand is Empty, and then Live
-pub publish_adds_up : (r q : ℕ) (st : Fields) (plan : Plan) (ps : List Body) (a : ℕ) (p : Body) (x : SlotRef) (v : List ℕ)
-    (i : ℕ) → r ≤ 1
+pub publish_adds_up : (r q : ℕ) (st : Fields) (plan : Plan) (ps : List Body) (a : ℕ) (p : Body) (x : SlotRef)
+    (v : List ℕ) (i : ℕ) → r ≤ 1
     → slice_get ps a ≡ Some (hand p (Filling x v i)) → AddsUp r q st (tally plan x st ps)
     → AddsUp r q (record st { present = true }) (tally plan x (record st { present = true }) (set ps a (hand p Idle)))
 publish_adds_up r q st plan ps a p x v i small at f =

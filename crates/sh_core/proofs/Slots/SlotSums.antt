@@ -174,7 +174,8 @@ values_zero : (a k : ℕ) (v : List ℕ) (j : ℕ) → (k == j) ≡ false → va
 unfolding values
 values_zero a k v j e = rw e refl
 
-publish_keys : (plan : Plan) (w : Words) (log : List Entry) (a k : ℕ) (v : List ℕ) (x : SlotRef) (y : KeyRef) → Lawful plan
+publish_keys : (plan : Plan) (w : Words) (log : List Entry) (a k : ℕ) (v : List ℕ) (x : SlotRef) (y : KeyRef)
+    → Lawful plan
     → plan.keys.unpack k ≡ Some y → KeysAgree plan w log → slot_ref_of y ≡ x → y.generation
     ≡ (fields_of (w.state_at x.page x.slot)).generation
     → (fields_of (w.state_at x.page x.slot)).marked ≡ false → (fields_of (w.state_at x.page x.slot)).present ≡ false

@@ -21,7 +21,8 @@ use Rattle.std.specs.Prelude.{not}
 use Rattle.sh_core.proofs.Sums.Totals.{total_same, total_set, total_le, total_plus}
 use Rattle.sh_core.proofs.Sums.Writes.{put2_same, put2_other}
 
-pub tally_same : (plan : Plan) (x : SlotRef) (st : Fields) (ps : List Body) (a : ℕ) (p p' : Body) → slice_get ps a ≡ Some p
+pub tally_same : (plan : Plan) (x : SlotRef) (st : Fields) (ps : List Body) (a : ℕ) (p p' : Body)
+    → slice_get ps a ≡ Some p
     → due plan x st p' ≡ due plan x st p → tally plan x st (set ps a p') ≡ tally plan x st ps
 tally_same plan x st ps a p p' at e = λ i. record {
   mine = total_same (mine_at x) ps a p p' at (ap (λ d. d.mine) e) i;
@@ -52,7 +53,8 @@ pub record SumsChange (t t' d d' : Tally) : Type 0 where
   pub lost : t'.lost + d.lost ≡ t.lost + d'.lost
   pub finishing : t'.finishing + d.finishing ≡ t.finishing + d'.finishing
 
-pub tally_set : (plan : Plan) (x : SlotRef) (st : Fields) (ps : List Body) (a : ℕ) (p p' : Body) → slice_get ps a ≡ Some p
+pub tally_set : (plan : Plan) (x : SlotRef) (st : Fields) (ps : List Body) (a : ℕ) (p p' : Body)
+    → slice_get ps a ≡ Some p
     → SumsChange (tally plan x st ps) (tally plan x st (set ps a p')) (due plan x st p) (due plan x st p')
 tally_set plan x st ps a p p' at = record {
   mine = total_set (mine_at x) ps a p p' at;

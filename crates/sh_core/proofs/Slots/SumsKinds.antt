@@ -72,7 +72,8 @@ abbrev pub tied : Body → SlotRef → ℕ → Bool → Body
 tied p x n r = hand p (Tying x n r)
 
 -- Put: a slot in the hand, or in `mine`, is then queued; u is what the pass no longer has of a slot
-pub sums_put : (plan : Plan) (w : World) (l : PutLists) (a : ℕ) (p p' : Body) (x : SlotRef) (n : ℕ) (r : Bool) (h : ℕ → ℕ)
+pub sums_put : (plan : Plan) (w : World) (l : PutLists) (a : ℕ) (p p' : Body) (x : SlotRef) (n : ℕ) (r : Bool)
+    (h : ℕ → ℕ)
     → Sums plan w l → slice_get w.parts a ≡ Some p → p'.holds ≡ p.holds
     → ((y : SlotRef) (st : Fields) → (due plan y st p).mine + (due plan y st p).hand
     ≡ (due plan y st (tied p' x n r)).mine + if1 (same_slot y x))

@@ -18,6 +18,7 @@ returns-in-Some c =
       is_in = is_in;
       line_is = refl;
       clashes = c.in-Some.ensures.clashes;
-      none = none_legal c.args.passes c.args.guard_max c.args.calls.now call c.in-Some.clash.why c.in-Some.clash.by is_in
+      none = none_legal c.args.passes c.args.guard_max c.args.calls.now call c.in-Some.clash.why c.in-Some.clash.by
+          is_in
           c.in-Some.ensures.clashes;
     }

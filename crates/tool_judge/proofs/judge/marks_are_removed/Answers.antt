@@ -1,7 +1,8 @@
 use Rattle.std.proofs.Common.{◌∙◌, refl, sym, rules}
 use Rattle.std.proofs.lemmas.Option.{slice_get_read}
 use Rattle.tool_judge.proofs.MarkLemmas.{all_marks, one_more_mark}
-use Rattle.tool_judge.proofs.judge.marks_are_removed.Goals.{else-eq-via-then-eq+else-not-is_removed, else-eq-via-else-eq}
+use Rattle.tool_judge.proofs.judge.marks_are_removed.Goals.{else-eq-via-then-eq+else-not-is_removed}
+use Rattle.tool_judge.proofs.judge.marks_are_removed.Goals.{else-eq-via-else-eq}
 use Rattle.tool_judge.proofs.judge.marks_are_removed.Goals as goal
 
 pub loop-place-preserved : goal.loop-place-preserved
