@@ -123,7 +123,8 @@ module _ (layout : Layout) (v : View) where
       → Acts layout (action.EnterRemove k) v false v
   unfolding move_of
   not_idle_to_remove k h is never = refused (action.EnterRemove k)
-      (none_behind (λ (y : KeyRef). then_some (idle body) (move.EnterRemove k y)) (place_named (plan_of layout v.shape) k)
+      (none_behind (λ (y : KeyRef). then_some (idle body) (move.EnterRemove k y))
+      (place_named (plan_of layout v.shape) k)
       (λ y. none_unless (idle body) (move.EnterRemove k y) (λ e. never (sym is ∙ idle_is body e))))
 
   pub not_idle_to_drop : (k : ℕ) (h : Hand) → body.hand ≡ h → (h ≡ Idle → ⊥) → Acts layout (action.DropHold k) v false v

@@ -130,8 +130,8 @@ name_found {layout} k s o x seat same is some = ap (λ z. place_named (plan_of l
     ∙ (sym is ∙ some)
 
 -- what holds of the slot of this name holds of the slot of the key
-pub of_key : (v w : View) (plan : Plan) (k : ℕ) (IsSo : KeyRef → List Footstep → Type 0) (x : KeyRef) → place_named plan k
-    ≡ Some x → Stepped (IsSo x) v w
+pub of_key : (v w : View) (plan : Plan) (k : ℕ) (IsSo : KeyRef → List Footstep → Type 0) (x : KeyRef)
+    → place_named plan k ≡ Some x → Stepped (IsSo x) v w
     → Stepped (λ new. (y : KeyRef) × (place_named plan k ≡ Some y) × IsSo y new) v w
 of_key v w plan k IsSo x named s = (s.0, s.1, (x, named, s.2))
 

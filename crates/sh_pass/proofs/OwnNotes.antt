@@ -78,8 +78,8 @@ pub one_more_else : (q r s t : ℕ) (xs : List SlotRef) → r ≢ q → has (sam
 unfolding has
 one_more_else q r s t xs ne = ap (λ b. (b && (t == s)) || has (same_slot (at r t)) xs) (ne_eqb r q ne)
 
-pub one_less_else : (q r s t : ℕ) (xs : List SlotRef) → r ≢ q → has (same_slot (at r t)) (without (same_slot (at q s)) xs)
-    ≡ has (same_slot (at r t)) xs
+pub one_less_else : (q r s t : ℕ) (xs : List SlotRef) → r ≢ q
+    → has (same_slot (at r t)) (without (same_slot (at q s)) xs) ≡ has (same_slot (at r t)) xs
 one_less_else q r s t xs ne = has_without_else (same_slot (at q s)) (same_slot (at r t)) xs (λ x e.
     let k = and_parts (q == x.page) (s == x.slot) e in
     let z : q ≡ x.page = (let k0 = k.0 in grind (arith, nat_tests)) in
@@ -156,8 +156,8 @@ slots_else q r t s zero ne = refl
 slots_else q r t s (suc n) ne = ap (λ b. (b && (t == s)) || has (same_slot (at r t)) (slot_refs q (s + 1) n))
     (ne_eqb r q ne) ∙ slots_else q r t (s + 1) n ne
 
-pub all_given : (q t n : ℕ) (xs : List SlotRef) → has (same_slot (at q t)) (slot_refs q 0 n ++ off (λ x. x.page == q) xs)
-    ≡ nat_lt t n
+pub all_given : (q t n : ℕ) (xs : List SlotRef)
+    → has (same_slot (at q t)) (slot_refs q 0 n ++ off (λ x. x.page == q) xs) ≡ nat_lt t n
 all_given q t n xs =
     let x : nat_le 0 t ≡ true = grind (arith, nat_tests) in
     let y : 0 + n ≡ n = omega arith in

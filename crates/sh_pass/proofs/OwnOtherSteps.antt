@@ -39,7 +39,8 @@ module _ (layout : Layout) (v w : Caller) where
         still layout action.Fill m 0 v w d b refl puts_slot refl,
       )
 
-  pub publish_does : (x : SlotRef) (value : List ℕ) (n : ℕ) → OwnerDid layout action.Publish (move.Publish x value) n v w
+  pub publish_does : (x : SlotRef) (value : List ℕ) (n : ℕ)
+      → OwnerDid layout action.Publish (move.Publish x value) n v w
       → OwnerActs Idle (Known (entry.Insert v.view.pass (published layout v x n) value) ∷ []) 1 v w
       × SameBells layout v w × SamePages v w × NonePut v w
   publish_does x value n d =

@@ -49,7 +49,8 @@ pub issued : (layout : Layout) (shape : Numbers) (v w : Caller) (x : SlotRef) (v
     → OwnerDid layout action.Publish (move.Publish x value) n v w → shape ≡ v.view.shape → y ≡ published_name x n
     → (plan_of layout shape).keys.unpack ((plan_of layout shape).keys.pack y) ≡ Some y
 issued layout shape v w x value n y d same is =
-    let P : Numbers → KeyRef → Type 0 = λ s z. (plan_of layout s).keys.unpack ((plan_of layout s).keys.pack z) ≡ Some z in
+    let P : Numbers → KeyRef → Type 0 = λ s z.
+    (plan_of layout s).keys.unpack ((plan_of layout s).keys.pack z) ≡ Some z in
     subst (λ s. P s y) (sym same) (subst (P v.view.shape) (sym is)
     ((d.fits refl).issues ((plan_of layout v.view.shape).keys.pack (published_name x n)) value x.page x.slot refl
     refl))

@@ -100,8 +100,9 @@ impl<L: KeyLayout, H: KeepsHeap<L>> Owner<L, H> {
     pub fn publish(&mut self, slot_ref: SlotRef, value: &Value) -> u64
         requires hand { (own_body self.old).hand ≡ Filling slot_ref value.now (length value.now) }
         ensures does { OwnerDid L.layout action.Publish (move.Publish slot_ref value.now) result self.old self.new }
-        ensures acts { OwnerActs Idle (Known (entry.Insert self.old.view.pass (published L.layout self.old slot_ref result)
-            value.now) ∷ []) 1 self.old self.new }
+        ensures acts { OwnerActs Idle
+            (Known (entry.Insert self.old.view.pass (published L.layout self.old slot_ref result) value.now) ∷ []) 1
+            self.old self.new }
         ensures bells { SameBells L.layout self.old self.new }
         ensures pages { SamePages self.old self.new }
         ensures put { NonePut self.old self.new }

@@ -62,7 +62,8 @@ but_classes v w q s count class named others = record {
 -- the owner gained a slot
 pub but_gained : (gained : Option ℕ) (v w : Paged) (q : PageQueues) → SortedPages v q → GainsSlot gained v w
     → SortedBut (λ p. gained ≡ Some p) w q
-but_gained gained v w q s k = but_classes v w q s k.count (class gained k) (λ p. gained ≡ Some p) (λ p none. k.others p none)
+but_gained gained v w q s k =
+    but_classes v w q s k.count (class gained k) (λ p. gained ≡ Some p) (λ p none. k.others p none)
   where
     class : (gained : Option ℕ) → GainsSlot gained v w → (p : ℕ) → (page_at w p).class ≡ (page_at v p).class
     class None k p = ap (λ (g : SeenPage). g.class) (k.others p (λ e. let z : ⊥ = cc in z))

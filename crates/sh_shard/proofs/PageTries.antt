@@ -2,7 +2,8 @@
 use Rattle.std.proofs.Common.{◌≡◌, ℕ, ◌+◌, Bool, true, false, Option, Some, None, MatchOption, MatchBool, List}
 use Rattle.std.proofs.Common.{IfSome, ◌∙◌, sym, arith}
 use Rattle.std.proofs.lemmas.Bool.{false≢true}
-use Rattle.sh_shard.specs.Pages.{Paged, page_at, NothingMine, WorksOn, CollectsPage, ArmsAndFollows, PageDone, PageInserts}
+use Rattle.sh_shard.specs.Pages.{Paged, page_at, NothingMine, WorksOn, CollectsPage, ArmsAndFollows, PageDone}
+use Rattle.sh_shard.specs.Pages.{PageInserts}
 use Rattle.sh_shard.specs.Pages.{TakesSteps, StepsForSlots}
 use Rattle.sh_shard.specs.Steps.{StepsAtMost}
 use Rattle.sh_shard.proofs.Bounding.{slots_then, slots_most}

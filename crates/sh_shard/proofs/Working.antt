@@ -101,7 +101,8 @@ guards p o m n g e t h = record {
       (h.armed ∙ e) (waits_since (page_at n p).cursor _ _ _ _ g.met h.waits);
 }
 
-done_waits : (p : ℕ) (o m n : Paged) (c : Option ℕ) → (page_at n p).cursor ≡ c → CollectsPage p o m → ArmsAndFollows p m n
+done_waits : (p : ℕ) (o m n : Paged) (c : Option ℕ) → (page_at n p).cursor ≡ c → CollectsPage p o m
+    → ArmsAndFollows p m n
     → MatchOption c ((page_at n p).armed ≡ true) (λ _. (n ≡ m) ⊎ ((page_at m p).met < (page_at n p).met))
     → MatchOption c ((page_at n p).armed ≡ true) (λ _. (page_at o p).met < (page_at n p).met)
 done_waits p o m n None e g h w = w

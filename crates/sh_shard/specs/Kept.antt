@@ -50,5 +50,5 @@ MayGain shard states (Some x) = (p : ℕ) × (p < length states) × (x.page ≡ 
 -- the slot came to the lists of its page, whose number in the shard is returned
 abbrev pub PushesGained : ℕ → Option SlotRef → List PageState → Option ℕ → List PageState → Type 0
 PushesGained shard None old page new = (page ≡ None) × (new ≡ old)
-PushesGained shard (Some x) old page new = (p : ℕ) × (page ≡ Some p) × (p < length old) × (x.page ≡ shard * length old + p)
-    × (new ≡ slice_set old p (with_local (get_or old p blank_state) x.slot))
+PushesGained shard (Some x) old page new = (p : ℕ) × (page ≡ Some p) × (p < length old)
+    × (x.page ≡ shard * length old + p) × (new ≡ slice_set old p (with_local (get_or old p blank_state) x.slot))

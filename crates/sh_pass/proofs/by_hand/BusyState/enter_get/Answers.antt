@@ -75,7 +75,8 @@ returns-in-Crowded-clause-busy g c =
     c.in-Some.name c.enter_get-found.result (answered g.L.KeyLayout.layout c.args.self.now.seat.me.0.shape
     c.in-Some.name.generation c.enter_get-found.result c.guard_max.result _ answer.Crowded c.guard_max.ensures
     c.answer_to_get.ensures c.in-Crowded.is) in
-    busy_still (action.EnterGet c.args.key) (move.EnterGet c.args.key c.in-Some.name) (Leaving c.slot_ref.result) c.requires
+    busy_still (action.EnterGet c.args.key) (move.EnterGet c.args.key c.in-Some.name) (Leaving c.slot_ref.result)
+    c.requires
     c.enter_get-found.ensures (left.0 ∙ ap (λ (x : SlotRef). hand body (Leaving x)) (sym c.slot_ref.ensures))
 
 pub returns-in-Crowded-clause-acts : goal.returns-in-Crowded-clause-acts

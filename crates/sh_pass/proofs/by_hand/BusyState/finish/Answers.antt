@@ -43,6 +43,7 @@ returns-clause-busy g c =
       | else-is_reusable_after w ↦ subst P (sym w.self-is) (busy_still action.Finish
           (move.Finish c.in-Finishing.slot_ref c.in-Finishing.generation) Idle c.requires c.finish-found.ensures
           (finished_by g.L.KeyLayout.layout c.args.self.now.seat.me.0.shape c.args.self.now.seat.me.0.own.body
-          c.in-Finishing.slot_ref c.in-Finishing.generation c.finish-found.result c.gen_max.result _ false c.requires.left
+          c.in-Finishing.slot_ref c.in-Finishing.generation c.finish-found.result c.gen_max.result _ false
+          c.requires.left
           c.gen_max.ensures c.is_reusable_after.ensures w.if-is_reusable_after.false))
     ]

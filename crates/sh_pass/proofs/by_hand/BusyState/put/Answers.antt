@@ -21,4 +21,5 @@ put-head-requires g c = record {
 
 pub returns-clause-acts : goal.returns-clause-acts
 returns-clause-acts g c = done action.Put (move.Put c.in-ToPut.slot_ref) refl
-    (may_put _ c.args.self.now.seat.me.0.own.body c.in-ToPut.slot_ref (c.requires.hand ∙ c.in-ToPut.is)) c.put-head.ensures
+    (may_put _ c.args.self.now.seat.me.0.own.body c.in-ToPut.slot_ref (c.requires.hand ∙ c.in-ToPut.is))
+    c.put-head.ensures

@@ -45,7 +45,8 @@ key_on_page-requires-clause-place g c =
     ∙ ap (λ (v : Caller). v.view.shape) c.self.view_is)) in
     let at : c.shape.result.now ≡ c.args.self.now.view.shape = now ∙ (p.acts.aside.same.shape
     ∙ c.loop-i.invariant.0.aside.same.shape) in
-    ap (λ (x : KeyRef). x.page) c.published_name-stored.ensures ∙ (ap (λ (x : SlotRef). x.page) c.fill_slot-slot_ref.ensures.slot_ref
+    ap (λ (x : KeyRef). x.page) c.published_name-stored.ensures
+    ∙ (ap (λ (x : SlotRef). x.page) c.fill_slot-slot_ref.ensures.slot_ref
     ∙ ap (λ (s : Numbers). page_number s c.args.name.shard c.args.name.page) (sym at))
 
 pub key_on_page-requires-clause-shard : goal.key_on_page-requires-clause-shard
@@ -78,8 +79,8 @@ returns-clause-on g c =
     ∙ ap (λ (v : Caller). v.view.shape) c.self.view_is)) in
     let at : c.shape.result.now ≡ c.loop-i.self.view.shape = now ∙ p.acts.aside.same.shape in
     let x = c.fill_slot-slot_ref.ensures.slot_ref in
-    let P : SlotRef → Type 0 = λ z. OwnerDid layout action.Publish (move.Publish z c.args.value.now) c.publish-found.result
-    c.loop-i.self c.publish-found.new.self in
+    let P : SlotRef → Type 0 = λ z. OwnerDid layout action.Publish (move.Publish z c.args.value.now)
+    c.publish-found.result c.loop-i.self c.publish-found.new.self in
     key_on layout v c.loop-i.self c.publish-found.new.self c.args.name c.args.slot c.args.value.now
     c.publish-found.result c.shape.result.now c.key_on_page.result c.published_name-stored.result
     (subst P x p.does) before at (c.published_name-stored.ensures

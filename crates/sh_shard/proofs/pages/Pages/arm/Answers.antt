@@ -33,8 +33,8 @@ invariant_of-self g c =
     (sym c.begin_reading.ensures)
     (keeps_set c.args.page _ k c.arm-found.ensures.acts c.arm-found.ensures.bells c.arm-found.ensures.page
     c.arm-found.ensures.does.stands l
-    (kept_armed st _ c.arm-found.result (record st.lists { cursor = c.slot_number-cursor.result }) c.slot_number-cursor.result
-    (k.pages c.args.page l) some refl
+    (kept_armed st _ c.arm-found.result (record st.lists { cursor = c.slot_number-cursor.result })
+    c.slot_number-cursor.result (k.pages c.args.page l) some refl
     (c.slot_number-cursor.ensures ∙ (c.top_item.ensures ∙ (λ i. top_item (c.top_of.ensures i))))))
 
 pub returns-clause-works : goal.returns-clause-works

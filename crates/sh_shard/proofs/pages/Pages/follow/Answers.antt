@@ -19,13 +19,15 @@ returns-then-found-eq0 g c =
     c.if-found-eq0.true refl)
 
 pub slot_number-cursor-requires : goal.slot_number-cursor-requires
-slot_number-cursor-requires g c = cursor_number c.link_item.result (followed_cursor _ c.in-Some.slot c.follow-found.result
+slot_number-cursor-requires g c =
+    cursor_number c.link_item.result (followed_cursor _ c.in-Some.slot c.follow-found.result
     c.if-found-eq0.false ∙ sym c.link_item.ensures) c.follow-found.ensures.page c.follow-found.ensures.does.stands
 
 pub add_read-requires-clause-cursor : goal.add_read-requires-clause-cursor
 add_read-requires-clause-cursor g c = cursor_number c.slot_number-cursor.result
     (followed_cursor _ c.in-Some.slot c.follow-found.result c.if-found-eq0.false
-    ∙ sym (c.slot_number-cursor.ensures ∙ c.link_item.ensures)) c.follow-found.ensures.page c.follow-found.ensures.does.stands
+    ∙ sym (c.slot_number-cursor.ensures ∙ c.link_item.ensures)) c.follow-found.ensures.page
+    c.follow-found.ensures.does.stands
 
 pub add_read-requires-clause-apart : goal.add_read-requires-clause-apart
 add_read-requires-clause-apart g c =

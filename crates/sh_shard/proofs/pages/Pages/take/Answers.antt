@@ -33,7 +33,8 @@ invariant_of-self g c =
     (sym c.begin_reading.ensures)
     (keeps_set c.args.page _ k c.take-found.ensures.acts c.take-found.ensures.bells c.take-found.ensures.page
     c.take-found.ensures.does.stands l
-    (kept_taken st _ c.take-found.result (record st.lists { cursor = c.slot_number-cursor.result }) c.slot_number-cursor.result
+    (kept_taken st _ c.take-found.result (record st.lists { cursor = c.slot_number-cursor.result })
+    c.slot_number-cursor.result
     c.still_armed-armed.result (k.pages c.args.page l) some refl
     (c.slot_number-cursor.ensures ∙ (c.top_item.ensures ∙ (λ i. top_item (c.top_of.ensures i))))
     (c.still_armed-armed.ensures ∙ ap (λ b. cond (is_armed c.take-found.result) false b) c.is_armed.ensures)))

@@ -10,7 +10,10 @@ returns-then-has_rings g c = rings_first c.args.c c.read_rings-first.result c.ar
     (subst (λ (z : Sharded). CursorStands z.pages.bell.cursor) c.self.view_is c.if-has_rings.ensures)
 
 pub returns : goal.returns
-returns g c = rings_both c.args.c c.read_rings-first.result c.read_rings-second.result c.any_heard.result c.args.self.now
-    c.read_rings-first.new.self c.take_bell.new.self c.read_rings-second.new.self c.any_heard.ensures c.read_rings-first.ensures.hears
-    c.read_rings-first.ensures.steps c.take_bell.ensures.takes c.take_bell.ensures.queues c.read_rings-second.ensures.hears
+returns g c = rings_both c.args.c c.read_rings-first.result c.read_rings-second.result c.any_heard.result
+    c.args.self.now
+    c.read_rings-first.new.self c.take_bell.new.self c.read_rings-second.new.self c.any_heard.ensures
+    c.read_rings-first.ensures.hears
+    c.read_rings-first.ensures.steps c.take_bell.ensures.takes c.take_bell.ensures.queues
+    c.read_rings-second.ensures.hears
     c.read_rings-second.ensures.steps c.read_rings-second.ensures.waits
