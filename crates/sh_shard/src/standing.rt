@@ -17,8 +17,9 @@ impl<L: KeyLayout, H: KeepsHeap<L>> Pages<L, H> {
         ensures stands { ViewStands L.layout self.now.owner.view }
         ensures idle { (own_body self.now.owner).hand ≡ Idle }
         ensures owned { (own_body self.now.owner).owned ≡ Some self.now.shard }
+        ensures shape { self.now.owner.view.shape ≡ self.now.owner.heap.shape }
     {
-        let _known = &self.owner;
+        let _known = self.owner.shape();
     }
 
     // The shape of the heap.
