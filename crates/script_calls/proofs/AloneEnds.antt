@@ -17,7 +17,8 @@ use Rattle.script_calls.specs.Receipts.{HasOrderedTale}
 use Rattle.script_calls.specs.InOrder.{adding_passes, times, AllHeard}
 use Rattle.script_calls.specs.Alone.{OrderedSoFar, HeedsLast}
 use Rattle.script_calls.specs.Finished.{IsOrderedBy, IsNamedBy, AreWaiting, LinesRan}
-use Rattle.script_calls.specs.Meeting.{HasMet, SomeWaits, tales_told, orders_of}
+use Rattle.script_calls.specs.Meeting.{HasMet, HasEnded, SomeWaits, tales_told, orders_of}
+use Rattle.script_calls.proofs.EndLaws.{parts_heed, parts_ended}
 use Rattle.script_calls.proofs.ListLemmas.{take_past, up_get}
 use Rattle.script_calls.proofs.NameLaws.{log_at, named_by}
 use Rattle.script_calls.proofs.OrderLemmas.{in_order}
@@ -92,8 +93,8 @@ module _ (heap : Option Heap) (terms : RunTerms) (tag : Option ℕ) (lines : Lis
 
   -- all could meet
   pub ran_on : length lines ≤ i → All (λ (l : CallLine). l.pass < terms.shape.passes) lines → HasOrderedTale c
-      → LinesRan true heap terms tag lines output (Some c)
-  ran_on past fits stands =
+      → All (HasEnded s) sides → LinesRan true heap terms tag lines output (Some c)
+  ran_on past fits stands ended =
       let tale = tale_of_parts heap terms tag lines i numbers sides output was.so_far in
       let history : List Entry = stands.whole.history in
       let only : entries_of (λ p. not (nat_lt p terms.shape.passes)) history ≡ [] = subst
@@ -120,6 +121,8 @@ module _ (heap : Option Heap) (terms : RunTerms) (tag : Option ℕ) (lines : Lis
           carries = (ap (λ (z : SeenPass). z.heap) only_orders ∙ m.carries.0, same_terms, refl);
           none = shard_heeds last s c heeds ∙ m.none;
           named = named;
+          ended = parts_ended heap terms tag lines i numbers sides output was.so_far s c
+              (parts_heed last s c heeds) ended;
           ordered = λ e. ordered;
         };
         stays = tt;

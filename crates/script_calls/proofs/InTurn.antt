@@ -21,7 +21,8 @@ use Rattle.script_calls.specs.Runs.{with_number}
 use Rattle.script_calls.specs.Runs.{number_meant}
 use Rattle.script_calls.specs.Receipts.{MayHeed}
 use Rattle.script_calls.specs.Told.{AreReplies, part_told}
-use Rattle.script_calls.specs.Meeting.{HasMet, SomeWaits, tales_told, AllOfHeap, orders_of}
+use Rattle.script_calls.specs.Meeting.{HasMet, HasEnded, SomeWaits, tales_told, AllOfHeap, orders_of}
+use Rattle.script_calls.proofs.EndLaws.{parts_ended}
 use Rattle.script_calls.specs.Named.{NamesWereHeard}
 use Rattle.script_calls.specs.Alone.{seen_with_part, AnsweredSoFar}
 use Rattle.script_calls.specs.Finished.{CarrierRan, AreWaiting, LinesRan, IsNamedBy}
@@ -206,8 +207,9 @@ ran_apart : (heap : Option Heap) (terms : RunTerms) (tag : Option ℕ) (lines : 
     (numbers : List (Option ℕ)) (sides : List SeenPass) (output : List ℕ) (s : SeenPass) → length lines ≤ i
     → All (λ (l : CallLine). l.pass < terms.shape.passes) lines
     → AnsweredSoFar heap terms tag lines i numbers sides output
-    → HasMet heap terms s (tales_told sides) (orders_of sides) → CarrierRan false heap terms tag lines output s
-ran_apart heap terms tag lines i numbers sides output s past fits h m =
+    → HasMet heap terms s (tales_told sides) (orders_of sides) → All (HasEnded s) sides
+    → CarrierRan false heap terms tag lines output s
+ran_apart heap terms tag lines i numbers sides output s past fits h m ended =
     let tale = m.carries.2 ∙ tale_of_parts heap terms tag lines i numbers sides output h in
     let w = m.whole in
     let has : HasAllLogs w.history (tale_told s) = subst (HasAllLogs w.history) (sym m.carries.2) w.has in
@@ -224,6 +226,7 @@ ran_apart heap terms tag lines i numbers sides output s past fits h m =
       carries = (m.carries.0, m.carries.1, refl);
       none = m.none;
       named = named;
+      ended = parts_ended heap terms tag lines i numbers sides output h s s refl ended;
       ordered = apart;
     }
 
@@ -232,6 +235,10 @@ some_met : {S : Type 0} {P : S → Type 0} (seen : S → SeenPass) (Q : SeenPass
     → (o : Option S) → IfSome o P → IfSome (option_map seen o) Q
 some_met seen Q f None h = h
 some_met seen Q f (Some s) h = f s h
+
+both_met : {S : Type 0} (P Q : S → Type 0) (o : Option S) → IfSome o P → IfSome o Q → IfSome o (λ s. P s × Q s)
+both_met P Q None p q = tt
+both_met P Q (Some s) p q = (p, q)
 
 -- the same if there is none
 none_met : {S : Type 0} {P Q : Type 0} (seen : S → SeenPass) → (P → Q) → (o : Option S) → IfNone o P
@@ -261,11 +268,13 @@ pub lines_ran : {S : Type 0} (seen : S → SeenPass) (heap : Option Heap) (terms
     (carrier : Option S) → length lines ≤ i → All (λ (l : CallLine). l.pass < terms.shape.passes) lines
     → AnsweredSoFar heap terms tag lines i numbers sides output
     → IfSome carrier (λ s. HasMet heap terms (seen s) (tales_told sides) (orders_of sides))
-    → IfNone carrier (SomeWaits sides ⊎ (sides ≡ []))
+    → IfSome carrier (λ s. All (HasEnded (seen s)) sides) → IfNone carrier (SomeWaits sides ⊎ (sides ≡ []))
     → LinesRan false heap terms tag lines output (option_map seen carrier)
-lines_ran seen heap terms tag lines i numbers sides output carrier past fits h met stays = record {
+lines_ran seen heap terms tag lines i numbers sides output carrier past fits h met ended stays = record {
   met = some_met seen (CarrierRan false heap terms tag lines output) (λ s m.
-      ran_apart heap terms tag lines i numbers sides output (seen s) past fits h m) carrier met;
+      ran_apart heap terms tag lines i numbers sides output (seen s) past fits h m.0 m.1) carrier
+      (both_met (λ s. HasMet heap terms (seen s) (tales_told sides) (orders_of sides))
+      (λ s. All (HasEnded (seen s)) sides) carrier met ended);
   stays = lines_wait seen heap terms tag lines i numbers sides output carrier past h stays;
 }
 

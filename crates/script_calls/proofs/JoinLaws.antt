@@ -9,7 +9,8 @@ use Rattle.sh_table.specs.Views.{told_of, joined_view, order_of, heard_in}
 use Rattle.sh_table.specs.declared.view.Order.{Order}
 use Rattle.sh_pass.specs.Passes.{Caller}
 use Rattle.script_calls.specs.Parts.{PassTold, tale_told}
-use Rattle.script_calls.specs.Meeting.{KeepsOrders}
+use Rattle.sh_table.specs.declared.view.Told.{Told}
+use Rattle.script_calls.specs.Meeting.{KeepsOrders, parts_carried}
 use Rattle.script_calls.specs.Running.{seen_of_caller, log_told}
 
 pub joined_tale : (layout : Layout) (v w r : Caller) → r.view ≡ joined_view v.view w.view
@@ -28,3 +29,9 @@ joined_orders layout v w r e o h =
     (λ (k : Contains w.view.orders o). Contains-append_right v.view.orders (w.view.orders ++ new) o
     (Contains-append_left w.view.orders new o k))
     (Contains-append_cases v.view.orders w.view.orders o h))
+
+pub parts_of_join : (layout : Layout) (v w r : Caller) → r.view ≡ joined_view v.view w.view
+    → parts_carried (seen_of_caller layout r)
+    ≡ parts_carried (seen_of_caller layout v) ++ parts_carried (seen_of_caller layout w)
+parts_of_join layout v w r e =
+    let T : View → List Told = λ z. record { pass = z.pass; own = z.own } ∷ z.told in ap T e

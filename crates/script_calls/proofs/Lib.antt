@@ -15,5 +15,6 @@ pub mod PlacedKeys
 pub mod RunningLaws
 pub mod OwningLaws
 pub mod JoinLaws
+pub mod EndLaws
 pub mod ReceiptLaws
 pub mod TaleLaws

@@ -103,7 +103,7 @@ orders_more seen ys x side r o h same meets = go o h meets
         (Contains-append_cases (orders_of (map seen ys)) (seen x).orders p
         (subst (λ (z : List Order). Contains z p) more has))
 
-all_yielded : {S : Type 0} (all ys its : List S) (n : ℕ) → all ≡ ys ++ its → length ys + n ≡ length all → n ≡ 0
+pub all_yielded : {S : Type 0} (all ys its : List S) (n : ℕ) → all ≡ ys ++ its → length ys + n ≡ length all → n ≡ 0
     → ys ≡ all
 all_yielded all ys [] n e l z = sym (e ∙ append-nil ys)
 all_yielded all ys (x ∷ xs) n e l z = let k : length all ≡ length ys + suc (length xs) = ap length e

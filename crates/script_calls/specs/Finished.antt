@@ -1,6 +1,6 @@
 -- How the lines of a script ended on the passes of a heap.
-use Rattle.std.specs.Prelude.{◌≡◌, ℕ, nat_lt, not, Bool, true, List, [], ◌∷◌, ◌⊎◌, Option, Some, None, IfSome, IfNone}
-use Rattle.std.specs.Prelude.{Err}
+use Rattle.std.specs.Prelude.{◌≡◌, ℕ, ◌<◌, nat_lt, not, Bool, true, List, [], ◌∷◌, ◌⊎◌, Option, Some, None, IfSome}
+use Rattle.std.specs.Prelude.{IfNone, Err}
 use Rattle.sh_value.specs.declared.refusal.Refusal.TheVariants as refusal
 use Rattle.sh_history.specs.declared.entry.Entry.{Entry}
 use Rattle.sh_history.specs.Log.{entries_of}
@@ -14,7 +14,7 @@ use Rattle.script_calls.specs.Parts.{SeenPass, RunTerms, HasAllLogs, no_terms, n
 use Rattle.script_calls.specs.InOrder.{IsInOrder}
 use Rattle.script_calls.specs.Named.{NamesComeFirst}
 use Rattle.script_calls.specs.Told.{AreReplies, IsTold}
-use Rattle.script_calls.specs.Meeting.{CarriesTale, OwnsNone}
+use Rattle.script_calls.specs.Meeting.{CarriesTale, OwnsNone, EndedAmong, parts_carried}
 
 -- the heap of passes that are of one heap, and what stays the same in it
 abbrev pub heap_seen : List SeenPass → Option Heap
@@ -49,6 +49,7 @@ pub record CarrierRan (alone : Bool) (heap : Option Heap) (terms : RunTerms) (ta
   pub carries : CarriesTale heap terms (Some c) (tale_told c)
   pub none : OwnsNone (Some c)
   pub named : IsNamedBy terms tag lines told.replies.answers c
+  pub ended : (p : ℕ) → p < terms.shape.passes → EndedAmong (parts_carried c) p (told.replies.after.parts p)
   pub ordered : alone ≡ true → IsOrderedBy terms lines told.replies.answers c
 
 -- the replies were written, and then this pass was refused when it left its shard, as the contract of leaving says

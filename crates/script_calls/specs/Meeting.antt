@@ -2,8 +2,10 @@
 use Rattle.std.specs.Prelude.{◌≡◌, ℕ, List, [], ◌∷◌, ◌++◌, slice_get, Option, Some, None, Err}
 use Rattle.std.specs.List.{Contains}
 use Rattle.sh_value.specs.declared.refusal.Refusal.TheVariants as refusal
-use Rattle.script_calls.specs.Standing.{Standing, ShardLeaves}
-use Rattle.script_calls.specs.Parts.{RunTerms, SeenPass, PassTold, HasWholeTale, tale_told}
+use Rattle.script_calls.specs.Standing.{Standing, ShardLeaves, EndsWith, own_part, taken_in}
+use Rattle.script_calls.specs.Parts.{RunTerms, PassPart, SeenPass, PassTold, HasWholeTale, tale_told}
+use Rattle.sh_table.specs.declared.view.Own.{Own}
+use Rattle.sh_table.specs.declared.view.Told.{Told}
 use Rattle.sh_table.specs.declared.view.Order.{Order}
 use Rattle.sh_table.specs.Seats.{Heap}
 use Rattle.sh_table.specs.Tales.{Before}
@@ -67,3 +69,28 @@ AllOfHeap heap terms (s ∷ ss) = (s.heap ≡ heap) × (s.terms ≡ terms) × Al
 abbrev pub SomeWaits : List SeenPass → Type 0
 SomeWaits ss = (i : ℕ) × (s : SeenPass) × (slice_get ss i ≡ Some s)
     × ((stays : Standing) × ShardLeaves s.part.stands (Err refusal.Waiting) stays)
+
+-- ---- own parts
+
+-- the own parts of all passes that this one speaks for
+abbrev pub parts_carried : SeenPass → List Told
+parts_carried s = record { pass = s.pass; own = own_part s.part.stands } ∷ taken_in s.part.stands
+
+-- the result of meeting a carrier, if there is one, carries the own parts of both
+abbrev pub JoinsParts : Option SeenPass → SeenPass → SeenPass → Type 0
+JoinsParts None s r = r ≡ s
+JoinsParts (Some c) s r = parts_carried r ≡ parts_carried c ++ parts_carried s
+
+-- the pass with this number and this part ended with an own part that is among these
+abbrev pub EndedAmong : List Told → (pass : ℕ) → PassPart → Type 0
+EndedAmong parts pass part = (own : Own) × EndsWith part.shard part.stands own
+    × Contains parts (record { pass = pass; own = own })
+
+-- the carrier carries an own part with which this pass ended
+abbrev pub HasEnded : (carrier : SeenPass) → SeenPass → Type 0
+HasEnded carrier s = EndedAmong (parts_carried carrier) s.pass s.part
+
+-- the same if there is a carrier; there is one once a pass has ended
+abbrev pub CarriesEnd : Option SeenPass → SeenPass → Type 0
+CarriesEnd None s = ⊥
+CarriesEnd (Some c) s = HasEnded c s

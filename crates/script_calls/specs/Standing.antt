@@ -1,9 +1,11 @@
 -- The state of a pass between its calls, and which answers the contracts of passes and shards give.
-use Rattle.std.specs.Prelude.{◌≡◌, ℕ, List, Option, Some, None, Result, Ok, Err}
+use Rattle.std.specs.Prelude.{◌≡◌, ℕ, List, [], Option, Some, None, Result, Ok, Err}
 use Rattle.sh_key.specs.Layout.{Layout}
 use Rattle.sh_value.specs.declared.refusal.Refusal.{Refusal}
 use Rattle.sh_table.specs.Seats.{Heap}
-use Rattle.sh_table.specs.Views.{newly}
+use Rattle.sh_table.specs.declared.view.Own.{Own}
+use Rattle.sh_table.specs.declared.view.Told.{Told}
+use Rattle.sh_table.specs.Views.{newly, fresh}
 use Rattle.sh_pass.specs.Passes.{Caller}
 use Rattle.sh_pass.specs.Receipts.{heeded}
 use Rattle.sh_shard.specs.Shards.{Sharded, StaysOwner, AdoptServes, LeaveServes, InsertServes, value_class}
@@ -62,3 +64,22 @@ LeaveServed None s r t = t ≡ s
 abbrev pub InsertServed : Layout → Option ℕ → List ℕ → Standing → Result ℕ Refusal → Standing → Type 0
 InsertServed layout (Some own) words s r t = ShardInserts layout words s r t
 InsertServed layout None words s r t = t ≡ s
+
+-- ---- own parts
+
+-- the own part of the pass: what it knows of its own, its entries, and each of its steps with the word that it found
+abbrev pub own_part : Standing → Own
+own_part (Alone v) = v.view.own
+own_part (Owning o) = o.pages.owner.view.own
+own_part Nowhere = fresh
+
+-- the passes that it took in, with their own parts
+abbrev pub taken_in : Standing → List Told
+taken_in (Alone v) = v.view.told
+taken_in (Owning o) = o.pages.owner.view.told
+taken_in Nowhere = []
+
+-- the pass ends with this own part: if it owns a shard, the one that it has after it left, and otherwise its own
+abbrev pub EndsWith : Option ℕ → Standing → Own → Type 0
+EndsWith None s own = own ≡ own_part s
+EndsWith (Some shard) s own = (t : Standing) × ShardLeaves s (Ok tt) t × (own ≡ own_part t)

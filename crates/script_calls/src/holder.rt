@@ -5,7 +5,7 @@ ghost use Rattle.script_calls.specs.Standing.{ShardInserts};
 ghost use Rattle.script_calls.specs.Parts.{SeenPass, SamePass, tale_told, told_pass, passes_below};
 ghost use Rattle.script_calls.specs.Calls.{AdoptAnswers, LeaveAnswers, ValueInserted, GetAnswers, ReadAnswers};
 ghost use Rattle.script_calls.specs.Calls.{RemoveAnswers, ReleaseAnswers};
-ghost use Rattle.script_calls.specs.Meeting.{KeepsOrders};
+ghost use Rattle.script_calls.specs.Meeting.{KeepsOrders, parts_carried};
 ghost use Rattle.script_calls.specs.Receipts.{seen_of_receipt, receipt_seen, Heeds, HasOrderedTale};
 
 use crate::side::Side;
@@ -90,7 +90,9 @@ pub trait Adopts<S: Calls>: Calls + Sized {
         ensures terms { (Self.seen result).terms ≡ (Self.seen self).terms }
         ensures none { (Self.seen result).part.shard ≡ (Self.seen self).part.shard }
         ensures tale { tale_told (Self.seen result) ≡ tale_told (Self.seen self) ++ tale_told (Self.seen other) }
-        ensures orders { KeepsOrders ((Self.seen self).orders ++ (Self.seen other).orders) (Self.seen result).orders };
+        ensures orders { KeepsOrders ((Self.seen self).orders ++ (Self.seen other).orders) (Self.seen result).orders }
+        ensures parts { parts_carried (Self.seen result)
+            ≡ parts_carried (Self.seen self) ++ parts_carried (Self.seen other) };
 
     /// Stores the value in the shard, and returns its key.
     fn insert(shard: &mut S, value: &Value) -> Result<u64, Refusal>

@@ -1,10 +1,11 @@
 //! Passes that meet.
 ghost use Rattle.std.specs.Prelude.{◌≡◌, ◌⊎◌, [], Option, None, Err, IfSome, IfNone, map, option_map, true, false};
 ghost use Rattle.sh_table.specs.Seats.{Heap};
-ghost use Rattle.script_calls.specs.Standing.{ShardLeaves};
+ghost use Rattle.std.specs.List.{All};
+ghost use Rattle.script_calls.specs.Standing.{ShardLeaves, EndsWith, own_part};
 ghost use Rattle.script_calls.specs.Parts.{RunTerms, SamePass, told_pass, passes_below};
 ghost use Rattle.script_calls.specs.Meeting.{MeetsCarrier, OwnsNone, IsOfHeap, HasMet, SomeWaits, tales_told};
-ghost use Rattle.script_calls.specs.Meeting.{AllOfHeap, orders_of};
+ghost use Rattle.script_calls.specs.Meeting.{AllOfHeap, orders_of, JoinsParts, HasEnded};
 
 use crate::side::Side;
 use sh_value::Refusal;
@@ -15,6 +16,7 @@ pub fn meet<S: Side>(carrier: Option<S>, side: S) -> S
     requires none { OwnsNone (option_map S.seen carrier) × ((S.seen side).part.shard ≡ None) }
     ensures none { (S.seen result).part.shard ≡ None }
     ensures meets { MeetsCarrier (option_map S.seen carrier) (S.seen side) (S.seen result) }
+    ensures parts { JoinsParts (option_map S.seen carrier) (S.seen side) (S.seen result) }
 {
     match carrier {
         Some(carrier) => carrier.join(side),
@@ -23,10 +25,13 @@ pub fn meet<S: Side>(carrier: Option<S>, side: S) -> S
 }
 
 // Leaves the shard if the side owns one. Returns whether it owns none now.
+#[tactic(auto, using(crate::proofs::EndLaws::ends_left, crate::proofs::EndLaws::ends_without_shard))]
 fn retire<S: Side>(side: &mut S) -> bool
     ensures none { result ≡ true → (S.seen side.new).part.shard ≡ None }
     ensures waits { result ≡ false → ShardLeaves (S.seen side.old).part.stands (Err Refusal.Waiting)
         (S.seen side.new).part.stands }
+    ensures ends { result ≡ true → EndsWith (S.seen side.old).part.shard (S.seen side.old).part.stands
+        (own_part (S.seen side.new).part.stands) }
     ensures log { (S.seen side.new).part.log ≡ (S.seen side.old).part.log }
     ensures same { SamePass (S.seen side.old) (S.seen side.new) }
 {
@@ -44,6 +49,7 @@ pub fn met<S: Side>(sides: Vec<S>) -> Option<S>
     requires all { map told_pass (tales_told (map S.seen sides.items)) ≡ passes_below at.1.shape.passes }
     ensures met { IfSome result (λ carrier. HasMet at.0 at.1 (S.seen carrier) (tales_told (map S.seen sides.items))
         (orders_of (map S.seen sides.items))) }
+    ensures ended { IfSome result (λ carrier. All (HasEnded (S.seen carrier)) (map S.seen sides.items)) }
     ensures stays { IfNone result (SomeWaits (map S.seen sides.items) ⊎ (map S.seen sides.items ≡ [])) }
 {
     let mut carrier: Option<S> = None;

@@ -4,7 +4,7 @@ ghost use Rattle.sh_key.specs.Layout.{first_key, key_count};
 ghost use Rattle.script_calls.specs.Parts.{SeenPass, SamePass, tale_told, told_pass, passes_below};
 ghost use Rattle.script_calls.specs.Calls.{AdoptAnswers, LeaveAnswers, InsertAnswers, GetAnswers, ReadAnswers};
 ghost use Rattle.script_calls.specs.Calls.{RemoveAnswers, ReleaseAnswers};
-ghost use Rattle.script_calls.specs.Meeting.{KeepsOrders};
+ghost use Rattle.script_calls.specs.Meeting.{KeepsOrders, parts_carried};
 ghost use Rattle.script_calls.specs.Receipts.{seen_of_receipt, receipt_seen, Heeds, HasOrderedTale};
 
 use sh_pass::Receipt;
@@ -81,7 +81,8 @@ pub trait Side: Drop {
         ensures heap { (seen result).heap ≡ (seen self).heap }
         ensures terms { (seen result).terms ≡ (seen self).terms }
         ensures tale { tale_told (seen result) ≡ tale_told (seen self) ++ tale_told (seen other) }
-        ensures orders { KeepsOrders ((seen self).orders ++ (seen other).orders) (seen result).orders };
+        ensures orders { KeepsOrders ((seen self).orders ++ (seen other).orders) (seen result).orders }
+        ensures parts { parts_carried (seen result) ≡ parts_carried (seen self) ++ parts_carried (seen other) };
 
     /// If it speaks for all passes, one legal history has exactly the entries that it speaks for, and keeps the orders
     /// that it heard of.

@@ -15,6 +15,13 @@ use Rattle.sh_table.specs.Seats.{Heap}
 use Rattle.sh_table.specs.Tales.{Before}
 use Rattle.sh_table.specs.Whole.{IsWhole}
 use Rattle.sh_table.specs.Views.{Each, newly}
+use Rattle.sh_table.specs.declared.view.Own.{Own}
+use Rattle.sh_table.specs.declared.view.Told.{Told}
+use Rattle.sh_table.specs.Reached.{HasOwn}
+use Rattle.std.specs.List.{All}
+use Rattle.std.proofs.lemmas.List.Elements.{All-nil, All-cons, All-contains}
+use Rattle.std.specs.Prelude.{◌<◌}
+use Rattle.script_calls.specs.Meeting.{parts_carried}
 use Rattle.sh_pass.specs.Passes.{Caller, newcomers}
 use Rattle.sh_gather.specs.Histories.{IsHistory}
 use Rattle.sh_gather.specs.Gathering.{NotedMore}
@@ -26,8 +33,22 @@ use Rattle.script_calls.specs.Told.{part_told, IsTold}
 use Rattle.script_calls.proofs.TaleLaws.{whole_told, tale_is_whole}
 use Rattle.script_output.specs.AccountLines.{Later, ShardsSaid, accounts_after, accounts_text}
 use Rattle.script_heap.specs.WholeAccounts.{LeadsToWhole, PageSaid, HasNumbers}
-use Rattle.script_heap.specs.HeapOutput.{TellsTale, IsHeapOutput}
+use Rattle.script_heap.specs.HeapOutput.{TellsTale, IsHeapOutput, EndsInRun}
 use Rattle.script_calls.specs.Finished.{CarrierRan}
+
+each_all : {A : Type 0} (P : A → Type 0) (xs : List A) → Each P xs → All P xs
+each_all P [] h = All-nil P
+each_all P (x ∷ xs) h = All-cons P x xs h.0 (each_all P xs h.1)
+
+-- the events that lead to all that the pass knows lead to each own part that it carries
+leads_parts : (layout : Layout) (v : Caller) (es : List Event) (n : Numbers) → v.view.shape ≡ n
+    → LeadsToWhole layout v es
+    → All (λ (t : Told). HasOwn (plan_of layout n) es t.pass t.own) (parts_carried (seen_of_caller layout v))
+leads_parts layout v es n same l =
+    let T : Told → Type 0 = λ t. HasOwn (plan_of layout v.view.shape) es t.pass t.own in
+    subst (λ (s : Numbers). All (λ (t : Told). HasOwn (plan_of layout s) es t.pass t.own)
+    (parts_carried (seen_of_caller layout v))) same
+    (each_all T (parts_carried (seen_of_caller layout v)) (l.leads.own, l.leads.told))
 
 -- the history of a view that noted more is a history of the view before
 same_history : (layout : Layout) (v w : View) (history : List Entry) → NotedMore v w → IsHistory layout w history
@@ -64,7 +85,8 @@ pub tells_tale : (layout : Layout) (v w : Caller) (es : List Event) (old new : L
     → ShardsSaid (λ q a. PageSaid layout w q a) v.heap.shape (accounts_after (plan_of layout v.heap.shape) es)
     v.heap.shape.shards
     → (text : List ℕ) × (new ≡ old ++ text)
-    × TellsTale layout v.heap.shape (tale_told (seen_of_caller layout v)) v.view.orders text
+    × TellsTale layout v.heap.shape (tale_told (seen_of_caller layout v)) v.view.orders
+    (parts_carried (seen_of_caller layout v)) text
 tells_tale layout v w es old new later lw is said =
     let n : Numbers = v.heap.shape in
     let H : List Entry = (run (plan_of layout n) es).log in
@@ -91,6 +113,7 @@ tells_tale layout v w es old new later lw is said =
               (subst (HasNumbers (plan_of layout w.view.shape) q a) (sym told.1)
               ((said shard below page small).numbers H at_w));
         };
+        parts = leads_parts layout v es n lv.shape lv;
       },
     )
 
@@ -105,10 +128,12 @@ pub tells_result : {T E : Type 0} (r : Result T E) (layout : Layout) (v w first 
     → ((es : List Event) → LeadsToWhole layout w es → OnOk r (ShardsSaid (λ q a. PageSaid layout w q a)
     first.heap.shape (accounts_after (plan_of layout first.heap.shape) es) first.heap.shape.shards))
     → OnOk r ((text : List ℕ) × (new ≡ old ++ text)
-    × TellsTale layout v.heap.shape (tale_told (seen_of_caller layout v)) v.view.orders text)
+    × TellsTale layout v.heap.shape (tale_told (seen_of_caller layout v)) v.view.orders
+    (parts_carried (seen_of_caller layout v)) text)
 tells_result (Ok x) layout v w first old new is later reached text said =
     let P : Caller → Type 0 = λ u. (text : List ℕ) × (new ≡ old ++ text)
-    × TellsTale layout u.heap.shape (tale_told (seen_of_caller layout u)) u.view.orders text in
+    × TellsTale layout u.heap.shape (tale_told (seen_of_caller layout u)) u.view.orders
+    (parts_carried (seen_of_caller layout u)) text in
     subst P is
     (tells_tale layout first w reached.0 old new later reached.1 (text reached.0 reached.1) (said reached.0 reached.1))
 tells_result (Err e) layout v w first old new is later reached text said = tt
@@ -169,14 +194,30 @@ module _ (alone : Bool) (layout : Layout) (heap : Heap) (tag : Option ℕ) (line
     in_order = λ e. ran.ordered e w.history w.has w.only kept;
   }
 
+  -- each pass ended with a part that it has after these events
+  ended_in : (events : List Event)
+      → All (λ (t : Told). HasOwn (plan_of layout heap.shape) events t.pass t.own)
+      (parts_carried (seen_of_caller layout v)) → (p : ℕ) → p < heap.shape.passes
+      → EndsInRun (plan_of layout heap.shape) events p (ran.told.replies.after.parts p)
+  ended_in events all p lt =
+      let e = ran.ended p lt in (
+        e.0,
+        e.1,
+        All-contains (λ (t : Told). HasOwn (plan_of layout heap.shape) events t.pass t.own)
+            (parts_carried (seen_of_caller layout v)) (record { pass = p; own = e.0 }) all e.2,
+      )
+
   -- with the accounts by the history of the tale
   pub with_accounts : (new : List ℕ)
       → ((text : List ℕ) × (new ≡ output ++ text)
-      × TellsTale layout v.heap.shape (tale_told (seen_of_caller layout v)) v.view.orders text)
+      × TellsTale layout v.heap.shape (tale_told (seen_of_caller layout v)) v.view.orders
+      (parts_carried (seen_of_caller layout v)) text)
       → IsHeapOutput alone layout heap.shape tag lines true new
   with_accounts new t =
-      let tells : TellsTale layout heap.shape (tale_told (seen_of_caller layout v)) v.view.orders t.0 =
-      subst (λ (h : Heap). TellsTale layout h.shape (tale_told (seen_of_caller layout v)) v.view.orders t.0)
+      let tells : TellsTale layout heap.shape (tale_told (seen_of_caller layout v)) v.view.orders
+      (parts_carried (seen_of_caller layout v)) t.0 =
+      subst (λ (h : Heap). TellsTale layout h.shape (tale_told (seen_of_caller layout v)) v.view.orders
+      (parts_carried (seen_of_caller layout v)) t.0)
       carrier_heap t.2 in
       record {
         heap = heap;
@@ -186,6 +227,7 @@ module _ (alone : Bool) (layout : Layout) (heap : Heap) (tag : Option ℕ) (line
         told = told_by tells.whole tells.kept;
         events = tells.lines.events;
         log = tells.lines.log;
+        steps = ended_in tells.lines.events tells.parts;
         accounts = t.0;
         is = t.1;
         are = tells.lines;
@@ -208,6 +250,7 @@ module _ (alone : Bool) (layout : Layout) (heap : Heap) (tag : Option ℕ) (line
         told = told_by w.0 (subst (λ (l : List Entry). Each (Before l) v.view.orders) (sym w.1) at.tale.orders);
         events = events;
         log = sym w.1;
+        steps = ended_in events (leads_parts layout v events heap.shape same led);
         accounts = [];
         is = sym (append-nil output);
         are = refl;

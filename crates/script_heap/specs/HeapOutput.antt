@@ -1,6 +1,7 @@
 -- What modes heap and threads write for a script of calls: the reply lines, and then the accounts of the pages. The
 -- accounts come only if they are asked for and every owner could leave.
-use Rattle.std.specs.Prelude.{◌≡◌, ℕ, Bool, true, false, List, [], ◌++◌, Option, Some}
+use Rattle.std.specs.Prelude.{◌≡◌, ℕ, ◌<◌, Bool, true, false, List, [], ◌++◌, Option, Some}
+use Rattle.std.specs.List.{All}
 use Rattle.sh_key.specs.Layout.{Layout}
 use Rattle.sh_shape.specs.Shape.{Numbers}
 use Rattle.sh_history.specs.declared.entry.Entry.{Entry}
@@ -15,17 +16,29 @@ use Rattle.sh_table.specs.declared.view.Order.{Order}
 use Rattle.sh_table.specs.Seats.{Heap}
 use Rattle.sh_table.specs.Tales.{Before}
 use Rattle.sh_table.specs.Views.{Each}
-use Rattle.script_calls.specs.Parts.{PassTold, HasWholeTale, heap_terms}
+use Rattle.sh_table.specs.declared.view.Own.{Own}
+use Rattle.sh_table.specs.declared.view.Told.{Told}
+use Rattle.sh_table.specs.Reached.{HasOwn}
+use Rattle.sh_step.specs.Plans.{Plan}
+use Rattle.script_calls.specs.Standing.{EndsWith}
+use Rattle.script_calls.specs.Parts.{PassPart, PassTold, HasWholeTale, heap_terms}
 use Rattle.script_calls.specs.Told.{IsTold}
 use Rattle.script_calls.specs.Finished.{AreWaiting}
 use Rattle.script_heap.specs.WholeAccounts.{AreAccountLines}
 
--- account lines by one history of this tale, which keeps these orders
-pub record TellsTale (layout : Layout) (shape : Numbers) (tale : List PassTold) (orders : List Order) (text : List ℕ) :
-    Type 0 where
+-- account lines by one history of this tale, which keeps these orders; after its events each pass has its own part of
+-- these
+pub record TellsTale (layout : Layout) (shape : Numbers) (tale : List PassTold) (orders : List Order)
+    (carried : List Told) (text : List ℕ) : Type 0 where
   pub whole : HasWholeTale (heap_terms layout shape) tale
   pub kept : Each (Before whole.history) orders
   pub lines : AreAccountLines layout shape whole.history text
+  pub parts : All (λ t. HasOwn (plan_of layout shape) lines.events t.pass t.own) carried
+
+-- After these events the pass has exactly the own part with which it ended. So its steps among these events are those
+-- that it did, in order, and each found the word that the pass found.
+abbrev pub EndsInRun : Plan → List Event → (pass : ℕ) → PassPart → Type 0
+EndsInRun plan events pass part = (own : Own) × EndsWith part.shard part.stands own × HasOwn plan events pass own
 
 -- account lines by this history, if they are asked for; otherwise none
 abbrev pub AccountsAsked : (asked : Bool) → Layout → Numbers → List Entry → List ℕ → Type 0
@@ -33,8 +46,8 @@ AccountsAsked true layout shape history text = AreAccountLines layout shape hist
 AccountsAsked false layout shape history text = text ≡ []
 
 -- The replies are those of the tale of all passes of a heap of this shape. After them come the account lines by its
--- history, if they are asked for. The history is the log of a run of the core. If the lines ran one after the other, it
--- has the entries in the order of the lines.
+-- history, if they are asked for. The history is the log of a run of the core, whose steps are those that the passes
+-- did. If the lines ran one after the other, the history has the entries in the order of the lines.
 pub record IsHeapOutput (alone : Bool) (layout : Layout) (shape : Numbers) (tag : Option ℕ) (lines : List CallLine)
     (asked : Bool) (output : List ℕ) : Type 0 where
   pub heap : Heap
@@ -44,6 +57,7 @@ pub record IsHeapOutput (alone : Bool) (layout : Layout) (shape : Numbers) (tag 
   pub told : IsTold alone (Some heap) (heap_terms layout shape) tag lines replies tale
   pub events : List Event
   pub log : (run (plan_of layout shape) events).log ≡ told.whole.history
+  pub steps : (p : ℕ) → p < shape.passes → EndsInRun (plan_of layout shape) events p (told.replies.after.parts p)
   pub accounts : List ℕ
   pub is : output ≡ replies ++ accounts
   pub are : AccountsAsked asked layout shape told.whole.history accounts

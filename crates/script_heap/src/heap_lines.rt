@@ -8,6 +8,7 @@ ghost use Rattle.sh_table.specs.Whole.{IsWhole};
 ghost use Rattle.script_calls.specs.Parts.{heap_terms, new_passes, tale_told};
 ghost use Rattle.script_calls.specs.Finished.{LinesRan, CarrierRan};
 ghost use Rattle.script_calls.specs.Running.{seen_of_caller};
+ghost use Rattle.script_calls.specs.Meeting.{parts_carried};
 ghost use Rattle.script_heap.specs.WholeAccounts.{LeadsToWhole};
 ghost use Rattle.script_heap.specs.HeapOutput.{TellsTale, IsHeapOutput, IsRan};
 
@@ -89,7 +90,7 @@ fn push_whole<L: KeyLayout>(output: &mut Vec<u8>, pass: Pass<'_, L>) -> Result<(
     requires whole { IsWhole pass.view }
     ensures { OnOk result ((text : List ℕ) × (output.new.items ≡ output.old.items ++ text)
         × TellsTale L.layout pass.entry.heap.shape (tale_told (seen_of_caller L.layout pass.entry))
-        pass.entry.view.orders text) }
+        pass.entry.view.orders (parts_carried (seen_of_caller L.layout pass.entry)) text) }
 {
     let _known = pass.shape();
     let Ok(whole) = whole(pass) else {

@@ -116,5 +116,6 @@ returns g c =
       ran = ran_on g.at.0 g.at.1 c.args.tag c.args.lines.now c.loop-line.line-index c.loop-line.numbers.items
           (map g.S.Side.seen c.loop-line.sides.items) c.loop-line.output.items c.loop-line.last
           c.loop-line.invariant (g.S.Side.seen c.in-Some-met.carrier) (g.S.Side.seen c.heed_last-2.new.side)
-          c.heed_last-2.ensures c.in-Some-met.ensures.met past fits c.whole-known.ensures;
+          c.heed_last-2.ensures c.in-Some-met.ensures.met past fits c.whole-known.ensures
+          c.in-Some-met.ensures.ended;
     }

@@ -7,6 +7,8 @@ use Rattle.std.specs.Vec.Iter.{into_iter_len}
 use Rattle.script_calls.specs.Meeting.{CarriesTale, tales_told}
 use Rattle.std.specs.Option.{option_map}
 use Rattle.script_calls.proofs.MeetLaws.{carries_more, orders_more, has_met, rest_of, next_waits, none_there}
+use Rattle.script_calls.proofs.MeetLaws.{all_yielded}
+use Rattle.script_calls.proofs.EndLaws.{ended_more, all_ended}
 use Rattle.script_calls.proofs.meeting.met.Goals as goal
 
 pub loop-side-preserved : goal.loop-side-preserved
@@ -22,6 +24,8 @@ loop-side-preserved g c =
       heard = orders_more seen y c.in-Some.side (seen c.retire.new.side) (seen c.meet.result)
           (option_map seen c.loop-side.carrier) was.heard c.retire.ensures.same c.meet.ensures.meets;
       none = c.meet.ensures.none;
+      ended = ended_more seen y c.in-Some.side (seen c.retire.new.side) (seen c.meet.result)
+          (option_map seen c.loop-side.carrier) was.ended c.retire.ensures.same (search rules) c.meet.ensures.parts;
       of = rest_of seen g.at.0 g.at.1 c.in-Some.side _ _ was.of step;
       rest = was.rest ∙ (ap (λ z. y ++ z) step ∙ sym (append_assoc y (c.in-Some.side ∷ []) _));
       counted = omega (arith, was.counted, c.in-Some.ensures.steps.1, length-append y (c.in-Some.side ∷ []));
@@ -61,3 +65,13 @@ returns-clause-met g c =
     has_met seen g.at.0 g.at.1 c.args.sides.items c.loop-side.yielded _ (into_iter_len c.loop-side.side-iterator)
     (seen c.in_ok-carrier.carrier) (option_map seen c.loop-side.carrier) was.rest was.counted c.in-None.ensures.steps.0
     was.carries was.heard was.none (ap (option_map seen) some) c.whole-known.ensures
+
+pub returns-clause-ended : goal.returns-clause-ended
+returns-clause-ended g c =
+    let seen = g.S.Side.seen in
+    let was = c.loop-side.invariant in
+    let some : c.loop-side.carrier ≡ Some c.in_ok-carrier.carrier = search rules in
+    let y = c.loop-side.yielded in
+    all_ended seen c.args.sides.items y (seen c.in_ok-carrier.carrier) (option_map seen c.loop-side.carrier)
+    (all_yielded c.args.sides.items y _ (into_iter_len c.loop-side.side-iterator) was.rest was.counted
+    c.in-None.ensures.steps.0) (ap (option_map seen) some) was.ended

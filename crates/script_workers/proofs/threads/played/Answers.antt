@@ -48,4 +48,4 @@ returns-clause-ran g c =
     (option_map seen c.met.result) in
     subst R (sym c.requires.tag) (lines_ran seen room.heap room.terms room.tag lines (length lines) answered.0
     (map seen c.in_ok-output.sides.items) output c.met.result past c.requires.passes answered.1 c.met.ensures.met
-    c.met.ensures.stays)
+    c.met.ensures.ended c.met.ensures.stays)

@@ -1,0 +1,139 @@
+-- The own part with which each pass ends, once it left its shard.
+use Rattle.std.proofs.Common.{◌≡◌, ℕ, suc, zero, ◌+◌, ◌<◌, ◌==◌, List, [], ◌∷◌, ◌++◌, length, map, slice_get, Option}
+use Rattle.std.proofs.Common.{Some, None, sym, refl, ap, ◌∙◌, subst, arith, Ok, Err}
+use Rattle.std.specs.List.{All, Contains}
+use Rattle.std.proofs.lemmas.List.Elements.{All-nil, All-cons, All-head, All-tail, All-push, All-weaker, All-get_or}
+use Rattle.std.proofs.lemmas.List.Elements.{Contains-append_left, Contains-append_right, Contains-get_or}
+use Rattle.std.proofs.lemmas.Option.{none-some, same_Some}
+use Rattle.sh_value.specs.declared.refusal.Refusal.TheVariants as refusal
+use Rattle.sh_script.specs.declared.calls.CallLine.{CallLine}
+use Rattle.sh_table.specs.declared.view.Own.{Own}
+use Rattle.sh_table.specs.declared.view.Told.{Told}
+use Rattle.sh_table.specs.Seats.{Heap}
+use Rattle.sh_pass.specs.Passes.{Caller}
+use Rattle.script_calls.specs.Standing.{Standing, Alone, Owning, Nowhere, StandingHeeds, LeaveServed, EndsWith}
+use Rattle.script_calls.specs.Standing.{own_part, taken_in}
+use Rattle.script_calls.specs.Parts.{RunTerms, PassPart, SeenPass, SamePass, Becomes}
+use Rattle.script_calls.specs.Calls.{UnlessRefused, LeaveAnswers, PartLeft, needs_shard}
+use Rattle.script_calls.specs.Meeting.{JoinsParts, EndedAmong, HasEnded, CarriesEnd, parts_carried}
+use Rattle.script_calls.specs.Alone.{AnsweredSoFar, HeedsLast, seen_with_part}
+use Rattle.script_calls.proofs.ListLemmas.{map_more}
+
+-- ---- leaving
+
+left_so : (v w : PassPart) (shard : Option ℕ)
+    → UnlessRefused {A = Unit {0}} (needs_shard shard) (Ok tt) (Becomes v w) (PartLeft v (Ok tt) w)
+    → LeaveServed shard v.stands (Ok tt) w.stands → EndsWith shard v.stands (own_part w.stands)
+left_so v w None h served = absurd (cc h.0)
+left_so v w (Some own) h served = (w.stands, served, refl)
+
+pub ends_left : (v w : PassPart) → LeaveAnswers v (Ok tt) w → EndsWith v.shard v.stands (own_part w.stands)
+ends_left v w h = left_so v w v.shard h.0 h.1
+
+alone_so : (v w : PassPart) (shard : Option ℕ)
+    → UnlessRefused {A = Unit {0}} (needs_shard shard) (Err refusal.NoShard) (Becomes v w)
+    (PartLeft v (Err refusal.NoShard) w)
+    → LeaveServed shard v.stands (Err refusal.NoShard) w.stands → EndsWith shard v.stands (own_part w.stands)
+alone_so v w None h served = ap own_part served
+alone_so v w (Some own) h served = absurd h
+
+pub ends_without_shard : (v w : PassPart) → LeaveAnswers v (Err refusal.NoShard) w
+    → EndsWith v.shard v.stands (own_part w.stands)
+ends_without_shard v w h = alone_so v w v.shard h.0 h.1
+
+-- ---- meeting
+
+more_told : (s : SeenPass) (xs ys : List Told) → ((t : Told) → Contains xs t → Contains ys t)
+    → EndedAmong xs s.pass s.part → EndedAmong ys s.pass s.part
+more_told s xs ys more h = (h.0, h.1, more (record { pass = s.pass; own = h.0 }) h.2)
+
+first_told : (x : Told) (xs : List Told) → Contains (x ∷ xs) x
+first_told x xs = (0, omega arith, refl)
+
+pub ended_more : {S : Type 0} (seen : S → SeenPass) (ys : List S) (x : S) (side r : SeenPass) (o : Option SeenPass)
+    → All (CarriesEnd o) (map seen ys) → SamePass (seen x) side
+    → EndsWith (seen x).part.shard (seen x).part.stands (own_part side.part.stands) → JoinsParts o side r
+    → All (CarriesEnd (Some r)) (map seen (ys ++ x ∷ []))
+ended_more seen ys x side r o h same ends meets =
+    subst (All (CarriesEnd (Some r))) (sym (map_more seen ys x)) (go o h meets)
+  where
+    told : Told
+    told = record { pass = (seen x).pass; own = own_part side.part.stands }
+
+    its : record { pass = side.pass; own = own_part side.part.stands } ≡ told
+    its = ap (λ (z : SeenPass). record { pass = z.pass; own = own_part side.part.stands }) same
+
+    here : Contains (parts_carried side) told
+    here = subst (Contains (parts_carried side)) its
+        (first_told (record { pass = side.pass; own = own_part side.part.stands }) (taken_in side.part.stands))
+
+    go : (o : Option SeenPass) → All (CarriesEnd o) (map seen ys) → JoinsParts o side r
+        → All (CarriesEnd (Some r)) (map seen ys ++ seen x ∷ [])
+    go None h meets = All-push (CarriesEnd (Some r)) (map seen ys) (seen x)
+        (All-weaker (CarriesEnd None) (CarriesEnd (Some r)) (λ s e. absurd e) (map seen ys) h)
+        (own_part side.part.stands, ends, subst (λ (z : SeenPass). Contains (parts_carried z) told) (sym meets) here)
+    go (Some c) h meets =
+        let left : (t : Told) → Contains (parts_carried c) t → Contains (parts_carried r) t = λ t k.
+        subst (λ (z : List Told). Contains z t) (sym meets)
+        (Contains-append_left (parts_carried c) (parts_carried side) t k) in
+        All-push (CarriesEnd (Some r)) (map seen ys) (seen x)
+        (All-weaker (CarriesEnd (Some c)) (CarriesEnd (Some r))
+        (λ s e. more_told s (parts_carried c) (parts_carried r) left e)
+        (map seen ys) h) (
+          own_part side.part.stands,
+          ends,
+          subst (λ (z : List Told). Contains z told) (sym meets)
+              (Contains-append_right (parts_carried c) (parts_carried side) told here),
+        )
+
+pub all_ended : {S : Type 0} (seen : S → SeenPass) (all ys : List S) (c : SeenPass) (o : Option SeenPass) → ys ≡ all
+    → o ≡ Some c → All (CarriesEnd o) (map seen ys) → All (HasEnded c) (map seen all)
+all_ended seen all ys c o yielded is h =
+    subst (λ (z : List _). All (HasEnded c) (map seen z)) yielded
+    (subst (λ (q : Option SeenPass). All (CarriesEnd q) (map seen ys)) is h)
+
+-- ---- heeding
+
+standing_heeds : (r : Caller) (x y : Standing) → StandingHeeds r x y
+    → (own_part y ≡ own_part x) × (taken_in y ≡ taken_in x)
+standing_heeds r (Alone v) (Alone w) h =
+    (ap (λ (z : Caller). z.view.own) h, ap (λ (z : Caller). z.view.told) h)
+standing_heeds r (Owning o) (Owning n) h = (ap (λ z. z.pages.owner.view.own) h, ap (λ z. z.pages.owner.view.told) h)
+standing_heeds r (Alone v) (Owning n) h = absurd h
+standing_heeds r (Alone v) Nowhere h = absurd h
+standing_heeds r (Owning o) (Alone w) h = absurd h
+standing_heeds r (Owning o) Nowhere h = absurd h
+standing_heeds r Nowhere y h = absurd h
+
+pub parts_heed : (last : Option Caller) (s c : SeenPass) → HeedsLast last s c → parts_carried c ≡ parts_carried s
+parts_heed None s c e = ap parts_carried e
+parts_heed (Some r) s c e =
+    let k = standing_heeds r s.part.stands c.part.stands e.part.stands in
+    let pass : c.pass ≡ s.pass = ap (λ (z : SeenPass). z.pass) e.is in
+    λ i. record { pass = pass i; own = k.0 i } ∷ k.1 i
+
+-- ---- the end
+
+get_some : {A : Type 0} (xs : List A) (k : ℕ) → k < length xs → (x : A) × (slice_get xs k ≡ Some x)
+get_some [] k lt = absurd (omega (arith, lt))
+get_some (x ∷ xs) zero lt = (x, refl)
+get_some (x ∷ xs) (suc k) lt = get_some xs k (omega (arith, lt))
+
+at_all : {A : Type 0} (P : A → Type 0) (xs : List A) (k : ℕ) (x : A) → slice_get xs k ≡ Some x → All P xs → P x
+at_all P [] k x e h = absurd (none-some x e)
+at_all P (y ∷ ys) zero x e h = subst P (same_Some y x e) (All-head P y ys h)
+at_all P (y ∷ ys) (suc k) x e h = at_all P ys k x e (All-tail P y ys h)
+
+-- the carrier carries the own part with which each pass of a run ended
+pub parts_ended : (heap : Option Heap) (terms : RunTerms) (tag : Option ℕ) (lines : List CallLine) (i : ℕ)
+    (numbers : List (Option ℕ)) (sides : List SeenPass) (output : List ℕ)
+    (h : AnsweredSoFar heap terms tag lines i numbers sides output) (s c : SeenPass)
+    → parts_carried c ≡ parts_carried s
+    → All (HasEnded s) sides → (p : ℕ) → p < terms.shape.passes → EndedAmong (parts_carried c) p (h.run.parts p)
+parts_ended heap terms tag lines i numbers sides output h s c same all p lt =
+    let few : p < length sides = let long = h.all in omega (arith, lt, long) in
+    let at = get_some sides p few in
+    let ended : HasEnded s at.0 = at_all (HasEnded s) sides p at.0 at.1 all in
+    let is = h.each p at.0 at.1 in
+    let E : List Told × SeenPass → Type 0 = λ z. EndedAmong z.0 z.1.pass z.1.part in
+    subst E (λ j. (sym same j, is j)) ended
