@@ -1,2 +1,4 @@
 pub mod WholeLemmas
 pub mod OpenedLemmas
+pub mod FirstSteps
+pub mod LoneAdopt

@@ -1,2 +1,3 @@
 pub mod WholeAccounts
 pub mod HeapOutput
+pub mod OwnSteps

@@ -4,4 +4,5 @@
 
 pub mod heap_lines;
 pub mod heap_output;
+pub mod laws;
 mod pages;

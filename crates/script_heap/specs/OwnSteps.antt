@@ -1,0 +1,20 @@
+-- What the steps of a run of a script say of its answers.
+use Rattle.std.specs.Prelude.{◌≢◌, ℕ, ◌<◌, Bool, List, [], ◌∷◌, Option}
+use Rattle.sh_key.specs.Layout.{Layout}
+use Rattle.sh_shape.specs.Shape.{Numbers}
+use Rattle.sh_value.specs.declared.refusal.Refusal.TheVariants as refusal
+use Rattle.sh_script.specs.declared.calls.Call.TheVariants as call
+use Rattle.sh_script.specs.declared.calls.CallLine.{CallLine}
+use Rattle.script_output.specs.declared.answer.Answer.TheVariants as answer
+use Rattle.script_heap.specs.HeapOutput.{IsHeapOutput}
+
+-- the line of this pass that adopts this shard
+abbrev pub adopt_line : (pass shard : ℕ) → CallLine
+adopt_line pass shard = record { pass = pass; call = call.Adopt shard }
+
+-- the answer to a script that consists of one adopt is not Taken, in a heap with any number of passes
+abbrev pub LoneAdoptIsNotTaken : Type 0
+LoneAdoptIsNotTaken = (alone asked : Bool) (layout : Layout) (shape : Numbers) (tag : Option ℕ) (pass shard : ℕ)
+    (output : List ℕ) → pass < shape.passes
+    → (h : IsHeapOutput alone layout shape tag (adopt_line pass shard ∷ []) asked output)
+    → h.told.replies.answers ≢ answer.Refused refusal.Taken ∷ []
