@@ -2,6 +2,8 @@
 use Rattle.std.proofs.Common.{◌≡◌, ℕ, ◌+◌, ◌*◌, ◌^◌, ◌<◌, ◌≤◌, ◌/◌, ◌∙◌, ap, sym, arith, refl, Some, None, true, false}
 use Rattle.std.proofs.Common.{Bool, cond, subst, le-leb, leb-true}
 use Rattle.std.specs.Prelude.{◌&&◌, nat_le, IsSome}
+use Rattle.std.proofs.lemmas.Bool.{and_parts}
+use Rattle.std.proofs.lemmas.Option.{cond_some}
 use Rattle.std.proofs.lemmas.Nat.{mul-add-lt, div-mul-add, mod-mul-add, div-add-mod', pow-add, pow_pos, shr-shr}
 use Rattle.std.proofs.Math.Nat.{pow-le-pow_right, mod-lt, le-div_iff_mul-le, div-lt_iff_lt-mul}
 use Rattle.sh_key.specs.declared.parts.Parts.{Parts}
@@ -67,20 +69,12 @@ digits_in_range layout k low high = record {
   slot_fits = mod-lt k (let some : 0 < 64 = omega arith in some);
 }
 
-chosen : {A : Type 0} (b : Bool) (x y : A) → cond b (Some x) None ≡ Some y → (b ≡ true) × (x ≡ y)
-chosen true x y e = (refl, let same : x ≡ y = cc in same)
-chosen false x y e = cc
-
-both_true : (a b : Bool) → (a && b) ≡ true → (a ≡ true) × (b ≡ true)
-both_true true b e = (refl, e)
-both_true false b e = cc
-
 -- a number is unpacked only to parts in range that are packed into it
 pub unpacked_is : (layout : Layout) (k : ℕ) (p : Parts) → unpacked layout k ≡ Some p → IsKeyOf layout p k
 unpacked_is layout k p e =
     let d = digits_of layout k in
-    let c = chosen (nat_le 1 d.generation && nat_le d.generation layout.gen_max) d p e in
-    let b = both_true (nat_le 1 d.generation) (nat_le d.generation layout.gen_max) c.0 in
+    let c = cond_some (nat_le 1 d.generation && nat_le d.generation layout.gen_max) d p e in
+    let b = and_parts (nat_le 1 d.generation) (nat_le d.generation layout.gen_max) c.0 in
     let found : IsKeyOf layout d k = record {
       in_range = digits_in_range layout k (leb-true _ _ b.0) (leb-true _ _ b.1);
       is = packed-digits_of layout k;
@@ -119,7 +113,7 @@ keys_are_consecutive layout k =
     let low = le-div_iff_mul-le {k = first_key layout} {x = 1} {y = k} some in
     let high = div-lt_iff_lt-mul {k = first_key layout} {x = k} {y = layout.gen_max + 1} some in (
       λ h.
-          let b = both_true (nat_le 1 d.generation) (nat_le d.generation layout.gen_max) (some_test _ d h) in
+          let b = and_parts (nat_le 1 d.generation) (nat_le d.generation layout.gen_max) (some_test _ d h) in
           let first : 1 ≤ k / first_key layout = rw (← is) (leb-true _ _ b.0) in
           let last : k / first_key layout ≤ layout.gen_max = rw (← is) (leb-true _ _ b.1) in
           (omega (arith, low.0 first), omega (arith, high.0 (omega (arith, last)))),
