@@ -11,6 +11,7 @@ use Rattle.sh_step.specs.declared.action.Action.TheVariants as action
 use Rattle.sh_step.specs.declared.action.PageName.{PageName}
 use Rattle.sh_step.specs.declared.kind.ActionKind.{ActionKind}
 use Rattle.sh_step.specs.declared.kind.ActionKind.TheVariants as kind
+use Rattle.sh_step.proofs.ListLaws.{none_left}
 use Rattle.sh_script.specs.Words.{Word}
 use Rattle.sh_script.specs.Trouble.{◌>>=◌}
 use Rattle.sh_script.specs.Arguments.{two_of}
@@ -21,7 +22,7 @@ use Rattle.sh_script.specs.EventMeaning.{IsWithNumber, IsReadKey, IsAction}
 use Rattle.sh_script.proofs.NumberLemmas.{number_is}
 use Rattle.sh_script.proofs.ArgumentLemmas.{numbers_are}
 use Rattle.sh_script.proofs.PlaceLemmas.{page_is, slot_is}
-use Rattle.sh_script.proofs.Steps.{bind_ok, or_ok, ok_is, if_cases, if_read, else_ok, empty_is, next_ok, only_ok}
+use Rattle.sh_script.proofs.Steps.{bind_ok, or_ok, ok_is, if_cases, if_read, else_ok, next_ok, only_ok}
 use Rattle.sh_script.proofs.Steps.{two_is, none_is}
 
 -- ---- the arguments
@@ -84,7 +85,7 @@ unfolding drop_of
 drop_is ws a e =
     elim (if_cases (length ws == 0) _ _ (Ok a) e) [
       | inl h ↦ subst (IsAction (codes "Drop" ∷ ws)) (ok_is action.Drop a h.1)
-          (ap (λ xs. codes "Drop" ∷ xs) (empty_is ws h.0))
+          (ap (λ xs. codes "Drop" ∷ xs) (none_left ws h.0))
       | inr h ↦ number_action (codes "Drop" ∷ []) ws (λ n. action.DropHold n) a (λ n words h. h) h.1
     ]
 
@@ -93,7 +94,7 @@ unfolding put_of
 put_is ws a e =
     elim (if_cases (length ws == 0) _ _ (Ok a) e) [
       | inl h ↦ subst (IsAction (codes "Put" ∷ ws)) (ok_is action.Put a h.1)
-          (ap (λ xs. codes "Put" ∷ xs) (empty_is ws h.0))
+          (ap (λ xs. codes "Put" ∷ xs) (none_left ws h.0))
       | inr h ↦
           let w = bind_ok _ _ a h.1 in
           let s = bind_ok _ _ a w.2 in

@@ -3,7 +3,7 @@ use Rattle.std.proofs.Common.{◌≡◌, ℕ, ◌+◌, ◌<◌, zero, suc, List,
 use Rattle.std.proofs.Common.{Some, None, IfSome, ◌⊎◌, inl, inr, refl, sym, ap, subst, ◌∙◌, arith}
 use Rattle.std.proofs.lemmas.List.{length-append}
 use Rattle.std.proofs.lemmas.List.Elements.{filter-append}
-use Rattle.std.proofs.lemmas.Option.{slice_get_within}
+use Rattle.std.proofs.lemmas.Option.{slice_get_within, same_Some}
 use Rattle.sh_script.specs.Words.{Word}
 use Rattle.sh_script.specs.Names.{Binding}
 use Rattle.sh_script.specs.CallLines.{CallsSoFar, no_calls, with_name}
@@ -15,7 +15,6 @@ use Rattle.sh_script.specs.declared.calls.Reference.TheVariants as reference
 use Rattle.sh_script.specs.declared.calls.Call.{Call}
 use Rattle.sh_script.specs.declared.calls.Call.TheVariants as call
 use Rattle.sh_script.specs.declared.calls.CallLine.{CallLine}
-use Rattle.sh_script.proofs.Steps.{some_is}
 use Rattle.sh_script.proofs.PassLemmas.{IsLasting}
 
 -- ---- a call
@@ -66,7 +65,7 @@ binds_next names ws pass (call.Wait i) bound x = no_new_name names bound x.binds
 -- an element of a list that grew is an old one, with the same ones before it, or the new one, after the old ones
 get_grown : (xs : List CallLine) (y : CallLine) (j : ℕ) (k : CallLine) → slice_get (xs ++ y ∷ []) j ≡ Some k
     → ((slice_get xs j ≡ Some k) × (take j (xs ++ y ∷ []) ≡ take j xs)) ⊎ ((y ≡ k) × (take j (xs ++ y ∷ []) ≡ xs))
-get_grown [] y zero k e = inr (some_is y k e, refl)
+get_grown [] y zero k e = inr (same_Some y k e, refl)
 get_grown [] y (suc j) k e = cc
 get_grown (x ∷ xs) y zero k e = inl (e, refl)
 get_grown (x ∷ xs) y (suc j) k e = elim (get_grown xs y j k e) [

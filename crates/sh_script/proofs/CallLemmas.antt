@@ -5,6 +5,7 @@ use Rattle.std.proofs.Common.{arith, eqb-true, ne_eqb, lt-ltb}
 use Rattle.std.specs.List.{Contains}
 use Rattle.std.specs.Str.{bytes_eq}
 use Rattle.std.proofs.lemmas.Slice.Eq.{bytes_eq-Decides}
+use Rattle.std.proofs.lemmas.Option.{same_Some}
 use Rattle.sh_script.specs.Words.{Word, is_name}
 use Rattle.sh_script.specs.Names.{Binding, names_of}
 use Rattle.sh_script.specs.CallLines.{found_of, has_key, key_from, keyed_of, reference_of, new_name, command_of}
@@ -25,7 +26,7 @@ use Rattle.sh_script.proofs.NumberLemmas.{number_is, number_gives, number_of_dec
 use Rattle.sh_script.proofs.NameLemmas.{name_is, name_gives}
 use Rattle.sh_script.proofs.FindLemmas.{find_is, find_none, find_gives, find_gives_none}
 use Rattle.sh_script.proofs.ArgumentLemmas.{numbers_are, numbers_give}
-use Rattle.sh_script.proofs.Steps.{bind_ok, or_ok, ok_is, some_is, if_cases, if_ok, if_read, else_ok, ok_of, not_false}
+use Rattle.sh_script.proofs.Steps.{bind_ok, or_ok, ok_is, if_cases, if_ok, if_read, else_ok, ok_of, not_false}
 use Rattle.sh_script.proofs.Steps.{none_of_some, next_ok, pass_at_ok, only_ok, none_is, Agrees}
 
 -- ---- what a word refers to
@@ -137,7 +138,7 @@ pick : (w v : Word) (c k : Command) (rest : Option Command) → cond (bytes_eq w
 pick w v c k rest e s next = by (bytes_eq w v) refl e
   where
     by : (t : Bool) → bytes_eq w v ≡ t → cond t (Some c) rest ≡ Some k → w ≡ spelled k
-    by true h e = (bytes_eq-Decides w v).0 h ∙ s ∙ ap spelled (some_is c k e)
+    by true h e = (bytes_eq-Decides w v).0 h ∙ s ∙ ap spelled (same_Some c k e)
     by false h e = next e
 
 command_is : (w : Word) (k : Command) → command_of w ≡ Some k → w ≡ spelled k

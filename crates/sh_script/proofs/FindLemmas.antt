@@ -9,9 +9,10 @@ use Rattle.sh_script.specs.Words.{Word}
 use Rattle.sh_script.specs.Names.{Binding, binding_of, names_of, find_from}
 use Rattle.sh_script.specs.declared.names.Bound.{Bound}
 use Rattle.std.proofs.lemmas.List.{length-map, map-append}
+use Rattle.std.proofs.lemmas.Option.{same_Some}
 use Rattle.sh_script.specs.declared.names.Binder.{Binder}
 use Rattle.sh_script.specs.declared.names.Found.{Found}
-use Rattle.sh_script.proofs.Steps.{some_is, not_both, same_word}
+use Rattle.sh_script.proofs.Steps.{not_both, same_word}
 
 -- ---- equal names
 
@@ -69,7 +70,7 @@ find_is (b ∷ bs) n name f e = by (find_is bs (n + 1) name f) (bytes_eq b.name 
     by : (find_from (n + 1) bs name ≡ Some f → IsFound bs name (n + 1) f) → (t : Bool) → bytes_eq b.name name ≡ t
         → cond t (Some (found_at n b.by)) (find_from (n + 1) bs name) ≡ Some f → IsFound (b ∷ bs) name n f
     by next true h e =
-        let same : found_at n b.by ≡ f = some_is (found_at n b.by) f e in
+        let same : found_at n b.by ≡ f = same_Some (found_at n b.by) f e in
         let here : n ≡ n + 0 = omega arith in
         record {
           index = zero;
@@ -105,7 +106,7 @@ pub find_gives : (names : List Binding) (n i : ℕ) (name : Word) (by : Binder) 
     → find_from n names name ≡ Some (found_at (n + i) by)
 find_gives [] n i name by stands first = cc
 find_gives (b ∷ bs) n zero name by stands first =
-    let same : b ≡ bound_as name by = some_is b (bound_as name by) stands in
+    let same : b ≡ bound_as name by = same_Some b (bound_as name by) stands in
     let here : n ≡ n + 0 = omega arith in
     rw (name_test b.name name (ap (λ (x : Binding). x.name) same))
     (ap₂ (λ (k : ℕ) (y : Binder). Some (found_at k y)) here (ap (λ (x : Binding). x.by) same))

@@ -5,7 +5,8 @@ use Rattle.std.proofs.Common.{ltb-true, lt-ltb}
 use Rattle.std.specs.Bool.{Decides}
 use Rattle.std.specs.Str.{bytes_eq}
 use Rattle.std.proofs.lemmas.Bool.Decides.{Decides-and}
-use Rattle.std.proofs.lemmas.Option.{cond_some}
+use Rattle.std.proofs.lemmas.Option.{cond_some, same_Some}
+use Rattle.std.proofs.lemmas.Bool.{and_parts}
 use Rattle.sh_key.specs.Layout.{Layout}
 use Rattle.sh_shape.specs.Shape.{Numbers, segment_pages, IsSmallShape, Fits}
 use Rattle.sh_script.specs.Words.{Word, number_of}
@@ -21,10 +22,11 @@ use Rattle.sh_script.specs.declared.header.Layout.{Layout as LayoutName}
 use Rattle.sh_script.specs.declared.header.Layout.TheVariants as layout
 use Rattle.sh_script.specs.declared.header.Version.{Version}
 use Rattle.sh_script.specs.declared.header.Version.TheVariants as version
-use Rattle.sh_script.proofs.NumberLemmas.{both_true, number_is, number_of_decimal}
+use Rattle.sh_script.proofs.NumberLemmas.{number_is, number_of_decimal}
 use Rattle.sh_script.proofs.NameLemmas.{le_test}
-use Rattle.sh_script.proofs.Steps.{bind_ok, or_ok, ok_is, some_is, if_cases, else_ok, guarded, unless, same_word}
-use Rattle.sh_script.proofs.Steps.{not_false, empty_is, next_ok, number_at_ok, two_is}
+use Rattle.sh_script.proofs.Steps.{bind_ok, or_ok, ok_is, if_cases, else_ok, guarded, unless, same_word}
+use Rattle.sh_script.proofs.Steps.{not_false, next_ok, number_at_ok, two_is}
+use Rattle.sh_step.proofs.ListLaws.{none_left}
 
 -- ---- the shape
 
@@ -113,7 +115,7 @@ tagged_is : (name : Word) (ws : List Word) (o : Option ℕ) (x : LayoutName × O
     → IsNamed version.Two name ws x
 tagged_is name ws None x named tag e = cc
 tagged_is name ws (Some t) x named tag e =
-    let same : (layout.Tagged, Some t) ≡ x = some_is (layout.Tagged, Some t) x e in
+    let same : (layout.Tagged, Some t) ≡ x = same_Some (layout.Tagged, Some t) x e in
     subst (IsNamed version.Two name ws) same (record { named = named; has_layout = tt; is_tag = tag t refl })
 
 of_two : (v : Version) (name : Word) (ws : List Word) (x : LayoutName × Option ℕ) → is_two v ≡ true
@@ -135,7 +137,7 @@ plain_is : (v : Version) (name : Word) (ws : List Word) (x : LayoutName × Optio
 plain_is v name ws x none e =
     elim (if_cases (bytes_eq name (codes "tiny")) _ _ (Some x) e) [
       | inl h ↦
-          let same : (layout.Tiny, None) ≡ x = some_is (layout.Tiny, None) x h.1 in
+          let same : (layout.Tiny, None) ≡ x = same_Some (layout.Tiny, None) x h.1 in
           subst (IsNamed v name ws) same (record {
             named = same_word _ _ h.0;
             has_layout = tiny_in v;
@@ -157,11 +159,11 @@ layout_is : (v : Version) (name : Word) (ws : List Word) (x : LayoutName × Opti
 layout_is v name ws x e =
     elim (if_cases (bytes_eq name (codes "tagged") && is_two v) _ _ (Some x) e) [
       | inl h ↦
-          let tests = both_true _ _ h.0 in
+          let tests = and_parts _ _ h.0 in
           of_two v name ws x tests.1 (tagged_is name ws (tag_of ws) x (same_word _ _ tests.0) (tag_is ws) h.1)
       | inr h ↦
           let k = unless _ _ x h.1 in
-          plain_is v name ws x (empty_is ws (not_false _ k.0)) k.1
+          plain_is v name ws x (none_left ws (not_false _ k.0)) k.1
     ]
 
 layout_gives : (v : Version) (l : LayoutName) (ws : List Word) (t : Option ℕ) → HasLayout v l → AreTag l ws t
@@ -261,7 +263,7 @@ header_gives v ws h x =
 version_in_is : (o : Option (Word × Word)) (ws : List Word) → ((p : Word × Word) → o ≡ Some p → ws ≡ p.0 ∷ p.1 ∷ [])
     → is_version_in o ≡ true → IsVersionLine ws
 version_in_is None ws two e = cc
-version_in_is (Some p) ws two e = let h = both_true _ _ e in two p refl
+version_in_is (Some p) ws two e = let h = and_parts _ _ e in two p refl
     ∙ ap₂ (λ (x y : Word). x ∷ y ∷ []) (same_word _ _ h.0) (same_word _ _ h.1)
 
 pub version_is : (ws : List Word) → is_version_line ws ≡ true → IsVersionLine ws

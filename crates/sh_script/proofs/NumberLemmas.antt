@@ -1,5 +1,5 @@
 -- A number's word is its decimal digits.
-use Rattle.std.proofs.Common.{◌≡◌, ℕ, ◌+◌, ◌-◌, ◌*◌, ◌^◌, ◌<◌, ◌≤◌, ◌==◌, ◌&&◌, not, Bool, true, false, List, [], ◌∷◌}
+use Rattle.std.proofs.Common.{◌≡◌, ℕ, ◌+◌, ◌-◌, ◌*◌, ◌^◌, ◌<◌, ◌≤◌, ◌==◌, ◌&&◌, not, true, false, List, [], ◌∷◌}
 use Rattle.std.proofs.Common.{length, get_or, Some, refl, sym, ap, subst, ◌∙◌, rules, arith, nat_lt, lt-ltb, ltb-true}
 use Rattle.std.proofs.Common.{ne_eqb, zero, suc, lit<}
 use Rattle.std.specs.Str.{all_ascii_digits}
@@ -8,6 +8,7 @@ use Rattle.std.specs.Fmt.{decimal}
 use Rattle.std.proofs.lemmas.Str.Parse.{IsNumeralModel, numerals_by_fold}
 use Rattle.std.proofs.lemmas.Fmt.{decimal-digits_value, digits_decimal, digits_value-decimal, first_decimal}
 use Rattle.std.proofs.lemmas.Fmt.{decimal_nonempty, decimal_digit}
+use Rattle.std.proofs.lemmas.Bool.{and_parts}
 use Rattle.sh_script.specs.Words.{number_from, number_of, is_digit}
 use Rattle.sh_script.specs.Meaning.{IsNumber}
 use Rattle.sh_script.proofs.Steps.{guarded, unless}
@@ -29,16 +30,12 @@ record AreDigitsRead (n m : ℕ) (w : List ℕ) : Type 0 where
   value : value_from n w ≡ m
   small : n < 2 ^ 64 → m < 2 ^ 64
 
-pub both_true : (a b : Bool) → (a && b) ≡ true → (a ≡ true) × (b ≡ true)
-both_true true b e = (refl, e)
-both_true false b e = cc
-
 read_digits : (w : List ℕ) (n m : ℕ) → number_from n w ≡ Some m → AreDigitsRead n m w
 read_digits [] n m e = let same : n ≡ m = cc in record { digits = refl; value = same; small = λ h. omega arith }
 read_digits (b ∷ bs) n m e =
     let next = n * 10 + (b - 48) in
     let on = guarded (is_digit b && nat_lt next (2 ^ 64)) (number_from next bs) m e in
-    let tests = both_true (is_digit b) (nat_lt next (2 ^ 64)) on.0 in
+    let tests = and_parts (is_digit b) (nat_lt next (2 ^ 64)) on.0 in
     let rest = read_digits bs next m on.1 in
     record { digits = rw tests.0 rest.digits; value = rest.value; small = λ _. rest.small (ltb-true _ _ tests.1) }
 
@@ -47,7 +44,7 @@ digits_read : (w : List ℕ) (n : ℕ) → all_ascii_digits w ≡ true → value
 digits_read [] n d h = refl
 digits_read (b ∷ bs) n d h =
     let next = n * 10 + (b - 48) in
-    let tests = both_true (is_ascii_digit b) (all_ascii_digits bs) d in
+    let tests = and_parts (is_ascii_digit b) (all_ascii_digits bs) d in
     let small : next < 2 ^ 64 = omega (arith, grows next bs) in
     rw (tests.0, lt-ltb _ _ small) (digits_read bs next tests.1 h)
 

@@ -11,13 +11,15 @@ use Rattle.std.proofs.lemmas.Grind.{take_at_read}
 use Rattle.std.proofs.lemmas.List.{take_at, drop_at, take-append-drop}
 use Rattle.std.proofs.lemmas.List.Elements.{All-nil, All-cons, All-head, All-tail}
 use Rattle.std.proofs.lemmas.List.Quantifiers.{position-Some}
+use Rattle.std.proofs.lemmas.Option.{same_Some}
+use Rattle.std.proofs.lemmas.Bool.{and_parts}
 use Rattle.sh_step.specs.declared.action.PageName.{PageName}
 use Rattle.sh_step.specs.declared.action.SlotName.{SlotName}
 use Rattle.sh_script.specs.Words.{Word, is_dot, split_dot}
 use Rattle.sh_script.specs.Meaning.{IsPage, IsSlot}
 use Rattle.sh_script.specs.EventLines.{page_from, slot_from}
-use Rattle.sh_script.proofs.NumberLemmas.{own, both_true, number_is, number_of_decimal}
-use Rattle.sh_script.proofs.Steps.{bind_ok, or_ok, ok_is, some_is}
+use Rattle.sh_script.proofs.NumberLemmas.{own, number_is, number_of_decimal}
+use Rattle.sh_script.proofs.Steps.{bind_ok, or_ok, ok_is}
 
 -- ---- the place of the first dot
 
@@ -33,7 +35,7 @@ split_at : (w : Word) (o : Option ℕ) (p : Word × Word) → position is_dot w 
 split_at w None p at e = cc
 split_at w (Some i) p at e =
     let x = position-Some is_dot w i 0 at in
-    let same : (take i w, drop (i + 1) w) ≡ p = some_is (take i w, drop (i + 1) w) p e in
+    let same : (take i w, drop (i + 1) w) ≡ p = same_Some (take i w, drop (i + 1) w) p e in
     cut_at w i x.0 x.1 ∙ ap (λ (q : Word × Word). q.0 ++ 46 ∷ q.1) same
 
 split_is : (w : Word) (p : Word × Word) → split_dot w ≡ Some p → w ≡ p.0 ++ 46 ∷ p.1
@@ -66,7 +68,7 @@ digit_no_dot b e = ne_eqb b 46 (λ same. not_digit (ap is_ascii_digit (sym same)
 
 no_dots : (w : Word) → all_ascii_digits w ≡ true → All IsNoDot w
 no_dots [] e = All-nil IsNoDot
-no_dots (b ∷ bs) e = let h = both_true (is_ascii_digit b) (all_ascii_digits bs) e
+no_dots (b ∷ bs) e = let h = and_parts (is_ascii_digit b) (all_ascii_digits bs) e
     in All-cons IsNoDot b bs (digit_no_dot b h.0) (no_dots bs h.1)
 
 decimal_first : (n : ℕ) (y : Word) → n < 2 ^ 64 → split_dot (decimal n ++ 46 ∷ y) ≡ Some (decimal n, y)

@@ -1,6 +1,6 @@
 -- Steps that may fail, taken apart.
 use Rattle.std.proofs.Common.{◌≡◌, ℕ, ◌<◌, ◌==◌, ltb-true, Bool, true, false, not, List, [], ◌∷◌, length, cond, Option}
-use Rattle.std.proofs.Common.{Some, None, Result, Ok, Err, ◌⊎◌, inl, inr, refl, ap, subst, ◌∙◌, arith, eqb-true}
+use Rattle.std.proofs.Common.{Some, None, Result, Ok, Err, ◌⊎◌, inl, inr, refl, ap, subst, ◌∙◌}
 use Rattle.std.proofs.lemmas.Option.{cond_some}
 use Rattle.std.specs.Option.{is_some}
 use Rattle.std.specs.Str.{bytes_eq}
@@ -13,6 +13,7 @@ use Rattle.sh_script.specs.Arguments.{next_of, number_at, pass_at, only_of, afte
 use Rattle.sh_script.specs.declared.fault.Cause.{Cause}
 use Rattle.sh_script.specs.declared.trouble.Trouble.{Trouble}
 use Rattle.sh_script.specs.declared.fault.Fault.{Fault}
+use Rattle.sh_step.proofs.ListLaws.{none_left}
 
 -- if two steps succeed, the second succeeds with the result of the first
 pub bind_ok : {A B E : Type 0} (r : Result A E) (f : A → Result B E) (y : B) → (r >>= f) ≡ Ok y → (x : A) × (r ≡ Ok x)
@@ -35,9 +36,6 @@ fine x = Ok x
 
 pub fine_is : {A : Type 0} (x y : A) → fine x ≡ fine y → x ≡ y
 fine_is x y e = cc
-
-pub some_is : {A : Type 0} (x y : A) → Some x ≡ Some y → x ≡ y
-some_is x y e = cc
 
 -- either branch of an if
 pub if_cases : {A : Type 0} (b : Bool) (x y z : A) → cond b x y ≡ z → ((b ≡ true) × (x ≡ z)) ⊎ ((b ≡ false) × (y ≡ z))
@@ -80,10 +78,6 @@ pub none_of_some : {A : Type 0} (o : Option A) → is_some o ≡ false → o ≡
 none_of_some None e = refl
 none_of_some (Some x) e = cc
 
-pub empty_is : {A : Type 0} (xs : List A) → (length xs == 0) ≡ true → xs ≡ []
-empty_is [] e = refl
-empty_is (x ∷ xs) e = let k : length (x ∷ xs) ≡ 0 = eqb-true _ _ e in absurd (omega arith)
-
 -- ---- words
 
 pub next_ok : (c : Cause) (ws : List Word) (x : Word × List Word) → next_of c ws ≡ Ok x → ws ≡ x.0 ∷ x.1
@@ -111,7 +105,7 @@ pub only_ok : (ws : List Word) (w : Word) → only_of ws ≡ Ok w → ws ≡ w �
 only_ok ws w e =
     let a = bind_ok _ _ w e in
     let b = if_ok _ _ _ _ a.2 in
-    next_ok _ ws a.0 a.1 ∙ ap (λ xs. (a.0).0 ∷ xs) (empty_is _ b.0) ∙ ap (λ x. x ∷ []) b.1
+    next_ok _ ws a.0 a.1 ∙ ap (λ xs. (a.0).0 ∷ xs) (none_left _ b.0) ∙ ap (λ x. x ∷ []) b.1
 
 -- the first word is the number of a pass
 pub record IsPassFirst (passes : ℕ) (ws : List Word) (x : ℕ × List Word) : Type 0 where
@@ -129,14 +123,14 @@ after_first_is : (a : Word) (ws : List Word) (p : Word × Word) → after_first 
 after_first_is a [] p e = cc
 after_first_is a (b ∷ ws) p e =
     let h = cond_some _ _ _ e in
-    ap (λ xs. a ∷ b ∷ xs) (empty_is ws h.0) ∙ ap (λ (q : Word × Word). q.0 ∷ q.1 ∷ []) h.1
+    ap (λ xs. a ∷ b ∷ xs) (none_left ws h.0) ∙ ap (λ (q : Word × Word). q.0 ∷ q.1 ∷ []) h.1
 
 pub two_is : (ws : List Word) (p : Word × Word) → two_of ws ≡ Some p → ws ≡ p.0 ∷ p.1 ∷ []
 two_is [] p e = cc
 two_is (a ∷ ws) p e = after_first_is a ws p e
 
 pub none_is : (ws : List Word) (u : Unit {0}) → none_of ws ≡ Ok u → ws ≡ []
-none_is ws u e = empty_is ws ((if_ok (length ws == 0) tt u _ e).0)
+none_is ws u e = none_left ws ((if_ok (length ws == 0) tt u _ e).0)
 
 -- ---- what a line adds is what it means
 
