@@ -89,9 +89,6 @@ adds_nothing line (Released p k) key known apart = record {
   released = rw apart (omega arith);
 }
 
-itself : (key : ℕ) → (key == key) ≡ true
-itself key = eq-eqb key key refl
-
 module _ (lines : List (ℕ × Entry)) (line : ℕ) where
   -- a note that is written, and the others as they were
   pub notes_written : (entry : Entry) (f g : ℕ → Option Note) (w : Option Note)
@@ -108,8 +105,8 @@ module _ (lines : List (ℕ × Entry)) (line : ℕ) where
       → IsNote (lines ++ (line, Insert p k v) ∷ []) k
       (Some (record { value = v; inserted = line; removed = None; got = 0; released = 0 }))
   inserted_note p k v is = is_note_after lines line (Insert p k v) k None _ is (record {
-    value = rw (itself k) refl;
-    inserted = rw (itself k) refl;
+    value = rw (eq-eqb k k refl) refl;
+    inserted = rw (eq-eqb k k refl) refl;
     removed = refl;
     got = refl;
     released = refl;
@@ -121,7 +118,7 @@ module _ (lines : List (ℕ × Entry)) (line : ℕ) where
     value = refl;
     inserted = refl;
     removed = sym (or_none _);
-    got = rw (itself k) refl;
+    got = rw (eq-eqb k k refl) refl;
     released = omega arith;
   })
 
@@ -130,7 +127,7 @@ module _ (lines : List (ℕ × Entry)) (line : ℕ) where
   removed_note p k note none is = is_note_after lines line (Removed p k) k (Some note) _ is (record {
     value = refl;
     inserted = refl;
-    removed = rw (itself k, none) refl;
+    removed = rw (eq-eqb k k refl, none) refl;
     got = omega arith;
     released = omega arith;
   })
@@ -142,7 +139,7 @@ module _ (lines : List (ℕ × Entry)) (line : ℕ) where
     inserted = refl;
     removed = sym (or_none _);
     got = omega arith;
-    released = rw (itself k) refl;
+    released = rw (eq-eqb k k refl) refl;
   })
 
   -- these two entries change no note

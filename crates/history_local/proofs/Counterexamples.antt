@@ -4,13 +4,13 @@ use Rattle.std.proofs.Common.{eqb-true, eq-eqb, inl, inr, ◌⊎◌, Some, None}
 use Rattle.std.specs.Prelude.{◌==◌, ◌||◌, filter}
 use Rattle.std.specs.List.{list_any}
 use Rattle.std.proofs.lemmas.List.Folds.{list_any-append}
+use Rattle.std.proofs.lemmas.Bool.{or_right, false≢true}
 use Rattle.sh_history.specs.declared.entry.Entry.{Entry}
 use Rattle.sh_history.specs.declared.entry.Entry.TheVariants.{Insert, Got, Removed}
 use Rattle.sh_history.specs.History.{is_removed, is_removal_of, is_got_of, LegalAfter}
 use Rattle.sh_history.specs.Log.{pass_of}
 use Rattle.history_local.specs.Groups.{entries_on_key, IsInterleaving}
 use Rattle.history_local.specs.Refuted.{AnyInterleavingIsLegal, KeysMayBeJoined, entries_by, CallersOrderIsNotLocal}
-use Rattle.history_local.proofs.Chosen.{never}
 
 -- two callers were issued one key
 pub an_interleaving_is_not_legal : ¬ AnyInterleavingIsLegal
@@ -58,10 +58,6 @@ in_order_at pass false false true is_0 is_1 is_2 =
     subst (λ p. InOrder p) (eqb-true 2 pass is_2) (inl ([], refl, inr ([], refl, (refl, refl))))
 in_order_at pass false false false is_0 is_1 is_2 = rw (is_0, is_1, is_2) (refl, refl)
 
-or_later : (b : Bool) → (b || true) ≡ true
-or_later true = refl
-or_later false = refl
-
 or_mapped : (b x y : Bool) → (x ≡ true → y ≡ true) → (b || x) ≡ true → (b || y) ≡ true
 or_mapped true x y later is = refl
 or_mapped false x y later is = later is
@@ -71,7 +67,7 @@ module _ {X : Type 0} (p c : X → Bool) where
   any_chosen_step : (x : X) (xs : List X) (d : Bool) → (list_any p (filter c xs) ≡ true → list_any p xs ≡ true)
       → list_any p (cond d (x ∷ filter c xs) (filter c xs)) ≡ true → (p x || list_any p xs) ≡ true
   any_chosen_step x xs true later is = or_mapped (p x) (list_any p (filter c xs)) (list_any p xs) later is
-  any_chosen_step x xs false later is = rw (later is) (or_later (p x))
+  any_chosen_step x xs false later is = rw (later is) (or_right (p x) true refl)
 
   any_of_chosen : (xs : List X) → list_any p (filter c xs) ≡ true → list_any p xs ≡ true
   any_of_chosen [] is = is
@@ -84,12 +80,12 @@ stays_removed before e key is = list_any-append (is_removal_of key) before (e �
 is_removed_now : (before : List Entry) (pass key : ℕ) → is_removed (before ++ Removed pass key ∷ []) key ≡ true
 is_removed_now before pass key =
     list_any-append (is_removal_of key) before (Removed pass key ∷ [])
-    ∙ rw (eq-eqb key key refl) (or_later (is_removed before key))
+    ∙ rw (eq-eqb key key refl) (or_right (is_removed before key) true refl)
 
 other_key : (before : List Entry) (k key : ℕ) (b : Bool) → (k == key) ≡ b → is_removed before key ≡ true
     → is_removed before k ≡ false → b ≡ false
 other_key before k key true test removed present =
-    never (sym present ∙ ap (λ k. is_removed before k) (eqb-true k key test) ∙ removed)
+    absurd (false≢true (sym present ∙ ap (λ k. is_removed before k) (eqb-true k key test) ∙ removed))
 other_key before k key false test removed present = refl
 
 module _ (passes guard_max : ℕ) where
@@ -112,7 +108,7 @@ module _ (passes guard_max : ℕ) where
   too_late before xs pass other key e is legal got =
       let removed : is_removed (before ++ e ∷ []) key ≡ true = rw is (is_removed_now before pass key) in
       let none = no_get_later (before ++ e ∷ []) xs key removed legal in
-      never (sym none ∙ any_of_chosen (is_got_of key) (λ x. pass_of x == other) xs got)
+      absurd (false≢true (sym none ∙ any_of_chosen (is_got_of key) (λ x. pass_of x == other) xs got))
 
   -- neither pass comes first
   no_first_step : (before xs : List Entry) (e : Entry) (b d : Bool)

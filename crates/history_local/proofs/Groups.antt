@@ -5,12 +5,13 @@ use Rattle.std.proofs.Common.{subst, arith, cond, eq-eqb, eqb-true, inl, inr, �
 use Rattle.std.specs.Prelude.{◌==◌}
 use Rattle.std.proofs.lemmas.List.{append-nil}
 use Rattle.std.proofs.lemmas.List.Elements.{filter-append}
+use Rattle.std.proofs.lemmas.Bool.{false≢true}
 use Rattle.sh_history.specs.declared.entry.Entry.{Entry}
 use Rattle.sh_history.specs.declared.entry.Entry.TheVariants.{Insert, Got, Gone, Crowded, Removed, Released}
 use Rattle.sh_history.specs.History.{Allowed, LegalAfter, Legal}
 use Rattle.history_local.specs.Groups.{key_of, entries_on, entries_in, IsWithin}
 use Rattle.history_local.specs.Laws.{LegalityIsLocal, GroupsAreLegal, OneHistoryOfAll}
-use Rattle.history_local.proofs.Chosen.{never, value_on, removed_on, holds_on_on, holds_by_on, on_push}
+use Rattle.history_local.proofs.Chosen.{value_on, removed_on, holds_on_on, holds_by_on, on_push}
 
 module _ (passes guard_max : ℕ) where
   -- an entry is judged by the entries on its key
@@ -48,7 +49,7 @@ module _ (passes guard_max : ℕ) where
       → LegalAfter passes guard_max (entries_on c before) (cond b (e ∷ entries_on c xs) (entries_on c xs))
       → Allowed passes guard_max before e
   head_allowed c before xs e true is chosen legal = subst (λ T. T) (judged c before e is) legal.0
-  head_allowed c before xs e false is chosen legal = never chosen
+  head_allowed c before xs e false is chosen legal = absurd (false≢true chosen)
 
   tail_legal : (c : ℕ → Bool) (before xs : List Entry) (e : Entry) (b : Bool) → c (key_of e) ≡ b
       → LegalAfter passes guard_max (entries_on c before) (cond b (e ∷ entries_on c xs) (entries_on c xs))
@@ -137,7 +138,7 @@ module _ (group_of : ℕ → ℕ) (histories : ℕ → List Entry) (count : ℕ)
       subst (λ g. entries_in group_of g (histories n) ≡ histories g) same (within n lt) in
       inl (omega arith, two_lists group_of histories group n [] (histories group) is own)
   found_here group n false lt le test is =
-      let differ : n ≢ group = λ e. never (sym test ∙ eq-eqb n group e) in
+      let differ : n ≢ group = λ e. false≢true (sym test ∙ eq-eqb n group e) in
       inr (omega arith, two_lists group_of histories group n [] [] is (none_here group n lt differ))
 
   found_next : (group n : ℕ) → n < count → Found group_of histories group n → Found group_of histories group (suc n)

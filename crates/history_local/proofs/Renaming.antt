@@ -3,22 +3,23 @@ use Rattle.std.proofs.Common.{◌≡◌, ℕ, Bool, true, false, List, [], ◌�
 use Rattle.std.proofs.Common.{eq-eqb, eqb-true}
 use Rattle.std.specs.Prelude.{◌==◌, ◌&&◌, count_by}
 use Rattle.std.specs.List.{list_any}
+use Rattle.std.proofs.lemmas.Bool.{false≢true}
 use Rattle.sh_history.specs.declared.entry.Entry.{Entry}
 use Rattle.sh_history.specs.declared.entry.Entry.TheVariants.{Insert, Got, Gone, Crowded, Removed, Released}
 use Rattle.sh_history.specs.History.{value_of, is_removed, is_removal_of, is_got_of, is_release_of, is_got_by}
 use Rattle.sh_history.specs.History.{is_release_by, holds_on, holds_by, Allowed, LegalAfter}
+use Rattle.sh_history.proofs.LogLaws.{count_by-cons}
 use Rattle.history_local.specs.Groups.{renamed, IsOneToOne}
 use Rattle.history_local.specs.Laws.{KeysMayBeRenamed}
-use Rattle.history_local.proofs.Chosen.{never, count_cons}
 
 module _ (name : ℕ → ℕ) (one : IsOneToOne name) where
   eqb_cases : (a b : ℕ) (x y : Bool) → (name a == name b) ≡ x → (a == b) ≡ y → x ≡ y
   eqb_cases a b true true m n = refl
   eqb_cases a b false false m n = refl
   eqb_cases a b true false m n =
-      never (sym n ∙ eq-eqb a b (one a b (eqb-true (name a) (name b) m)))
+      absurd (false≢true (sym n ∙ eq-eqb a b (one a b (eqb-true (name a) (name b) m))))
   eqb_cases a b false true m n =
-      never (sym m ∙ eq-eqb (name a) (name b) (ap name (eqb-true a b n)))
+      absurd (false≢true (sym m ∙ eq-eqb (name a) (name b) (ap name (eqb-true a b n))))
 
   same_test : (a b : ℕ) → (name a == name b) ≡ (a == b)
   same_test a b = eqb_cases a b _ _ refl refl
@@ -27,8 +28,8 @@ module _ (name : ℕ → ℕ) (one : IsOneToOne name) where
       → count_by p (map (renamed name) xs) ≡ count_by q xs
   count_renamed p q same [] = refl
   count_renamed p q same (x ∷ xs) =
-      count_cons p (renamed name x) (map (renamed name) xs)
-      ∙ rw (same x, count_renamed p q same xs) refl ∙ sym (count_cons q x xs)
+      count_by-cons p (renamed name x) (map (renamed name) xs)
+      ∙ rw (same x, count_renamed p q same xs) refl ∙ sym (count_by-cons q x xs)
 
   any_renamed : (p q : Entry → Bool) → ((x : Entry) → p (renamed name x) ≡ q x) → (xs : List Entry)
       → list_any p (map (renamed name) xs) ≡ list_any q xs

@@ -3,10 +3,10 @@ use Rattle.std.proofs.Common.{◌≡◌, ℕ, ◌<◌, Bool, true, false, List, 
 use Rattle.std.specs.Prelude.{◌==◌, ◌+◌, ◌*◌, ◌^◌}
 use Rattle.std.proofs.lemmas.Nat.{div-mul-add}
 use Rattle.std.proofs.lemmas.List.Elements.{All-head, All-tail}
+use Rattle.std.proofs.lemmas.Bool.{false≢true}
 use Rattle.sh_history.specs.declared.entry.Entry.{Entry}
 use Rattle.sh_history.specs.declared.entry.Entry.TheVariants.{Insert, Got, Gone, Crowded, Removed, Released}
 use Rattle.history_local.specs.Groups.{key_of, entries_in, IsWithin, renamed, IsOneToOne}
-use Rattle.history_local.proofs.Chosen.{never}
 use Rattle.history_local.proofs.Groups.{one_history_of_all}
 use Rattle.history_local.proofs.Renaming.{keys_may_be_renamed}
 use Rattle.sh_chunk.specs.Chunks.{with_chunk, chunk_of}
@@ -26,7 +26,7 @@ module _ (chunk : ℕ) where
 
   stays : (x : Entry) (xs ys : List Entry) (b : Bool) → b ≡ true → ys ≡ xs → cond b (x ∷ ys) ys ≡ x ∷ xs
   stays x xs ys true is same = ap (λ l. x ∷ l) same
-  stays x xs ys false is same = never is
+  stays x xs ys false is same = absurd (false≢true is)
 
   is_within : (history : List Entry) → KeysFit history → IsWithin chunk_of chunk (of_chunk chunk history)
   is_within [] fits = refl
