@@ -4,7 +4,7 @@ use Rattle.std.proofs.Common.{None, zero, suc}
 use Rattle.std.proofs.Common.{refl, sym, ap, take, arith}
 use Rattle.std.specs.Prelude.{slice_get, count_by, ◌&&◌, not, is_some}
 use Rattle.std.specs.List.{AllZip}
-use Rattle.std.proofs.lemmas.Bool.{true≢false}
+use Rattle.std.proofs.lemmas.Bool.{true≢false, and_parts}
 use Rattle.std.proofs.lemmas.List.Sums.{sum_by-append}
 use Rattle.std.proofs.lemmas.List.Sorted.{sum_by-IsPermutation}
 use Rattle.sh_history.proofs.LogLaws.{count_by-cons}
@@ -18,7 +18,7 @@ use Rattle.history_timed.specs.Times.{is_ended, is_below, ends_before}
 use Rattle.history_timed.specs.Orders.{IsLegalOrder}
 use Rattle.history_timed.specs.Clashes.{most_before, least_before}
 use Rattle.std.proofs.lemmas.List.Elements.{All-contains}
-use Rattle.history_timed.proofs.ListLemmas.{both, contained}
+use Rattle.history_timed.proofs.ListLemmas.{contained}
 use Rattle.history_timed.proofs.PlaceLemmas.{earlier}
 
 bit : (a b : Bool) → (a ≡ true → b ≡ true) → cond a 1 0 ≤ cond b 1 0
@@ -117,13 +117,13 @@ module _ (passes guard_max : ℕ) (calls ordered : List Call) (history : List En
   none_left_out = none_pass ends_first o.order.left_out (λ l x is does.
       not_left_out x.times.end c.times.begin
       (All-contains (λ (d : Call). is_ended d.times ≡ false) o.order.left_out x o.order.unended
-      (contained o.order.left_out l x is)) (both (test x.said) (ends_before x.times c.times) does).1)
+      (contained o.order.left_out l x is)) (and_parts (test x.said) (ends_before x.times c.times) does).1)
 
   pub least_is_least : least_before test calls c ≤ count_by entry_test (take i history)
   least_is_least =
       let same = same_count entry_test test agree ordered history i o.says in
       let least = front_all (λ (x : Call). test x.said) ends_first ordered i (λ l x is does.
-      let parts = both (test x.said) (ends_before x.times c.times) does in
+      let parts = and_parts (test x.said) (ends_before x.times c.times) does in
       (earlier passes guard_max calls ordered history o i l c x at is parts.1, parts.0)) in
       let none = none_left_out in
       let all = in_all ends_first in

@@ -1,10 +1,11 @@
 -- What a legal history has said before each entry.
-use Rattle.std.proofs.Common.{◌≡◌, ℕ, Bool, true, false, cond, List, [], ◌∷◌, ◌++◌, Option, Some, None, zero, suc}
+use Rattle.std.proofs.Common.{◌≡◌, ℕ, Bool, true, false, cond, List, [], ◌∷◌, ◌++◌, Some, None, zero, suc}
 use Rattle.std.proofs.Common.{refl, sym, subst, ap, take, append_assoc, eqb-true}
 use Rattle.std.specs.Prelude.{slice_get, IsSome, is_some, ◌==◌, ◌||◌}
 use Rattle.std.specs.List.{list_any}
 use Rattle.std.proofs.lemmas.List.{append-nil}
 use Rattle.std.proofs.lemmas.Bool.{true≢false}
+use Rattle.std.proofs.lemmas.Option.{none-some, same_Some}
 use Rattle.sh_history.specs.declared.entry.Entry.{Entry}
 use Rattle.sh_history.specs.declared.entry.Entry.TheVariants.{Insert, Got, Gone, Crowded, Removed, Released}
 use Rattle.sh_history.specs.History.{Allowed, LegalAfter, Legal, value_of, is_removed, is_removal_of}
@@ -12,12 +13,11 @@ use Rattle.history_audit.specs.Lines.{is_insert_of}
 use Rattle.history_timed.specs.declared.call.Said.{Said}
 use Rattle.history_timed.specs.declared.call.Said.TheVariants.{Known, Unread}
 use Rattle.history_timed.specs.Calls.{MayBe, inserts, uses, removes}
-use Rattle.history_timed.proofs.ListLemmas.{none_is, some_is}
 
 -- the value of a key comes from an insert at some place
 pub value_at : (xs : List Entry) (key : ℕ) (value : List ℕ) → value_of xs key ≡ Some value
     → (i : ℕ) × (pass : ℕ) × (slice_get xs i ≡ Some (Insert pass key value))
-value_at [] key value is = absurd (none_is value is)
+value_at [] key value is = absurd (none-some value is)
 value_at (Insert pass k v ∷ xs) key value is = go (k == key) refl (value_at xs key value) is where
   go : (b : Bool) → (k == key) ≡ b
       → (value_of xs key ≡ Some value → (i : ℕ) × (by : ℕ) × (slice_get xs i ≡ Some (Insert by key value)))
@@ -25,7 +25,7 @@ value_at (Insert pass k v ∷ xs) key value is = go (k == key) refl (value_at xs
       → (i : ℕ) × (by : ℕ) × (slice_get (Insert pass k v ∷ xs) i ≡ Some (Insert by key value))
   go true here later is =
       let same : k ≡ key = eqb-true k key here in
-      let with : v ≡ value = some_is v value is in
+      let with : v ≡ value = same_Some v value is in
       (0, pass, rw (same, with) refl)
   go false other later is = let r = later is in (suc r.0, r.1, r.2)
 value_at (Got p k v ∷ xs) key value is = let r = value_at xs key value is in (suc r.0, r.1, r.2)
@@ -40,7 +40,7 @@ none_inserted [] key is = refl
 none_inserted (Insert p k v ∷ xs) key is = go (k == key) (none_inserted xs key) is where
   go : (b : Bool) → (value_of xs key ≡ None → list_any (is_insert_of key) xs ≡ false)
       → cond b (Some v) (value_of xs key) ≡ None → (b || list_any (is_insert_of key) xs) ≡ false
-  go true later is = absurd (none_is v (sym is))
+  go true later is = absurd (none-some v (sym is))
   go false later is = later is
 none_inserted (Got p k v ∷ xs) key is = none_inserted xs key is
 none_inserted (Gone p k ∷ xs) key is = none_inserted xs key is
@@ -48,17 +48,12 @@ none_inserted (Crowded p k ∷ xs) key is = none_inserted xs key is
 none_inserted (Removed p k ∷ xs) key is = none_inserted xs key is
 none_inserted (Released p k ∷ xs) key is = none_inserted xs key is
 
--- a key that has a value, as one
-pub some_value : (o : Option (List ℕ)) → IsSome o → (v : List ℕ) × (o ≡ Some v)
-some_value None is = absurd (true≢false (sym is))
-some_value (Some v) is = (v, refl)
-
 module _ (passes guard_max : ℕ) where
   allowed_after : (before xs : List Entry) (i : ℕ) (e : Entry) → LegalAfter passes guard_max before xs
       → slice_get xs i ≡ Some e → Allowed passes guard_max (before ++ take i xs) e
-  allowed_after before [] i e legal is = absurd (none_is e is)
+  allowed_after before [] i e legal is = absurd (none-some e is)
   allowed_after before (x ∷ xs) zero e legal is =
-      subst (λ (y : Entry). Allowed passes guard_max (before ++ []) y) (some_is x e is)
+      subst (λ (y : Entry). Allowed passes guard_max (before ++ []) y) (same_Some x e is)
       (rw append-nil legal.0)
   allowed_after before (x ∷ xs) (suc i) e legal is =
       rw (append_assoc before (x ∷ []) (take i xs)) at (allowed_after (before ++ x ∷ []) xs i e legal.1 is)

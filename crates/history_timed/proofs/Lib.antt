@@ -4,5 +4,4 @@ pub mod PlaceLemmas
 pub mod CountLemmas
 pub mod RefusalLemmas
 pub mod OrderLemmas
-pub mod PointLemmas
 pub mod JudgingLemmas

@@ -1,16 +1,10 @@
 -- Lists, place by place.
-use Rattle.std.proofs.Common.{◌≡◌, ℕ, ◌<◌, Bool, true, false, List, [], ◌∷◌, Some, None, zero, suc, refl}
+use Rattle.std.proofs.Common.{◌≡◌, ℕ, ◌<◌, Bool, true, false, List, [], ◌∷◌, Some, zero, suc, refl}
 use Rattle.std.proofs.Common.{sym, subst, arith, take, length, inl, inr}
 use Rattle.std.specs.Prelude.{slice_get, ◌||◌, ◌&&◌, ◌⊎◌, not}
 use Rattle.std.specs.List.{AllZip, Contains, list_any, list_all}
 use Rattle.std.proofs.lemmas.Bool.{true≢false}
-use Rattle.std.proofs.lemmas.Option.{slice_get_read, slice_get_within, get_or_from_slice_get}
-
-pub some_is : {X : Type 0} (x y : X) → Some x ≡ Some y → x ≡ y
-some_is x y e = cc
-
-pub none_is : {X : Type 0} (x : X) → None ≡ Some x → ⊥
-none_is x e = cc
+use Rattle.std.proofs.lemmas.Option.{slice_get_read, slice_get_within, get_or_from_slice_get, none-some, same_Some}
 
 -- an element of a list has a place, and one at a place is an element
 pub at_place : {X : Type 0} (xs : List X) (x : X) → Contains xs x → (i : ℕ) × (slice_get xs i ≡ Some x)
@@ -23,31 +17,31 @@ contained xs i x is = (i, slice_get_within xs i x is, get_or_from_slice_get xs i
 module _ {X Y : Type 0} (R : X → Y → Type 0) where
   pub zip_at : (xs : List X) (ys : List Y) (i : ℕ) (x : X) → AllZip R xs ys → slice_get xs i ≡ Some x
       → (y : Y) × (slice_get ys i ≡ Some y) × R x y
-  zip_at [] ys i x z is = absurd (none_is x is)
+  zip_at [] ys i x z is = absurd (none-some x is)
   zip_at (a ∷ xs) [] i x z is = absurd z
-  zip_at (a ∷ xs) (b ∷ ys) zero x z is = (b, refl, subst (λ (o : X). R o b) (some_is a x is) z.0)
+  zip_at (a ∷ xs) (b ∷ ys) zero x z is = (b, refl, subst (λ (o : X). R o b) (same_Some a x is) z.0)
   zip_at (a ∷ xs) (b ∷ ys) (suc i) x z is = zip_at xs ys i x z.1 is
 
   pub zip_back : (xs : List X) (ys : List Y) (i : ℕ) (y : Y) → AllZip R xs ys → slice_get ys i ≡ Some y
       → (x : X) × (slice_get xs i ≡ Some x) × R x y
-  zip_back xs [] i y z is = absurd (none_is y is)
+  zip_back xs [] i y z is = absurd (none-some y is)
   zip_back [] (b ∷ ys) i y z is = absurd z
-  zip_back (a ∷ xs) (b ∷ ys) zero y z is = (a, refl, subst (λ (o : Y). R a o) (some_is b y is) z.0)
+  zip_back (a ∷ xs) (b ∷ ys) zero y z is = (a, refl, subst (λ (o : Y). R a o) (same_Some b y is) z.0)
   zip_back (a ∷ xs) (b ∷ ys) (suc i) y z is = zip_back xs ys i y z.1 is
 
 -- the front of a list
 pub in_front : {X : Type 0} (xs : List X) (i l : ℕ) (x : X) → l < i → slice_get xs l ≡ Some x
     → slice_get (take i xs) l ≡ Some x
-in_front [] i l x below is = absurd (none_is x is)
+in_front [] i l x below is = absurd (none-some x is)
 in_front (a ∷ xs) zero l x below is = absurd (omega arith)
 in_front (a ∷ xs) (suc i) zero x below is = is
 in_front (a ∷ xs) (suc i) (suc l) x below is = in_front xs i l x (omega arith) is
 
 pub from_front : {X : Type 0} (xs : List X) (i l : ℕ) (x : X) → slice_get (take i xs) l ≡ Some x
     → (l < i) × (slice_get xs l ≡ Some x)
-from_front [] zero l x is = absurd (none_is x is)
-from_front [] (suc i) l x is = absurd (none_is x is)
-from_front (a ∷ xs) zero l x is = absurd (none_is x is)
+from_front [] zero l x is = absurd (none-some x is)
+from_front [] (suc i) l x is = absurd (none-some x is)
+from_front (a ∷ xs) zero l x is = absurd (none-some x is)
 from_front (a ∷ xs) (suc i) zero x is = (omega arith, is)
 from_front (a ∷ xs) (suc i) (suc l) x is = let r = from_front xs i l x is in (omega (arith, r.0), r.1)
 
@@ -64,9 +58,9 @@ module _ {X : Type 0} (test : X → Bool) where
     go false is later some = let r = later some in (suc r.0, r.1, r.2, r.3)
 
   pub any_from : (xs : List X) (i : ℕ) (x : X) → slice_get xs i ≡ Some x → test x ≡ true → list_any test xs ≡ true
-  any_from [] i x is passes = absurd (none_is x is)
+  any_from [] i x is passes = absurd (none-some x is)
   any_from (a ∷ xs) zero x is passes =
-      go (test a) (subst (λ (o : X). test o ≡ true) (sym (some_is a x is)) passes) where
+      go (test a) (subst (λ (o : X). test o ≡ true) (sym (same_Some a x is)) passes) where
         go : (b : Bool) → b ≡ true → (b || list_any test xs) ≡ true
         go true e = refl
         go false e = absurd (true≢false (sym e))
@@ -76,8 +70,8 @@ module _ {X : Type 0} (test : X → Bool) where
     go false e = e
 
   pub all_at : (xs : List X) (i : ℕ) (x : X) → list_all test xs ≡ true → slice_get xs i ≡ Some x → test x ≡ true
-  all_at [] i x all is = absurd (none_is x is)
-  all_at (a ∷ xs) zero x all is = subst (λ (o : X). test o ≡ true) (some_is a x is) (go (test a) all) where
+  all_at [] i x all is = absurd (none-some x is)
+  all_at (a ∷ xs) zero x all is = subst (λ (o : X). test o ≡ true) (same_Some a x is) (go (test a) all) where
     go : (b : Bool) → (b && list_all test xs) ≡ true → b ≡ true
     go true e = refl
     go false e = absurd (true≢false (sym e))
@@ -98,7 +92,3 @@ or_cases false b e = inr e
 pub not_first : (a b : Bool) → (not a || b) ≡ true → a ≡ true → b ≡ true
 not_first true b e is = e
 not_first false b e is = absurd (true≢false (sym is))
-
-pub both : (a b : Bool) → (a && b) ≡ true → (a ≡ true) × (b ≡ true)
-both true b e = (refl, e)
-both false b e = absurd (true≢false (sym e))

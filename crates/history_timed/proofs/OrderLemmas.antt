@@ -1,7 +1,7 @@
 -- Placed calls are an order that keeps to the times.
-use Rattle.std.proofs.Common.{◌≡◌, ◌∙◌, ℕ, ◌+◌, ◌<◌, ◌≤◌, Bool, true, false, List, [], ◌∷◌, ◌++◌, Option, Some, None}
+use Rattle.std.proofs.Common.{◌≡◌, ◌∙◌, ℕ, ◌+◌, ◌<◌, ◌≤◌, true, false, List, [], ◌∷◌, ◌++◌, Option, Some, None}
 use Rattle.std.proofs.Common.{zero, suc}
-use Rattle.std.proofs.Common.{refl, sym, subst, ap, map, take, length, get_or, append_assoc, inl, inr, arith}
+use Rattle.std.proofs.Common.{refl, sym, subst, ap, map, take, length, get_or, append_assoc, arith}
 use Rattle.std.specs.Prelude.{slice_get, nat_lt, IfSome}
 use Rattle.std.specs.List.{All}
 use Rattle.std.specs.List.Sorted.{IsPermutation, IsNonDecreasingBy, IsSortedByKey}
@@ -9,16 +9,15 @@ use Rattle.std.specs.Ordering.{is_lt}
 use Rattle.std.specs.declared.cmp.Ordering.{Ordering}
 use Rattle.std.specs.Cmp.{IsTotalOrder}
 use Rattle.std.specs.Fn.{Called, ComputesKey}
-use Rattle.std.proofs.lemmas.Bool.{true≢false}
-use Rattle.std.proofs.lemmas.Bool.Decides.{leb_tells, nat_tests}
+use Rattle.std.proofs.lemmas.Bool.Decides.{nat_tests}
 use Rattle.std.proofs.lemmas.Fn.{always_returns_same}
 use Rattle.std.proofs.lemmas.List.{take_more, take_all, map-append}
 use Rattle.std.proofs.lemmas.List.Elements.{All-nil, All-cons, All-push, All-get_or}
-use Rattle.std.proofs.lemmas.List.Sorted.{sorted_far, ranks_by, IsPermutation-refl, IsPermutation-sym}
+use Rattle.std.proofs.lemmas.List.Sorted.{IsPermutation-refl, IsPermutation-sym}
 use Rattle.std.proofs.lemmas.List.Sorted.{IsPermutation-trans}
 use Rattle.std.proofs.lemmas.List.Sorted.{IsPermutation-push_more, IsPermutation-middle, IsPermutation-append_left}
 use Rattle.std.proofs.lemmas.List.Sorted.{IsPermutation-map, All-permutation}
-use Rattle.std.proofs.lemmas.Option.{slice_get_within, get_or_from_slice_get}
+use Rattle.std.proofs.lemmas.Option.{slice_get_within, get_or_from_slice_get, none-some, same_Some}
 use denote.Ref.{Bor}
 use denote.Param.Members.{Mut}
 use Rattle.history_timed.specs.declared.call.Call.{Call}
@@ -27,7 +26,7 @@ use Rattle.history_timed.specs.declared.order.Placed.{Placed}
 use Rattle.history_timed.specs.Times.{Times, IsWithin, is_below, is_ended, ends_before}
 use Rattle.history_timed.specs.Orders.{IsOrder, KeepsTimes}
 use Rattle.history_timed.specs.Placing.{call_of, ArePlaced}
-use Rattle.history_timed.proofs.ListLemmas.{none_is, some_is}
+use Rattle.sh_history.proofs.Rising.{rises_by_key}
 
 -- the first calls are placed or left out
 pub record HasPlaced (calls : List Call) (n : ℕ) (placed : List Placed) : Type 0 where
@@ -95,8 +94,8 @@ not_before a b m n first last up = go b.end last.not_ended where
 
 map_at : {X Y : Type 0} (f : X → Y) (xs : List X) (i : ℕ) (y : Y) → slice_get (map f xs) i ≡ Some y
     → (x : X) × (slice_get xs i ≡ Some x) × (f x ≡ y)
-map_at f [] i y is = absurd (none_is y is)
-map_at f (x ∷ xs) zero y is = (x, refl, some_is (f x) y is)
+map_at f [] i y is = absurd (none-some y is)
+map_at f (x ∷ xs) zero y is = (x, refl, same_Some (f x) y is)
 map_at f (x ∷ xs) (suc i) y is = map_at f xs i y is
 
 times_kept : (placed : List Placed) → ArePlaced placed
@@ -131,18 +130,6 @@ order_of calls n placed sorted all so_far shuffled rises = record {
   keeps_times = times_kept sorted
       (All-permutation (λ (p : Placed). IsWithin p.call.now.times p.point.moment) _ _ shuffled so_far.within) rises;
 }
-
-not_above : (a b : ℕ) (t : Bool) → t ≡ false → (a < b → t ≡ true) → b ≤ a
-not_above a b t off on =
-    elim (leb_tells b a) [ inl h ↦ h.1 | inr h ↦ absurd (true≢false (sym (on h.1) ∙ off)) ]
-
--- if a list is sorted by an order that sees each fall of a number, that number does not fall along the list
-rises_by_key : {X K : Type 0} (key : X → K) (n : X → ℕ) (R : K → K → Ordering) → IsTotalOrder R
-    → ((x y : X) → n y < n x → is_lt (R (key y) (key x)) ≡ true) → (xs : List X) → IsSortedByKey key R xs
-    → IsNonDecreasingBy n xs
-rises_by_key key n R o falls xs sorted = λ i j d up below.
-    let far = sorted_far (λ x y. is_lt (R (key x) (key y))) (ranks_by o key) xs sorted i j d up below in
-    not_above (n (get_or xs j d)) (n (get_or xs i d)) _ far (falls (get_or xs i d) (get_or xs j d))
 
 -- the same of a sort of placed calls by their points
 pub rises_from_sort : {F : Type 0} {g : Mut F (Bor Placed × Unit {0}) Point} {f : F} (R : Point → Point → Ordering)

@@ -10,6 +10,7 @@ use Rattle.std.proofs.lemmas.List.Sorted.{IsPermutation-sym, Contains-permutatio
 use Rattle.sh_history.specs.declared.entry.Entry.{Entry}
 use Rattle.sh_history.specs.declared.entry.Entry.TheVariants.{Insert}
 use Rattle.sh_history.specs.History.{Allowed, value_of, is_removed, is_removal_of}
+use Rattle.sh_history.proofs.Laws.{some_value}
 use Rattle.history_audit.specs.Lines.{is_insert_of}
 use Rattle.history_timed.specs.declared.call.Call.{Call}
 use Rattle.history_timed.specs.Calls.{MayBe, inserts, uses, removes, finds}
@@ -18,7 +19,7 @@ use Rattle.history_timed.specs.Orders.{IsOrder, IsLegalOrder}
 use Rattle.history_timed.proofs.ListLemmas.{at_place, contained, zip_at, zip_back, in_front, from_front, any_at}
 use Rattle.history_timed.proofs.ListLemmas.{any_from}
 use Rattle.history_timed.proofs.ListLemmas.{or_cases}
-use Rattle.history_timed.proofs.HistoryLemmas.{value_at, none_inserted, some_value, allowed_at, uses_present}
+use Rattle.history_timed.proofs.HistoryLemmas.{value_at, none_inserted, allowed_at, uses_present}
 use Rattle.history_timed.proofs.HistoryLemmas.{removes_present, insert_said, removal_said, said_removal}
 
 -- a call of an order is one of the calls

@@ -3,7 +3,7 @@ use Rattle.std.proofs.Common.{◌≡◌, ◌≢◌, ◌∙◌, ℕ, ◌<◌, ◌
 use Rattle.std.proofs.Common.{take, inl, inr, arith, rules}
 use Rattle.std.specs.Prelude.{slice_get, is_some, ◌⊎◌, not}
 use Rattle.std.specs.List.{Contains}
-use Rattle.std.proofs.lemmas.Bool.{true≢false}
+use Rattle.std.proofs.lemmas.Bool.{true≢false, and_parts}
 use Rattle.std.proofs.lemmas.Bool.Decides.{leb_tells}
 use Rattle.sh_history.specs.declared.checker.Why.{Why}
 use Rattle.sh_history.specs.declared.checker.Why.TheVariants.{NotNew, NotIssued, OtherValue, AfterRemoval, StillThere}
@@ -11,6 +11,7 @@ use Rattle.sh_history.specs.declared.checker.Why.TheVariants.{NotCrowded, NotHel
 use Rattle.sh_history.specs.declared.entry.Entry.{Entry}
 use Rattle.sh_history.specs.declared.entry.Entry.TheVariants.{Insert, Got, Gone, Crowded, Released}
 use Rattle.sh_history.specs.History.{Allowed, is_removed, holds_by, is_got_by, is_got_of, is_release_by, is_release_of}
+use Rattle.sh_history.proofs.Laws.{some_value}
 use Rattle.history_timed.specs.declared.call.Call.{Call}
 use Rattle.history_timed.specs.declared.call.Said.{Said}
 use Rattle.history_timed.specs.declared.call.Said.TheVariants.{Known, Unread}
@@ -20,8 +21,8 @@ use Rattle.history_timed.specs.Orders.{IsLegalOrder, HasLegalOrder}
 use Rattle.history_timed.specs.Clashes.{AtLine, IsInsertedTwice, IsNeverIssued, HasNoSuchInsert, IsUsedLate}
 use Rattle.history_timed.specs.Clashes.{IsRemovedTwice, IsNotGone, IsHeldByNone, IsUncrowded, ClashesOn, IsClash}
 use Rattle.history_timed.specs.Clashes.{inserts_value, StaysThere}
-use Rattle.history_timed.proofs.ListLemmas.{any_at, all_holds, contained, not_first, both}
-use Rattle.history_timed.proofs.HistoryLemmas.{some_value, inserts_new, uses_present, removes_present}
+use Rattle.history_timed.proofs.ListLemmas.{any_at, all_holds, contained, not_first}
+use Rattle.history_timed.proofs.HistoryLemmas.{inserts_new, uses_present, removes_present}
 use Rattle.history_timed.proofs.PlaceLemmas.{Here, here, place_of, is_call, earlier, inserted_by, removed_by, inserter}
 use Rattle.history_timed.proofs.PlaceLemmas.{remover, needs_value, found_by}
 use Rattle.history_timed.proofs.CountLemmas.{most_is_most, least_is_least, got_by_said, got_said, released_by_said}
@@ -130,8 +131,8 @@ module _ (passes guard_max : ℕ) (calls ordered : List Call) (history : List En
   stays_there (inr used) removed =
       let x = remover passes guard_max calls ordered history o i key removed in
       let y = any_at _ calls used in
-      let used_then = both _ _ y.3 in
-      let times = both _ _ used_then.1 in
+      let used_then = and_parts _ _ y.3 in
+      let times = and_parts _ _ used_then.1 in
       let j = place_of passes guard_max calls ordered history o y.1 (contained calls y.0 y.1 y.2) times.1 in
       let after = earlier passes guard_max calls ordered history o j.0 i y.1 c j.1.call_here at.call_here times.0 in
       let first = x.2 in

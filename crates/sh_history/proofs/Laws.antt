@@ -1,8 +1,10 @@
 -- Laws of legal histories.
 use Rattle.std.proofs.Common.{◌≡◌, ◌≢◌, ℕ, ◌+◌, ◌<◌, true, false, List, [], ◌∷◌, ◌++◌, append_assoc, arith, rules, inl}
-use Rattle.std.proofs.Common.{inr, length, get_or, take, drop}
+use Rattle.std.proofs.Common.{inr, length, get_or, take, drop, refl, sym, Option, Some, None}
+use Rattle.std.specs.Prelude.{IsSome}
 use Rattle.std.specs.Cmp.Lexicographic.{pointwise}
 use lib.Dec.{eqb}
+use Rattle.std.proofs.lemmas.Bool.{true≢false}
 use Rattle.std.proofs.lemmas.List.{append-nil, take_more, take-append-drop}
 use Rattle.std.proofs.lemmas.Slice.Eq.{bytes_eq-Decides}
 use Rattle.sh_history.specs.declared.entry.Entry.{Entry}
@@ -19,6 +21,11 @@ same_words xs ys h = (bytes_eq-Decides xs ys).0 h
 
 pub other_words : (xs ys : List ℕ) → pointwise eqb xs ys ≡ false → xs ≢ ys
 other_words xs ys h e = let t = (bytes_eq-Decides xs ys).1 e in cc
+
+-- the value that there is
+pub some_value : (o : Option (List ℕ)) → IsSome o → (v : List ℕ) × (o ≡ Some v)
+some_value None is = absurd (true≢false (sym is))
+some_value (Some v) is = (v, refl)
 
 module _ (passes guard_max : ℕ) where
   -- a legal list with one more entry that may follow

@@ -1,21 +1,19 @@
 -- Placed lines in the order of their points are a history that keeps to the times of the calls.
-use Rattle.std.proofs.Common.{◌≡◌, ℕ, ◌<◌, ◌≤◌, Bool, true, false, inl, inr, List, [], ◌∷◌, length, get_or, map, refl}
-use Rattle.std.proofs.Common.{sym, subst, ◌∙◌, arith}
+use Rattle.std.proofs.Common.{◌≡◌, ℕ, ◌<◌, ◌≤◌, true, List, [], ◌∷◌, length, get_or, map, refl}
+use Rattle.std.proofs.Common.{sym, subst, arith}
 use Rattle.std.proofs.lemmas.List.{get_or-map, length-map}
 use Rattle.std.proofs.lemmas.List.Elements.{All-get_or}
-use Rattle.std.proofs.lemmas.Bool.{true≢false}
-use Rattle.std.proofs.lemmas.Bool.Decides.{leb_tells}
 use Rattle.std.specs.List.{All, AllZip}
 use Rattle.std.specs.List.Sorted.{IsSortedByKey, IsNonDecreasingBy}
 use Rattle.std.specs.Ordering.{is_lt}
 use Rattle.std.specs.declared.cmp.Ordering.{Ordering}
 use Rattle.std.specs.Cmp.{IsTotalOrder}
-use Rattle.std.proofs.lemmas.List.Sorted.{sorted_far, ranks_by}
 use Rattle.std.specs.Fn.{Called, ComputesKey}
 use Rattle.std.proofs.lemmas.Fn.{always_returns_same}
 use denote.Ref.{Bor}
 use denote.Param.Members.{Mut}
 use Rattle.sh_history.specs.declared.entry.Entry.{Entry}
+use Rattle.sh_history.proofs.Rising.{rises_by_key}
 use Rattle.tool_judge.specs.declared.judge.Placed.{Placed}
 use Rattle.tool_judge.specs.declared.line.Line.{Line}
 use Rattle.tool_judge.specs.declared.point.Point.{Point}
@@ -23,18 +21,6 @@ use Rattle.tool_judge.specs.Points.{time, IsWithin}
 use Rattle.tool_judge.specs.Histories.{IsEntryOf, IsHistoryOf}
 use Rattle.tool_judge.specs.Marks.{MarksAreRemoved}
 use Rattle.tool_judge.specs.Orders.{line_of, IsInOrder, entry_of_placed}
-
-not_above : (a b : ℕ) (t : Bool) → t ≡ false → (a < b → t ≡ true) → b ≤ a
-not_above a b t off on =
-    elim (leb_tells b a) [ inl h ↦ h.1 | inr h ↦ absurd (true≢false (sym (on h.1) ∙ off)) ]
-
--- if a list is sorted by an order that sees each fall of a number, that number does not fall along the list
-pub rises_by_key : {X K : Type 0} (key : X → K) (n : X → ℕ) (R : K → K → Ordering) → IsTotalOrder R
-    → ((x y : X) → n y < n x → is_lt (R (key y) (key x)) ≡ true) → (xs : List X) → IsSortedByKey key R xs
-    → IsNonDecreasingBy n xs
-rises_by_key key n R o falls xs sorted = λ i j d up below.
-    let far = sorted_far (λ x y. is_lt (R (key x) (key y))) (ranks_by o key) xs sorted i j d up below in
-    not_above (n (get_or xs j d)) (n (get_or xs i d)) _ far (falls (get_or xs i d) (get_or xs j d))
 
 -- the same of a sort of placed lines by their points
 pub rises_from_sort : {F : Type 0} {g : Mut F (Bor Placed × Unit {0}) Point} {f : F} (R : Point → Point → Ordering)

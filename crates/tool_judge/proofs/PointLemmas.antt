@@ -3,21 +3,15 @@ use Rattle.std.proofs.Common.{◌≡◌, ℕ, ◌+◌, ◌*◌, ◌<◌, ◌≤�
 use Rattle.std.proofs.lemmas.Bool.Decides.{nat_tests, leb_tells}
 use Rattle.std.specs.Ordering.{is_lt, nat_cmp, ordering_then}
 use Rattle.std.specs.declared.cmp.Ordering.{Ordering}
-use Rattle.std.specs.declared.cmp.Ordering.TheVariants.{Less, Equal}
+use Rattle.std.specs.declared.cmp.Ordering.TheVariants.{Equal}
 use Rattle.tool_judge.specs.declared.point.Edge.{Edge}
 use Rattle.tool_judge.specs.declared.point.Edge.TheVariants.{Before, After}
 use Rattle.tool_judge.specs.declared.point.Rank.{Rank}
 use Rattle.tool_judge.specs.declared.point.Point.{Point}
 use Rattle.tool_judge.specs.Points.{edge_number, time}
 
-is_less : (m n : ℕ) → m < n → nat_cmp m n ≡ Less
-is_less m n h = grind (arith, nat_tests)
-
 is_same : (m n : ℕ) → m ≡ n → nat_cmp m n ≡ Equal
 is_same m n h = grind (arith, nat_tests)
-
-pub first_less : (m n : ℕ) (o : Ordering) → m < n → is_lt (ordering_then (nat_cmp m n) o) ≡ true
-first_less m n o h = rw (is_less m n h) refl
 
 pub equal_then : (m : ℕ) (o : Ordering) → is_lt (ordering_then (nat_cmp m m) o) ≡ is_lt o
 equal_then m o = rw (is_same m m refl) refl

@@ -1,7 +1,7 @@
 use Rattle.std.proofs.Common.{rules, refl}
 use Rattle.history_timed.specs.contracts.moment.PointOrd.TheImpl.Laws.{total-law}
 use Rattle.history_timed.proofs.OrderLemmas.{one_placed, one_left_out, order_of, rises_from_sort}
-use Rattle.history_timed.proofs.PointLemmas.{first_less}
+use Rattle.sh_history.proofs.Rising.{first_less}
 use Rattle.history_timed.proofs.order.in_order.Goals.{in-Some+in_ok-push, in_default}
 use Rattle.history_timed.proofs.order.in_order.Goals as goal
 

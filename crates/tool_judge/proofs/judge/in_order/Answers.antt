@@ -8,8 +8,9 @@ use Rattle.tool_judge.specs.declared.line.Line.{Line}
 use Rattle.tool_judge.specs.Points.{IsWithin}
 use Rattle.tool_judge.specs.Orders.{line_of}
 use Rattle.tool_judge.proofs.OrderLemmas.{rises_from_sort}
-use Rattle.tool_judge.proofs.PointLemmas.{falls_in_time, first_less, equal_then}
+use Rattle.tool_judge.proofs.PointLemmas.{falls_in_time, equal_then}
 use Rattle.tool_judge.proofs.judge.in_order.Goals as goal
+use Rattle.sh_history.proofs.Rising.{first_less}
 
 pub returns : goal.returns
 returns c =
