@@ -1,6 +1,7 @@
 -- What a gathered pass knows, of every list of events that leads to it.
 use Rattle.std.proofs.Common.{◌≡◌, ◌≢◌, ℕ, ◌<◌, ◌||◌, true, false, List, [], ◌∷◌, ◌++◌, length, sym, ap, ◌∙◌, subst}
 use Rattle.std.proofs.Common.{ne_eqb, arith, Some, None, slice_get}
+use Rattle.std.proofs.lemmas.Option.{slice_get_within}
 use mathlib.Core.Logic.{dite}
 use native.Mathlib.Decide.{ℕ_discrete}
 use Rattle.sh_key.specs.Layout.{Layout}
@@ -20,7 +21,7 @@ use Rattle.sh_table.specs.declared.view.View.{View}
 use Rattle.sh_table.specs.Views.{Each, names, names_told}
 use Rattle.sh_table.specs.Whole.{Known, noting}
 use Rattle.sh_table.specs.Reached.{HasOwn, PlansAreLawful}
-use Rattle.sh_table.proofs.Zips.{each_map, got_inside}
+use Rattle.sh_table.proofs.Zips.{each_map}
 use Rattle.sh_gather.specs.PageKeys.{page_keys}
 use Rattle.sh_gather.specs.Histories.{LeadsHere, CanBe}
 use Rattle.sh_gather.specs.Walks.{IsWholeStack}
@@ -102,7 +103,7 @@ module _ (layout : Layout) (v : View) (core : Core) (gathered : IsGathered v) (k
       (subst (λ (b : ℕ). slice_get (run plan es).parts b ≡ Some v.own.body) i h.own.body)
       (gathered.idle, gathered.left))
       (λ (ne : v.pass ≢ a).
-      let low = got_inside (run plan es).parts a p at in
+      let low = slice_get_within (run plan es).parts a p at in
       let same = (refined es).passes in
       let named : names v a ≡ true = gathered.whole a (let z : a < plan.passes = omega arith in z) in
       idle_told plan es a p v.told h.told idle_tale at (sym (ap (λ b. b || names_told a v.told) (ne_eqb v.pass a ne))

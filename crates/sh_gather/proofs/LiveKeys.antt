@@ -17,6 +17,7 @@ use Rattle.sh_word.specs.Fields.{Fields, fields_of}
 use Rattle.sh_core.specs.Lists.{PutLists, lists_of, state_of}
 use Rattle.sh_core.specs.Stacks.{slot_ref}
 use Rattle.sh_core.specs.Worlds.{World, run}
+use Rattle.sh_core.proofs.Sums.Tests.{if1_none, if1_one}
 use Rattle.sh_table.specs.declared.view.View.{View}
 use Rattle.sh_table.specs.Whole.{IsWhole, Known, noting}
 use Rattle.sh_pass.specs.Passes.{Caller, IsAtRest}
@@ -31,17 +32,9 @@ use Rattle.sh_gather.proofs.Leading.{Core, leads_before, leading, laws, refined,
 use Rattle.sh_gather.proofs.PageKeys.{range, live_now, live_other}
 use Rattle.sh_gather.proofs.Walking.{note_gathered}
 
-one_is : (b : Bool) → if1 b ≡ 1 → b ≡ true
-one_is true e = refl
-one_is false e = absurd (omega arith)
-
-none_is : (b : Bool) → if1 b ≡ 0 → b ≡ false
-none_is true e = absurd (omega arith)
-none_is false e = refl
-
 same_if1 : (b c : Bool) → if1 b ≡ if1 c → b ≡ c
-same_if1 true c e = sym (one_is c (sym e))
-same_if1 false c e = sym (none_is c (sym e))
+same_if1 true c e = sym (if1_one c (sym e))
+same_if1 false c e = sym (if1_none c (sym e))
 
 -- a view that noted the state word of a slot, whose fields these are
 module _ (layout : Layout) (v : View) (q s word : ℕ) (core : Core) (gathered : IsGathered (noting v (State q s) word))
@@ -107,7 +100,7 @@ module _ (layout : Layout) (v : View) (q s word : ℕ) (core : Core) (gathered :
       (λ (f : Fields). n.generation ≢ f.generation) (sym here) ne in
       let at = live_other the_plan w l law (refined layout u core gathered known first.0)
       (rests layout u core gathered known first.0 first.1) (slot_ref q s) page slot n.generation (law.begins k n e) top
-      apart in none_is (is_live_key w.log k)
+      apart in if1_none (is_live_key w.log k)
       (ap (λ (j : ℕ). if1 (is_live_key w.log j)) (keyed k n e is_page is_slot) ∙ at)
 
   -- if the word says so, no key of the slot is live

@@ -1,5 +1,5 @@
 -- What the log says of a slot's keys is what its state word says, if no pass has anything in hand or of its own.
-use Rattle.std.proofs.Common.{◌≡◌, ◌≢◌, ℕ, zero, suc, ◌<◌, ◌≤◌, ◌==◌, ◌&&◌, ◌||◌, Bool, true, false, List, [], ◌∷◌, sym}
+use Rattle.std.proofs.Common.{◌≡◌, ◌≢◌, ℕ, zero, suc, ◌<◌, ◌≤◌, ◌==◌, ◌&&◌, ◌||◌, Bool, true, false, List, sym}
 use Rattle.std.proofs.Common.{refl, ap, ◌∙◌, arith, Option, Some, None, slice_get, eqb-true}
 use Rattle.std.specs.Prelude.{not, nat_lt, IsSome, is_some}
 use Rattle.std.proofs.lemmas.Bool.Decides.{nat_tests}
@@ -14,23 +14,19 @@ use Rattle.sh_slots.specs.Slots.{same_slot, slot_ref_of, name_at}
 use Rattle.sh_step.specs.declared.body.Body.{Body}
 use Rattle.sh_step.specs.Collections.{total, if1}
 use Rattle.sh_step.specs.Plans.{Plan, Lawful, heap_pages}
+use Rattle.sh_step.proofs.Truths.{lt_of}
 use Rattle.sh_core.specs.Lists.{PutLists, times, state_of}
 use Rattle.sh_core.specs.Refines.{Refines, KeyTold, holds_now}
 use Rattle.sh_core.specs.Tallies.{visits, finishing, at_slot, current}
 use Rattle.sh_core.specs.Worlds.{World, value_at}
 use Rattle.sh_core.proofs.Slots.Slots.{same_slot-true}
 use Rattle.sh_core.proofs.Sums.Totals.{total_le}
+use Rattle.sh_core.proofs.Quiet.{none_of}
 use Rattle.sh_gather.specs.PageKeys.{keys_of_slot, is_last_key, is_live_key, is_marked_key, is_retired_key}
 
 -- all passes are idle and own nothing
 abbrev pub AllRest : World → Type 0
 AllRest w = (a : ℕ) (p : Body) → slice_get w.parts a ≡ Some p → (p.hand ≡ Idle) × (p.owned ≡ None)
-
-pub total_zero : (f : Body → ℕ) (ps : List Body) → ((a : ℕ) (p : Body) → slice_get ps a ≡ Some p → f p ≡ 0) → total f ps
-    ≡ 0
-unfolding total
-total_zero f [] h = refl
-total_zero f (p ∷ ps) h = let here = h 0 p refl in let rest = total_zero f ps (λ a q e. h (suc a) q e) in omega arith
 
 -- ---- sums over the keys of a slot, if all but one generation give 0
 
@@ -56,6 +52,9 @@ some_is : (o : Option (List ℕ)) → IsSome o → is_some o ≡ true
 some_is (Some v) s = refl
 some_is None s = absurd (let z : false ≡ true = s in cc)
 
+pub not_0 : (n : ℕ) → 0 < n → (n == 0) ≡ false
+not_0 n some = grind (arith, nat_tests)
+
 none_is : (o : Option (List ℕ)) → o ≡ None → is_some o ≡ false
 none_is o e = ap is_some e
 
@@ -65,17 +64,11 @@ value_is o v e = ap is_some e
 positive : (n : ℕ) → 0 < n → nat_lt 0 n ≡ true
 positive n h = grind (arith, nat_tests)
 
-is_zero : (n : ℕ) → 0 < n → (n == 0) ≡ false
-is_zero n h = grind (arith, nat_tests)
-
 same_is : (a b : ℕ) → a ≡ b → (a == b) ≡ true
 same_is a b e = grind (arith, nat_tests)
 
 apart_is : (a b : ℕ) → a ≢ b → (a == b) ≡ false
 apart_is a b e = grind (arith, nat_tests)
-
-less_is : (a b : ℕ) → nat_lt a b ≡ true → a < b
-less_is a b e = grind (arith, nat_tests)
 
 more_is : (a b : ℕ) → nat_lt a b ≡ false → a ≢ b → b < a
 more_is a b e ne = grind (arith, nat_tests)
@@ -113,7 +106,7 @@ module _ (plan : Plan) (w : World) (l : PutLists) (laws : Lawful plan) (core : R
   none_held : (g : ℕ) → 0 < g → g ≤ plan.keys.gen_max → current st (Some (name_at x g)) ≡ false → holds_on w.log (key g)
       ≡ 0
   none_held g some le not_now =
-      let none = total_zero (λ (p : Body). times (key g) p.holds) w.parts
+      let none = none_of (λ (p : Body). times (key g) p.holds) w.parts
       (λ a p at. go (times (key g) p.holds) a p at refl) in
       let h = core.holds.together (key g) in omega arith where
         go : (n : ℕ) (a : ℕ) (p : Body) → slice_get w.parts a ≡ Some p → times (key g) p.holds ≡ n → n ≡ 0
@@ -149,12 +142,12 @@ module _ (plan : Plan) (w : World) (l : PutLists) (laws : Lawful plan) (core : R
     go : (b : Bool) → (st.count == 0) ≡ b → 0 < holds_on w.log (key g)
     go true i =
         let due = core.finished x p m (eqb-true st.count 0 i) in
-        let none = total_zero (finishing x st.generation) w.parts (λ a u at. let i = (rest a u at).0 in rw i refl)
+        let none = none_of (finishing x st.generation) w.parts (λ a u at. let i = (rest a u at).0 in rw i refl)
         in absurd (omega arith)
     go false i =
         let ne : 0 < st.count = grind (arith, nat_tests) in
         let c = core.counted x in
-        let away = total_zero (visits plan x) w.parts (λ a u at. let i = (rest a u at).0 in rw i refl) in
+        let away = none_of (visits plan x) w.parts (λ a u at. let i = (rest a u at).0 in rw i refl) in
         let t = total_le (holds_now plan x st) (λ u. times (key g) u.holds) each w.parts in
         let h = core.holds.together (key g) in omega arith
 
@@ -205,7 +198,7 @@ module _ (plan : Plan) (w : World) (l : PutLists) (laws : Lawful plan) (core : R
 
     go : (b : Bool) → nat_lt g st.generation ≡ b → if1 (is_live_key w.log (key g)) ≡ 0
     go true e =
-        let r = past_removed g some le (less_is g st.generation e) in
+        let r = past_removed g some le (lt_of g st.generation e) in
         ap (λ (z : Bool). if1 (is_some (value_of w.log (key g)) && not z)) r
         ∙ ap if1 (off (is_some (value_of w.log (key g))))
     go false e =
@@ -260,7 +253,7 @@ module _ (plan : Plan) (w : World) (l : PutLists) (laws : Lawful plan) (core : R
         go : (p m : Bool) → st.present ≡ p → st.marked ≡ m → if1
             (m && is_last_key plan (key st.generation) && (holds_on w.log (key st.generation) == 0)) ≡ if1 (not p && m)
         go true true a b = ap (λ (z : Bool). if1 (is_last_key plan (key st.generation) && z))
-            (is_zero (holds_on w.log (key st.generation)) (some_held st.generation range.0 range.1 refl a b))
+            (not_0 (holds_on w.log (key st.generation)) (some_held st.generation range.0 range.1 refl a b))
             ∙ no_third true (is_last_key plan (key st.generation))
         go true false a b = refl
         go false true a b =
@@ -276,7 +269,7 @@ module _ (plan : Plan) (w : World) (l : PutLists) (laws : Lawful plan) (core : R
   retired_other g some le ne = go (nat_lt g st.generation) refl where
     go : (b : Bool) → nat_lt g st.generation ≡ b → if1 (is_retired_key plan w.log (key g)) ≡ 0
     go true e =
-        let low = less_is g st.generation e in
+        let low = lt_of g st.generation e in
         let top = range.1 in
         let not_last : is_last_key plan (key g) ≡ false = last_is g some le
         ∙ apart_is g plan.keys.gen_max (λ i. omega arith) in

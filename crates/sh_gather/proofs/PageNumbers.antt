@@ -14,15 +14,19 @@ use Rattle.sh_step.specs.Plans.{Plan, Lawful, heap_pages}
 use Rattle.sh_core.specs.declared.accounts.Accounts.{Accounts}
 use Rattle.sh_core.specs.Lists.{PutLists, accounts, class_named, slots_under, times, state_of, mine_at, in_hand, among}
 use Rattle.sh_core.specs.Refines.{Refines, live, marked, retired, kind_count}
-use Rattle.sh_core.specs.Stacks.{Chained, link_to, top, first_is, slot_ref, tying, cursor_at}
+use Rattle.sh_core.specs.Stacks.{Chained, top, slot_ref, tying, cursor_at}
 use Rattle.sh_core.specs.Worlds.{World}
 use Rattle.sh_core.proofs.Sums.ClassSlots.{under_class, under_few}
 use Rattle.sh_core.proofs.Sums.Totals.{total_append, total_plus}
+use Rattle.sh_core.proofs.Sums.ListCounts.{no_first}
+use Rattle.sh_core.proofs.Sums.Tests.{if1_few}
+use Rattle.sh_core.proofs.Lists.StackSteps.{link_to_top}
+use Rattle.sh_core.proofs.Quiet.{none_of}
 use Rattle.sh_accounts.specs.Accounts.{FillPage, all_slots, no_slots}
 use Rattle.sh_accounts.proofs.Counts.{among_more}
 use Rattle.sh_gather.specs.PageKeys.{keys_of_slot, keys_of_slots, page_keys, is_live_key, is_marked_key, is_retired_key}
 use Rattle.sh_gather.proofs.Histories.{count_is}
-use Rattle.sh_gather.proofs.PageKeys.{AllRest, total_zero, live_is, marked_is, retired_is}
+use Rattle.sh_gather.proofs.PageKeys.{AllRest, live_is, marked_is, retired_is}
 
 pub keys_total : (plan : Plan) (f : ℕ → ℕ) (g : SlotRef → ℕ) (q s n : ℕ)
     → ((t : ℕ) → s ≤ t → t < s + n → total f (keys_of_slot plan (slot_ref q t) plan.keys.gen_max) ≡ g (slot_ref q t))
@@ -60,10 +64,6 @@ few_among q f zero h = let z = zero_among q f in omega arith
 few_among q f (suc n) h = let e : n + 1 ≡ suc n = omega arith in let more = among_more q f n in let here = h n
     in let rest = few_among q f n h in let P : ℕ → Type 0 = λ m. among q f m ≤ m in subst P e (omega arith)
 
-if1_few : (b : Bool) → if1 b ≤ 1
-if1_few true = omega arith
-if1_few false = omega arith
-
 -- ---- lists of slots
 
 times_sum : (q n : ℕ) (xs : List ℕ) → ((t : ℕ) → n ≤ t → times t xs ≡ 0) → among q (λ x. times x.slot xs) n ≡ length xs
@@ -99,11 +99,6 @@ times_sum q n (s ∷ xs) h =
           (λ (ne : n ≢ s). let e : suc n ≡ n + 1 = omega arith in let more = among_more q (λ x. if1 (s == x.slot)) n
           in let z = off s n (λ i. ne (sym i)) in let r = single s n (omega arith) in rw e (omega arith))
 
-no_first : (xs : List ℕ) → ((s : ℕ) → first_is xs s ≡ 0) → xs ≡ []
-no_first [] h = refl
-no_first (t ∷ xs) h = let z = h t in let y : (t == t) ≡ true = grind (arith, nat_tests) in let x : if1 (t == t)
-    ≡ 1 = rw y refl in absurd (omega arith)
-
 -- the sum over an empty list is 0
 empty_total : {A : Type 0} (f : A → ℕ) (xs : List A) → xs ≡ [] → total f xs ≡ 0
 unfolding total
@@ -114,17 +109,17 @@ empty_total f xs e = ap (total f) e
 module _ (plan : Plan) (w : World) (l : PutLists) (laws : Lawful plan) (core : Refines plan w l) (rest : AllRest w)
     (q : ℕ) where
   none_mine : (x : SlotRef) → total (mine_at x) w.parts ≡ 0
-  none_mine x = total_zero (mine_at x) w.parts (λ a p e. empty_total (λ y. if1 (same_slot x y)) p.mine
+  none_mine x = none_of (mine_at x) w.parts (λ a p e. empty_total (λ y. if1 (same_slot x y)) p.mine
       (core.shardless a p e (rest a p e).1).0)
 
   none_in_hand : (x : SlotRef) → total (in_hand x) w.parts ≡ 0
-  none_in_hand x = total_zero (in_hand x) w.parts (λ a p e. rw (rest a p e).0 refl)
+  none_in_hand x = none_of (in_hand x) w.parts (λ a p e. rw (rest a p e).0 refl)
 
   none_tying : (x : SlotRef) → total (tying x) w.parts ≡ 0
-  none_tying x = total_zero (tying x) w.parts (λ a p e. rw (rest a p e).0 refl)
+  none_tying x = none_of (tying x) w.parts (λ a p e. rw (rest a p e).0 refl)
 
   none_at_cursor : (s : ℕ) → total (cursor_at q s) w.parts ≡ 0
-  none_at_cursor s = total_zero (cursor_at q s) w.parts (λ a p e. empty_total
+  none_at_cursor s = none_of (cursor_at q s) w.parts (λ a p e. empty_total
       (λ (c : ℕ × ℕ). if1 ((c.0 == q) && (c.1 == s))) p.cursors (core.shardless a p e (rest a p e).1).1)
 
   -- no owner follows a chain
@@ -230,10 +225,6 @@ module _ (plan : Plan) (w : World) (l : PutLists) (laws : Lawful plan) (core : R
   chained_drop f g (suc n) [] h = tt
   chained_drop f g (suc n) (x ∷ xs) h = chained_drop f g n xs h.1
 
-  link_top : (xs : List ℕ) → link_to xs ≡ top xs + 1
-  link_top [] = refl
-  link_top (x ∷ xs) = omega arith
-
   times_drop : (s n : ℕ) (xs : List ℕ) → times s (drop n xs) ≤ times s xs
   unfolding total
   times_drop s zero xs = omega arith
@@ -269,7 +260,7 @@ module _ (plan : Plan) (w : World) (l : PutLists) (laws : Lawful plan) (core : R
         (core.linked.0.stacks q)) in
         let none = none_tying (slot_ref q s) in
         let c = chain.0 in
-        let k = link_top xs in
+        let k = link_to_top xs in
         let link : w.words.link_at q s ≡ top xs + 1 = omega arith in
         let more = drop_more n (l.stack q) s xs e in
         let low : s < 48 = below (nat_lt s 48) refl in

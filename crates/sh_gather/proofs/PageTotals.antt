@@ -1,7 +1,7 @@
 -- The accounts of one page more.
 use Rattle.std.proofs.Common.{◌≡◌, ℕ, ◌+◌, ◌-◌, ◌*◌, ◌<◌, ◌≤◌, ◌⊎◌, ⊎_elim, inl, inr, List, [], ◌∷◌, ◌++◌}
-use Rattle.std.proofs.Common.{length, get_or, Option, Some, None, refl, sym, ap, ◌∙◌, subst, arith, append_assoc}
-use Rattle.std.proofs.Common.{append-nil, length-append}
+use Rattle.std.proofs.Common.{length, get_or, Option, Some, None, refl, sym, ap, ◌∙◌, subst, arith}
+use Rattle.std.proofs.Common.{length-append}
 use Rattle.std.specs.Prelude.{slice_get, sum_by}
 use Rattle.std.proofs.lemmas.Bool.{cases_lt}
 use Rattle.std.proofs.lemmas.Option.{slice_get_within, get_or_from_slice_get, slice_get-get_or}
@@ -9,30 +9,19 @@ use Rattle.std.proofs.lemmas.List.{get_or_append_left}
 use Rattle.std.proofs.lemmas.List.Sums.{sum_by-append}
 use Rattle.std.proofs.Math.Seq.{get_or-append_seam}
 use Rattle.sh_key.specs.Layout.{Layout}
-use Rattle.sh_shape.specs.declared.places.Place.{Place}
 use Rattle.sh_shape.specs.Classes.{slots, class_count}
 use Rattle.sh_shape.proofs.ClassLaws.{slots_few}
 use Rattle.sh_core.specs.declared.accounts.Accounts.{Accounts}
 use Rattle.sh_accounts.specs.Accounts.{FillPage, all_slots, no_slots}
-use Rattle.sh_table.specs.declared.view.View.{View}
 use Rattle.sh_pass.specs.Passes.{Caller}
 use Rattle.sh_gather.specs.Gathering.{NotedMore}
 use Rattle.sh_gather.specs.declared.pages.PageAccounts.{PageAccounts}
 use Rattle.sh_gather.specs.declared.totals.Totals.{Totals}
 use Rattle.sh_gather.specs.PageLists.{IsPage, ToldBetween, AreFirst}
 use Rattle.sh_gather.specs.Sums.{used, sums, with_page, AtMost}
+use Rattle.sh_gather.proofs.Walking.{later_again, later_same}
 
 -- ---- more notes
-
-pub nothing_noted : (v : View) → NotedMore v v
-nothing_noted v = ([], ap (λ (l : List (Place × ℕ)). record v { noted = l }) (sym (append-nil v.noted)))
-
-pub noted_on : (u v w : View) → NotedMore u v → NotedMore v w → NotedMore u w
-noted_on u v w one two = (
-  one.0 ++ two.0,
-  two.1 ∙ subst (λ (x : View). record x { noted = x.noted ++ two.0 } ≡ record u { noted = u.noted ++ (one.0 ++ two.0) })
-      (sym one.1) (ap (λ (l : List (Place × ℕ)). record u { noted = l }) (append_assoc u.noted one.0 two.0)),
-)
 
 -- ---- an item of a list with one more
 
@@ -61,11 +50,11 @@ pub first_more : (layout : Layout) (old at new : Caller) (n : ℕ) (pages : List
     → AreFirst layout old at n pages → IsPage layout new n p
     → AreFirst layout old new (n + 1) (pages ++ p ∷ [])
 first_more layout old at new n pages p heap heap' since more first is =
-    let end : NotedMore new.view new.view = nothing_noted new.view in
+    let end : NotedMore new.view new.view = later_same new.view in
     let now : ToldBetween layout old new n p = record {
       moment = new;
       heap = heap' ∙ heap;
-      since = noted_on old.view at.view new.view since more;
+      since = later_again old.view at.view new.view since more;
       until = end;
       is = is;
     } in record {
@@ -75,7 +64,7 @@ first_more layout old at new n pages p heap heap' since more first is =
             moment = t.moment;
             heap = t.heap;
             since = t.since;
-            until = noted_on t.moment.view at.view new.view t.until more;
+            until = later_again t.moment.view at.view new.view t.until more;
             is = t.is;
           })
           (λ (last : (i ≡ length pages) × (x ≡ p)).

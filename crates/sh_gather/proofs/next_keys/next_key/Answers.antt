@@ -1,9 +1,8 @@
 use Rattle.std.proofs.Common.{◌<◌, ◌*◌, ◌∙◌, arith, ap, refl, subst, sym, ℕ}
 use Rattle.sh_shape.specs.Places.{all_pages}
 use Rattle.sh_table.specs.Seats.{Heap}
-use Rattle.sh_gather.proofs.Walking.{later_same}
+use Rattle.sh_gather.proofs.Walking.{later_same, later_again}
 use Rattle.sh_gather.proofs.NextKeyLaws.{none_more, none_noted, none_yet}
-use Rattle.sh_gather.proofs.PageTotals.{noted_on}
 use Rattle.sh_gather.proofs.next_keys.next_key.Goals as goal
 
 pub loop-place-init : goal.loop-place-init
@@ -32,7 +31,7 @@ loop-place-preserved g c =
     let e = c.key_at.ensures in
     let some = i.3 in (
       e.heap ∙ i.0,
-      noted_on old.view at.view new.view i.1 e.tale,
+      later_again old.view at.view new.view i.1 e.tale,
       i.2,
       omega arith,
       none_more g.L.KeyLayout.layout at new c.args.from c.loop-place.place e.tale i.4 c.in_default.ensures.key,
@@ -42,7 +41,7 @@ pub returns-in-Some-clause-heap : goal.returns-in-Some-clause-heap
 returns-in-Some-clause-heap g c = c.key_at.ensures.heap ∙ c.loop-place.invariant.0
 
 pub returns-in-Some-clause-tale : goal.returns-in-Some-clause-tale
-returns-in-Some-clause-tale g c = noted_on c.args.whole.now.view c.loop-place.whole.view c.key_at.new.self.view
+returns-in-Some-clause-tale g c = later_again c.args.whole.now.view c.loop-place.whole.view c.key_at.new.self.view
     c.loop-place.invariant.1 c.key_at.ensures.tale
 
 pub returns-in-Some-clause-next : goal.returns-in-Some-clause-next

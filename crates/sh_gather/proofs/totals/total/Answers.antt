@@ -1,7 +1,8 @@
 use Rattle.std.proofs.Common.{◌+◌, ◌*◌, ◌∙◌, ap, subst, sym, ◌++◌, ◌∷◌, []}
 use Rattle.sh_gather.specs.Sums.{AtMost, with_page}
-use Rattle.sh_gather.proofs.PageTotals.{first_more, noted_on, sums_more, at_most_more}
+use Rattle.sh_gather.proofs.PageTotals.{first_more, sums_more, at_most_more}
 use Rattle.sh_gather.proofs.totals.total.Goals as goal
+use Rattle.sh_gather.proofs.Walking.{later_again}
 
 pub loop-number-preserved : goal.loop-number-preserved
 loop-number-preserved g c =
@@ -13,7 +14,7 @@ loop-number-preserved g c =
     let e = c.page_accounts.ensures in
     let pages = i.4.0 in (
       e.heap ∙ i.0,
-      noted_on old.view at.view new.view i.1 e.tale,
+      later_again old.view at.view new.view i.1 e.tale,
       i.2,
       subst (AtMost (48 * (c.loop-number.number + 1))) (sym c.with-sums.ensures)
           (at_most_more c.loop-number.number c.loop-number.sums p e.is.are.fill i.3),
