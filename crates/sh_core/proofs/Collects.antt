@@ -1,8 +1,8 @@
 -- Collecting in a quiet heap finds all.
 use Rattle.std.proofs.Common.{◌≡◌, ℕ, ◌+◌, ◌-◌, ◌<◌, ◌==◌, Bool, false}
 use Rattle.std.proofs.Common.{cond, List, [], ◌∷◌, ◌++◌, refl, ap, sym, ◌∙◌, subst, arith, length, Option, Some, None}
-use Rattle.std.proofs.Common.{slice_get, ⊎_elim, append_assoc, append-nil, eq-eqb, drop}
-use Rattle.std.specs.Prelude.{option_map, replicate, nat_lt, slice_set}
+use Rattle.std.proofs.Common.{slice_get, ⊎_elim, append_assoc, append-nil, drop}
+use Rattle.std.specs.Prelude.{replicate, nat_lt, slice_set}
 use Rattle.std.proofs.lemmas.Bool.Decides.{nat_tests}
 use Rattle.sh_bell.specs.Bell.{top_of}
 use Rattle.sh_key.specs.Layout.{Layout, IsLayout}
@@ -21,7 +21,8 @@ use Rattle.sh_step.specs.Moves.{row, row_of}
 use Rattle.sh_step.specs.Plans.{Plan, plan_of, heap_pages}
 use Rattle.sh_step.specs.Rows.{Row, point, unpoint, take_page}
 use Rattle.sh_step.proofs.PageLaws.{page_of_name}
-use Rattle.sh_step.proofs.RowLaws.{gives_all_that_may_be}
+use Rattle.sh_step.proofs.RowLaws.{row_of_may}
+use Rattle.sh_step.proofs.NoteLaws.{noted_now}
 use Rattle.sh_core.specs.LinkWords.{LinksOn}
 use Rattle.sh_core.specs.Lists.{PutLists, times, lists_of, lists_from, list_step, listed, taken, chain_followed}
 use Rattle.sh_core.specs.Lists.{no_lists}
@@ -39,7 +40,7 @@ use Rattle.sh_core.proofs.Words.Steps.{step_moves, run_snoc}
 
 -- ---- one more event
 
-lists_snoc : (plan : Plan) (w : World) (l : PutLists) (es : List Event) (e : Event)
+pub lists_snoc : (plan : Plan) (w : World) (l : PutLists) (es : List Event) (e : Event)
     → lists_from plan w l (es ++ e ∷ []) ≡ list_step plan (run_from plan w es) e (lists_from plan w l es)
 unfolding lists_from run_from
 lists_snoc plan w l [] e = refl
@@ -58,19 +59,11 @@ lists_move plan w l e p m at is =
     ∙ ap (λ (o : Option Row). elim o as (λ _. PutLists)
     [ Some m ↦ listed plan p e.action (read w.words m.place) l | None ↦ l ]) is
 
-has_row : (plan : Plan) (p : Body) (m : Move) → May plan p m → row plan p (action_of plan m) ≡ Some (row_of plan p m)
-unfolding row
-has_row plan p m may = ap (option_map (row_of plan p)) (gives_all_that_may_be plan p m may)
-
 -- ---- the cursor
 
 first_of : List ℕ → Option ℕ
 first_of [] = None
 first_of (s ∷ xs) = Some s
-
-noted_here : (q s : ℕ) (xs : List (ℕ × ℕ)) → noted q ((q, s) ∷ xs) ≡ Some s
-unfolding noted
-noted_here q s xs = rw (eq-eqb q q refl) refl
 
 at_top : (q t : ℕ) (xs : List (ℕ × ℕ)) (st : List ℕ) → t ≡ top st → noted q xs ≡ None
     → noted q (point 1 q t xs) ≡ first_of st
@@ -79,7 +72,7 @@ at_top q t xs [] is none = rw is none
 at_top q t xs (s ∷ st) is none =
     let more : nat_lt (s + 1) 1 ≡ false = grind (arith, nat_tests) in
     let same : s + 1 - 1 ≡ s = omega arith in
-    let here : noted q ((q, s + 1 - 1) ∷ xs) ≡ Some s = rw same (noted_here q s xs) in
+    let here : noted q ((q, s + 1 - 1) ∷ xs) ≡ Some s = rw same (noted_now q s xs) in
     let P : ℕ → Type 0 = λ m. noted q (point 1 q m xs) ≡ Some s in
     let at : P (s + 1) = subst (λ b. noted q (cond b xs ((q, s + 1 - 1) ∷ xs)) ≡ Some s) (sym more) here in
     subst P (sym is) at
@@ -91,7 +84,7 @@ at_next q n xs [] is none = rw is none
 at_next q n xs (s ∷ rest) is none =
     let more : nat_lt (s + 2) 2 ≡ false = grind (arith, nat_tests) in
     let same : s + 2 - 2 ≡ s = omega arith in
-    let here : noted q ((q, s + 2 - 2) ∷ xs) ≡ Some s = rw same (noted_here q s xs) in
+    let here : noted q ((q, s + 2 - 2) ∷ xs) ≡ Some s = rw same (noted_now q s xs) in
     let P : ℕ → Type 0 = λ m. noted q (point 2 q m xs) ≡ Some s in
     let at : P (s + 2) = subst (λ b. noted q (cond b xs ((q, s + 2 - 2) ∷ xs)) ≡ Some s) (sym more) here in
     subst P (sym is) at
@@ -174,9 +167,9 @@ moves_on : (plan : Plan) (es : List Event) (a q : ℕ) (p : Body) (m : Move) (le
 moves_on plan es a q p m left after at may is next =
     let e : Event = record { pass = a; action = action_of plan m } in
     let world = run_snoc plan (open_world plan) es e
-    ∙ step_moves plan (run plan es) e p (row_of plan p m) at (has_row plan p m may) in
+    ∙ step_moves plan (run plan es) e p (row_of plan p m) at (row_of_may plan p m may) in
     let lists = lists_snoc plan (open_world plan) no_lists es e
-    ∙ (lists_move plan (run plan es) (lists_of plan es) e p (row_of plan p m) at (has_row plan p m may) ∙ is) in
+    ∙ (lists_move plan (run plan es) (lists_of plan es) e p (row_of plan p m) at (row_of_may plan p m may) ∙ is) in
     subst (λ (w : World). Collecting plan w (lists_of plan (es ++ e ∷ [])) a q left) (sym world)
     (subst (λ (l : PutLists). Collecting plan (apply (run plan es) a (row_of plan p m)) l a q left) (sym lists) next)
 

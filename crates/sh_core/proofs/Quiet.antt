@@ -9,12 +9,13 @@ use Rattle.sh_step.specs.Collections.{total}
 use Rattle.sh_step.specs.Plans.{Plan, plan_of, home}
 use Rattle.sh_core.specs.Worlds.{World, run}
 use Rattle.sh_core.specs.Lists.{PutLists, times, lists_of, in_hand}
-use Rattle.sh_core.specs.Stacks.{top, link_to, first_is, slot_ref, ties_of}
+use Rattle.sh_core.specs.Stacks.{top, link_to, slot_ref, ties_of}
 use Rattle.sh_core.specs.LinkWords.{LinksOn}
 use Rattle.sh_core.specs.Refines.{in_hands, Refines}
 use Rattle.sh_core.specs.Quiet.{Quiet, walked, WordsLead, NoneLost, LeftIsOnStacks, LosesNothing}
 use Rattle.sh_core.specs.Quiet.{QuietLosesNothing}
 use Rattle.sh_core.proofs.Clauses.RunTheorem.{theorem}
+use Rattle.sh_core.proofs.Sums.ListCounts.{no_first}
 
 -- a sum of zeros
 pub none_of : (f : Body → ℕ) (ps : List Body) → ((a : ℕ) (p : Body) → slice_get ps a ≡ Some p → f p ≡ 0)
@@ -81,16 +82,12 @@ module _ (plan : Plan) (w : World) (l : PutLists) (all : Refines plan w l) (quie
       let e = is.empty in
       grind (arith, one, no_hand, e)
 
-  none_first : (xs : List ℕ) → ((s : ℕ) → first_is xs s ≡ 0) → xs ≡ []
-  none_first [] none = refl
-  none_first (s ∷ xs) none = let z = none s in absurd (grind (arith, z))
-
   left_on_stacks : LeftIsOnStacks plan w l
   unfolding total
   left_on_stacks x is free =
       let nothing = all.left (home plan x.page) free in
       let no_mine = nothing.0 x refl in
-      let chain = none_first (l.chain x.page)
+      let chain = no_first (l.chain x.page)
       (λ s. sym (all.linked.0.cursors x.page s) ∙ nothing.1 x.page s refl) in
       let no_chain : times x.slot (l.chain x.page) ≡ 0 = ap (times x.slot) chain in
       let one = none_lost x is in omega (arith, one, no_mine, no_chain)

@@ -54,7 +54,7 @@ WordNotesStand w = (a : ℕ) (p : Body) → slice_get w.parts a ≡ Some p → W
 
 -- ---- the words from one on, and how many
 
-length-words : (f : ℕ → ℕ) (i n : ℕ) → length (words_from f i n) ≡ n
+pub length-words : (f : ℕ → ℕ) (i n : ℕ) → length (words_from f i n) ≡ n
 length-words f i zero = refl
 length-words f i (suc n) = ap suc (length-words f (i + 1) n)
 

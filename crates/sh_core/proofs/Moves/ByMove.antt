@@ -34,7 +34,7 @@ lists_after plan p (move.FollowBell q) n l = elim (p.owned) [
 lists_after plan p _ n l = l
 
 -- the same for its action
-after_move : (plan : Plan) (p : Body) (m : Move) → May plan p m → (n : ℕ) (l : PutLists)
+pub after_move : (plan : Plan) (p : Body) (m : Move) → May plan p m → (n : ℕ) (l : PutLists)
     → listed plan p (action_of plan m) n l ≡ lists_after plan p m n l
 unfolding listed
 after_move plan p (move.Put x) may n l = rw may refl

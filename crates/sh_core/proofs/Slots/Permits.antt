@@ -1,13 +1,12 @@
 -- What allows an entry, counted in sums, and that the history then stays legal.
-use Rattle.std.proofs.Common.{◌≡◌, ℕ, ◌+◌, ◌<◌, ◌==◌, ◌||◌, ◌⊎◌, inl, inr, Bool, true, false, cond, List, [], ◌∷◌, ◌++◌}
-use Rattle.std.proofs.Common.{length, sym, refl, ap, ◌∙◌, subst, arith, Some, None, append_assoc, slice_get}
+use Rattle.std.proofs.Common.{◌≡◌, ℕ, ◌+◌, ◌<◌, ◌==◌, ◌||◌, ◌⊎◌, inl, inr, Bool, true, false, cond, List, [], ◌∷◌}
+use Rattle.std.proofs.Common.{length, refl, ap, ◌∙◌, arith, Some, None, slice_get}
 use Rattle.std.specs.Prelude.{IsSome, count_by}
-use Rattle.std.proofs.lemmas.List.{append-nil}
 use Rattle.sh_history.specs.declared.entry.Entry.{Entry}
 use Rattle.sh_history.specs.declared.entry.Entry.TheVariants.{Insert, Got, Gone, Crowded, Removed, Released}
 use Rattle.sh_history.specs.History.{value_of, is_removed, is_removal_of, is_got_of, is_release_of, is_got_by}
 use Rattle.sh_history.specs.History.{is_release_by, got_count, released_count, got_count_by, released_count_by}
-use Rattle.sh_history.specs.History.{Allowed as IsAllowed, LegalAfter}
+use Rattle.sh_history.specs.History.{Allowed as IsAllowed}
 use Rattle.sh_history.proofs.LogLaws.{count_by-cons}
 use Rattle.sh_step.specs.Collections.{total, if1}
 use Rattle.sh_step.specs.Plans.{Plan}
@@ -134,17 +133,3 @@ permits_allowed plan F (Crowded a k) h = let g = gots_are k F in let r = release
     in (value_some k F h.0, (removed_by k F).0 h.1, omega arith)
 permits_allowed plan F (Removed a k) h = (value_some k F h.0, (removed_by k F).0 h.1)
 permits_allowed plan F (Released a k) h = let g = gots_by_are a k F in let r = releases_by_are a k F in omega arith
-
-pub legal_snoc : (passes guard_max : ℕ) (F es : List Entry) (e : Entry) → LegalAfter passes guard_max F es
-    → IsAllowed passes guard_max (F ++ es) e → LegalAfter passes guard_max F (es ++ e ∷ [])
-legal_snoc passes guard_max F [] e l h = (
-  let P : List Entry → Type 0 = λ xs. IsAllowed passes guard_max xs e
-      in subst P (append-nil F) h,
-  tt,
-)
-legal_snoc passes guard_max F (d ∷ es) e l h = (
-  l.0,
-  legal_snoc passes guard_max (F ++ d ∷ []) es e l.1
-      (let P : List Entry → Type 0 = λ xs. IsAllowed passes guard_max xs e
-      in subst P (sym (append_assoc F (d ∷ []) es)) h),
-)

@@ -14,7 +14,8 @@ use Rattle.sh_core.specs.Tallies.{SlotsAddUp}
 use Rattle.sh_core.specs.Stories.{got_in, released_in, got_by, released_by, KeysAgree, HoldsAgree, AllHoldsAgree}
 use Rattle.sh_history.specs.History.{Legal}
 use Rattle.sh_history.specs.Log.{pass_of}
-use Rattle.sh_core.proofs.Slots.Permits.{Permits, legal_snoc, permits_allowed}
+use Rattle.sh_history.proofs.Laws.{legal_after_more}
+use Rattle.sh_core.proofs.Slots.Permits.{Permits, permits_allowed}
 use Rattle.sh_core.specs.Sums.{Sums, FillAgrees}
 use Rattle.sh_core.proofs.Sums.Totals.{total_append, total_set, get_set}
 use Rattle.sh_core.proofs.Slots.Logs.{holds_step}
@@ -83,4 +84,4 @@ sums_at plan w l l' a p p' W e g at slots keys allowed paid mine fills = record 
 } where
   next : (d : Option Entry) → PermitsNext plan w.log d → Legal plan.passes plan.keys.guard_max (joined w.log d)
   next None h = g.legal
-  next (Some d) h = legal_snoc plan.passes plan.keys.guard_max [] w.log d g.legal (permits_allowed plan w.log d h)
+  next (Some d) h = legal_after_more plan.passes plan.keys.guard_max [] w.log d g.legal (permits_allowed plan w.log d h)
