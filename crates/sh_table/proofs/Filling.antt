@@ -1,5 +1,5 @@
 -- A slot that a pass is filling has no present bit, so that an addition sets it.
-use Rattle.std.proofs.Common.{◌≡◌, ℕ, ◌+◌, ◌%◌, ◌^◌, ◌<◌, ◌≤◌, ◌&&◌, Bool, true, false, List}
+use Rattle.std.proofs.Common.{◌≡◌, ℕ, ◌+◌, ◌%◌, ◌^◌, ◌<◌, ◌&&◌, Bool, true, false, List}
 use Rattle.std.proofs.Common.{Some, None, Option, length, refl, ap, sym, subst, ◌∙◌, arith, slice_get}
 use Rattle.std.specs.Bool.{then_some}
 use Rattle.std.specs.Prelude.{bit_or, not, nat_le, nat_lt, option_map}
@@ -9,6 +9,7 @@ use Rattle.sh_core.specs.Words.{read}
 use Rattle.sh_core.specs.Worlds.{World}
 use Rattle.sh_core.proofs.Slots.Slots.{if1_same_slot}
 use Rattle.sh_core.proofs.Sums.Totals.{total_at}
+use Rattle.sh_core.proofs.Sums.Tests.{if1_few}
 use Rattle.sh_shape.specs.declared.places.Place.{Place}
 use Rattle.sh_shape.specs.declared.places.Place.TheVariants.{State}
 use Rattle.sh_slots.specs.declared.hand.Hand.{Hand}
@@ -36,10 +37,6 @@ none_present false marked e = refl
 none_present true true e = absurd (omega arith)
 none_present true false e = absurd (omega arith)
 
-at_most_one : (b : Bool) → if1 b ≤ 1
-at_most_one true = omega arith
-at_most_one false = omega arith
-
 in_the_hand : (p : Body) (x : SlotRef) (v : List ℕ) (i : ℕ) → p.hand ≡ Filling x v i → in_hand x p ≡ 1
 in_the_hand p x v i e = ap (λ (h : Hand). elim h as (λ _. ℕ)
     [ ToPut y ↦ if1 (same_slot x y) | Filling y u n ↦ if1 (same_slot x y) | _ ↦ 0 ]) e
@@ -50,7 +47,7 @@ pub not_present : (w : World) (l : PutLists) (a : ℕ) (p : Body) (x : SlotRef) 
     → slice_get w.parts a ≡ Some p → p.hand ≡ Filling x v i → (state_of w x).present ≡ false
 not_present w l a p x v i kinds at is =
     let one = kinds x in
-    let few = at_most_one (nat_lt x.slot (slots_under (w.words.class_at x.page))) in
+    let few = if1_few (nat_lt x.slot (slots_under (w.words.class_at x.page))) in
     let hand = total_at (in_hand x) w.parts a p at in
     let here = in_the_hand p x v i is in
     none_present (state_of w x).present (state_of w x).marked (omega arith)

@@ -1,96 +1,29 @@
 -- The holds of a pass are those that its log leaves it.
 use Rattle.std.proofs.Common.{◌≡◌, ℕ, suc, ◌+◌, ◌-◌, ◌<◌, ◌==◌, ◌&&◌, ◌||◌, Bool, true, false, cond, List, [], ◌∷◌}
-use Rattle.std.proofs.Common.{◌++◌, length, refl, ap, ◌∙◌, sym, arith, eq-eqb, length-append}
+use Rattle.std.proofs.Common.{◌++◌, length, refl, ap, ◌∙◌, sym, arith, length-append}
 use Rattle.std.proofs.Math.Nat.{add-sub_cancel_left}
-use Rattle.std.specs.Prelude.{count_by, filter}
+use Rattle.std.specs.Prelude.{count_by}
 use Rattle.std.specs.List.{AllZip}
 use Rattle.sh_history.specs.declared.entry.Entry.{Entry}
 use Rattle.sh_history.specs.declared.entry.Entry.TheVariants.{Insert, Got, Gone, Crowded, Removed, Released}
 use Rattle.sh_history.specs.declared.log.LogEntry.{LogEntry}
-use Rattle.sh_history.specs.declared.log.LogEntry.TheVariants.{Known, Unread}
 use Rattle.sh_history.specs.History.{is_got_by, is_release_by, is_got_from, is_release_from, got_count_by}
 use Rattle.sh_history.specs.History.{released_count_by}
-use Rattle.sh_history.specs.Log.{Agrees, pass_of, is_logged_got_by, is_logged_release_by, logged_holds_by}
-use Rattle.sh_history.specs.Log.{is_logged_got_from, is_logged_release_from, logged_hold_count}
+use Rattle.sh_history.specs.Log.{Agrees, logged_holds_by}
+use Rattle.sh_history.specs.Log.{logged_hold_count}
 use Rattle.sh_history.proofs.LogLaws.{count_by-cons}
+use Rattle.sh_history.proofs.LogHolds.{holds_by_log, hold_count_by_log}
 use Rattle.sh_step.specs.Collections.{if1, has, without}
 use Rattle.sh_core.specs.Lists.{times}
 use Rattle.sh_core.proofs.Sums.ListCounts.{some_has, times_off, times_cons, times_none}
 use Rattle.sh_core.proofs.Sums.Totals.{total_append}
+use Rattle.sh_core.proofs.Sums.Tests.{if1_self}
 use Rattle.sh_table.specs.Tales.{by}
-
--- ---- what a log says of its entries
-
-same_got : (a k : ℕ) (x : LogEntry) (e : Entry) → Agrees x e → is_logged_got_by a k x ≡ is_got_by a k e
-same_got a k (Known f) e h = ap (is_got_by a k) (sym h)
-same_got a k (Unread p j) e h = sym (ap (is_got_by a k) h.1)
-
-same_release : (a k : ℕ) (x : LogEntry) (e : Entry) → Agrees x e → is_logged_release_by a k x ≡ is_release_by a k e
-same_release a k (Known f) e h = ap (is_release_by a k) (sym h)
-same_release a k (Unread p j) e h = sym (ap (is_release_by a k) h.1)
-
-same_count : (f : LogEntry → Bool) (g : Entry → Bool) → ((x : LogEntry) (e : Entry) → Agrees x e → f x ≡ g e)
-    → (log : List LogEntry) (es : List Entry) → AllZip Agrees log es → count_by f log ≡ count_by g es
-same_count f g same [] [] h = refl
-same_count f g same [] (e ∷ es) h = absurd h
-same_count f g same (x ∷ log) [] h = absurd h
-same_count f g same (x ∷ log) (e ∷ es) h =
-    rw (count_by-cons f x log, count_by-cons g e es, same x e h.0, same_count f g same log es h.1) refl
-
--- ---- entries of a pass among those of all
-
-false_of : (b : Bool) → (b ≡ true → ⊥) → b ≡ false
-false_of true f = absurd (f refl)
-false_of false f = refl
-
-not_both : (b : Bool) → b ≡ true → b ≡ false → ⊥
-not_both b p q = cc
-
-left_of : (a b : Bool) → (a && b) ≡ true → a ≡ true
-left_of true b e = refl
-left_of false b e = e
-
-got_own : (a k : ℕ) (e : Entry) → is_got_by a k e ≡ true → (pass_of e == a) ≡ true
-got_own a k (Insert p j v) e = cc
-got_own a k (Got p j v) e = left_of (p == a) (j == k) e
-got_own a k (Gone p j) e = cc
-got_own a k (Crowded p j) e = cc
-got_own a k (Removed p j) e = cc
-got_own a k (Released p j) e = cc
-
-release_own : (a k : ℕ) (e : Entry) → is_release_by a k e ≡ true → (pass_of e == a) ≡ true
-release_own a k (Insert p j v) e = cc
-release_own a k (Got p j v) e = cc
-release_own a k (Gone p j) e = cc
-release_own a k (Crowded p j) e = cc
-release_own a k (Removed p j) e = cc
-release_own a k (Released p j) e = left_of (p == a) (j == k) e
-
-own_count : (g h : Entry → Bool) → ((e : Entry) → g e ≡ true → h e ≡ true) → (es : List Entry)
-    → count_by g (filter h es) ≡ count_by g es
-own_count g h only [] = refl
-own_count g h only (e ∷ es) = go (own_count g h only es) (h e) refl
-  where
-    go : count_by g (filter h es) ≡ count_by g es → (b : Bool) → h e ≡ b
-        → count_by g (cond b (e ∷ filter h es) (filter h es)) ≡ count_by g (e ∷ es)
-    go rest true is = rw (count_by-cons g e (filter h es), count_by-cons g e es, rest) refl
-    go rest false is =
-        let no : g e ≡ false = false_of (g e) (λ t. not_both (h e) (only e t) is) in
-        rw (count_by-cons g e es, no, rest) (omega arith)
-
--- ---- the holds
 
 pub holds_told : (a k held : ℕ) (log : List LogEntry) (es : List Entry) → AllZip Agrees log (by a es)
     → got_count_by es a k ≡ released_count_by es a k + held → logged_holds_by log a k ≡ held
-holds_told a k held log es agrees counts =
-    let got : count_by (is_logged_got_by a k) log ≡ got_count_by es a k =
-    same_count (is_logged_got_by a k) (is_got_by a k) (same_got a k) log (by a es) agrees
-    ∙ own_count (is_got_by a k) (λ e. pass_of e == a) (got_own a k) es in
-    let gone : count_by (is_logged_release_by a k) log ≡ released_count_by es a k =
-    same_count (is_logged_release_by a k) (is_release_by a k) (same_release a k) log (by a es) agrees
-    ∙ own_count (is_release_by a k) (λ e. pass_of e == a) (release_own a k) es in
-    (λ i. got i - gone i) ∙ (ap (λ n. n - released_count_by es a k) counts
-    ∙ add-sub_cancel_left (released_count_by es a k) held)
+holds_told a k held log es agrees counts = holds_by_log a log es agrees k
+    ∙ (ap (λ n. n - released_count_by es a k) counts ∙ add-sub_cancel_left (released_count_by es a k) held)
 
 -- ---- and the number of all holds
 
@@ -106,19 +39,17 @@ one_shorter k (x ∷ xs) h = go (x == k) (λ e. one_shorter k xs e) h
     go true rest h = omega arith
     go false rest h = let e = rest h in omega (arith, e)
 
-one : (x : ℕ) → if1 (x == x) ≡ 1
-one x = ap if1 (eq-eqb x x refl)
-
 cancels : (b m n l : ℕ) → b + m ≡ n → l + b ≡ n → m ≡ l
 cancels b m n l e f = omega (arith, e, f)
 
 -- lists that have each number equally often are equally long
 same_length : (xs ys : List ℕ) → ((k : ℕ) → times k xs ≡ times k ys) → length xs ≡ length ys
 same_length [] [] h = refl
-same_length [] (y ∷ ys) h = let n = h y in let z = times_none y in let c = times_cons y y ys in let o = one y
+same_length [] (y ∷ ys) h = let n = h y in let z = times_none y in let c = times_cons y y ys in let o = if1_self y
     in absurd (omega (arith, n, z, c, o))
 same_length (x ∷ xs) ys h =
-    let here : 0 < times x ys = let n = h x in let c = times_cons x x xs in let o = one x in omega (arith, n, c, o) in
+    let here : 0 < times x ys = let n = h x in let c = times_cons x x xs in let o = if1_self x
+        in omega (arith, n, c, o) in
     let rest : length xs ≡ length (without (λ y. y == x) ys) =
     same_length xs (without (λ y. y == x) ys) (λ k. cancels (if1 (x == k)) (times k xs) (times k ys)
     (times k (without (λ y. y == x) ys)) (sym (times_cons k x xs) ∙ h k) (times_off x k ys here)) in
@@ -199,40 +130,10 @@ released_length a (Gone p j ∷ es) = released_length a es ∙ sym (skips (is_re
 released_length a (Crowded p j ∷ es) = released_length a es ∙ sym (skips (is_release_from a) (Crowded p j) es refl)
 released_length a (Removed p j ∷ es) = released_length a es ∙ sym (skips (is_release_from a) (Removed p j) es refl)
 
-same_got_from : (a : ℕ) (x : LogEntry) (e : Entry) → Agrees x e → is_logged_got_from a x ≡ is_got_from a e
-same_got_from a (Known f) e h = ap (is_got_from a) (sym h)
-same_got_from a (Unread p j) e h = sym (ap (is_got_from a) h.1)
-
-same_release_from : (a : ℕ) (x : LogEntry) (e : Entry) → Agrees x e → is_logged_release_from a x ≡ is_release_from a e
-same_release_from a (Known f) e h = ap (is_release_from a) (sym h)
-same_release_from a (Unread p j) e h = sym (ap (is_release_from a) h.1)
-
-got_from_own : (a : ℕ) (e : Entry) → is_got_from a e ≡ true → (pass_of e == a) ≡ true
-got_from_own a (Insert p j v) e = cc
-got_from_own a (Got p j v) e = e
-got_from_own a (Gone p j) e = cc
-got_from_own a (Crowded p j) e = cc
-got_from_own a (Removed p j) e = cc
-got_from_own a (Released p j) e = cc
-
-release_from_own : (a : ℕ) (e : Entry) → is_release_from a e ≡ true → (pass_of e == a) ≡ true
-release_from_own a (Insert p j v) e = cc
-release_from_own a (Got p j v) e = cc
-release_from_own a (Gone p j) e = cc
-release_from_own a (Crowded p j) e = cc
-release_from_own a (Removed p j) e = cc
-release_from_own a (Released p j) e = e
-
 pub hold_count_told : (a : ℕ) (holds : List ℕ) (log : List LogEntry) (es : List Entry) → AllZip Agrees log (by a es)
     → ((k : ℕ) → got_count_by es a k ≡ released_count_by es a k + times k holds) → logged_hold_count log a
     ≡ length holds
 hold_count_told a holds log es agrees counts =
-    let got : count_by (is_logged_got_from a) log ≡ count_by (is_got_from a) es =
-    same_count (is_logged_got_from a) (is_got_from a) (same_got_from a) log (by a es) agrees
-    ∙ own_count (is_got_from a) (λ e. pass_of e == a) (got_from_own a) es in
-    let gone : count_by (is_logged_release_from a) log ≡ count_by (is_release_from a) es =
-    same_count (is_logged_release_from a) (is_release_from a) (same_release_from a) log (by a es) agrees
-    ∙ own_count (is_release_from a) (λ e. pass_of e == a) (release_from_own a) es in
     let lists : length (got_keys a es) ≡ length (released_keys a es ++ holds) =
     same_length (got_keys a es) (released_keys a es ++ holds)
     (λ k. got_times a k es ∙ (counts k ∙ (ap (λ n. n + times k holds) (sym (released_times a k es))
@@ -240,5 +141,5 @@ hold_count_told a holds log es agrees counts =
     let all : count_by (is_got_from a) es ≡ count_by (is_release_from a) es + length holds =
     sym (got_length a es) ∙ (lists ∙ (length-append (released_keys a es) holds
     ∙ ap (λ n. n + length holds) (released_length a es))) in
-    (λ i. got i - gone i) ∙ (ap (λ n. n - count_by (is_release_from a) es) all
+    hold_count_by_log a log es agrees ∙ (ap (λ n. n - count_by (is_release_from a) es) all
     ∙ add-sub_cancel_left (count_by (is_release_from a) es) (length holds))
