@@ -4,15 +4,13 @@ use Rattle.std.proofs.Common.{ap}
 use Rattle.std.proofs.Common.{append_assoc, add-zero, arith, eq-eqb, eqb-true}
 use Rattle.std.specs.Prelude.{◌==◌, Result, Ok, Err}
 use Rattle.std.specs.Io.BufRead.{take_through, drop_through}
-use Rattle.std.proofs.lemmas.List.Elements.{All-nil, All-cons}
+use Rattle.std.proofs.lemmas.List.Elements.{All-cons}
 use Rattle.sh_script.specs.Grammar.{spelling, IsLine}
 use Rattle.sh_script.specs.Trouble.{◌>>=◌}
+use Rattle.sh_script.proofs.TextLemmas.{empty_line}
 use Rattle.history_lines.specs.declared.fault.Cause.{Cause}
 use Rattle.history_lines.specs.Book.{Book, book_after, book_from}
 use Rattle.history_lines.specs.Judged.{FirstLine, HasBadEnd, cut_of}
-
-empty_line : IsLine []
-empty_line = All-nil (λ x. x ≢ 10)
 
 no_newline : (b : ℕ) → (b == 10) ≡ false → b ≢ 10
 no_newline b apart same = let here = eq-eqb b 10 same in cc

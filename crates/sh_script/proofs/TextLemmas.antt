@@ -18,7 +18,7 @@ others_too b bs h = All-tail (λ x. x ≢ 10) b bs h
 line_cons : (b : ℕ) (bs : List ℕ) → is_newline b ≡ false → IsLine bs → IsLine (b ∷ bs)
 line_cons b bs e h = All-cons (λ x. x ≢ 10) b bs (λ same. not_both _ (eq-eqb b 10 same) e) h
 
-empty_line : IsLine []
+pub empty_line : IsLine []
 empty_line = All-nil (λ x. x ≢ 10)
 
 piece_of_line : (l ys : List ℕ) → IsLine l → slice_split is_newline (l ++ 10 ∷ ys) ≡ l ∷ slice_split is_newline ys
