@@ -5,6 +5,7 @@
 
 #define WORDS 16
 #define SAMPLES 16
+#define EIGHT 8
 
 typedef struct loops {
     shardheap heap;
@@ -20,8 +21,11 @@ typedef struct samples {
 loops *loops_open(uint64_t values, uint32_t words);
 void loops_close(loops *all);
 uint64_t loops_get(loops *all, const uint64_t *keys, size_t count);
+uint64_t loops_get_own(loops *all, const uint64_t *keys, size_t count);
 uint64_t loops_read(loops *all, const uint64_t *keys, size_t count);
 uint64_t loops_load(loops *all, const uint64_t *keys, size_t count);
+uint64_t loops_load_in_eights(loops *all, const uint64_t *keys, size_t count);
+uint64_t loops_own_keys(loops *all, size_t count);
 uint64_t loops_insert(loops *all, const samples *samples, uint64_t *keys, size_t count);
 void loops_remove(loops *all, const uint64_t *keys, size_t count);
 
@@ -61,6 +65,17 @@ uint64_t loops_get(loops *all, const uint64_t *keys, size_t count) {
     return sum;
 }
 
+/* The same by the owner of the shard. */
+uint64_t loops_get_own(loops *all, const uint64_t *keys, size_t count) {
+    uint64_t sum = 0;
+    for (size_t n = 0; n < count; n++) {
+        must(shardheap_get(&all->owner, keys[n]));
+        sum += keys[n];
+        must(shardheap_release(&all->owner, keys[n]));
+    }
+    return sum;
+}
+
 static uint64_t sum_of(const uint64_t *words, uint64_t length) {
     uint64_t sum = 0;
     for (uint64_t n = 0; n < length; n++) sum += words[n];
@@ -85,6 +100,38 @@ uint64_t loops_load(loops *all, const uint64_t *keys, size_t count) {
     for (size_t n = 0; n < count; n++) {
         must(shardheap_load(&all->user, keys[n], words, WORDS, &length));
         sum += sum_of(words, length);
+    }
+    return sum;
+}
+
+/* The same by one call for each eight keys. */
+uint64_t loops_load_in_eights(loops *all, const uint64_t *keys, size_t count) {
+    shardheap_loaded batch[EIGHT];
+    uint64_t sum = 0;
+    for (size_t first = 0; first + EIGHT <= count; first += EIGHT) {
+        for (size_t n = 0; n < EIGHT; n++) batch[n].key = keys[first + n];
+        must(shardheap_load_each(&all->user, batch, EIGHT));
+        for (size_t n = 0; n < EIGHT; n++) {
+            must(batch[n].code);
+            sum += sum_of(batch[n].words, batch[n].length);
+        }
+    }
+    return sum;
+}
+
+/* Goes through the keys of the owner's shard until it was given `count` of them, from the first key again after the
+   last. Returns the sum of the keys. The shard has a key. */
+uint64_t loops_own_keys(loops *all, size_t count) {
+    uint64_t sum = 0, place = 0, key;
+    for (size_t given = 0; given < count;) {
+        uint32_t code = shardheap_next_own_key(&all->owner, &place, &key);
+        if (code == SHARDHEAP_NO_KEY) {
+            place = 0;
+            continue;
+        }
+        must(code);
+        sum += key;
+        given++;
     }
     return sum;
 }

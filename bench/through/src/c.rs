@@ -12,8 +12,11 @@ extern "C" {
     fn loops_open(values: u64, words: u32) -> NonNull<Loops>;
     fn loops_close(all: NonNull<Loops>);
     fn loops_get(all: NonNull<Loops>, keys: *const u64, count: usize) -> u64;
+    fn loops_get_own(all: NonNull<Loops>, keys: *const u64, count: usize) -> u64;
     fn loops_read(all: NonNull<Loops>, keys: *const u64, count: usize) -> u64;
     fn loops_load(all: NonNull<Loops>, keys: *const u64, count: usize) -> u64;
+    fn loops_load_in_eights(all: NonNull<Loops>, keys: *const u64, count: usize) -> u64;
+    fn loops_own_keys(all: NonNull<Loops>, count: usize) -> u64;
     fn loops_insert(all: NonNull<Loops>, samples: *const Samples, keys: *mut u64, count: usize) -> u64;
     fn loops_remove(all: NonNull<Loops>, keys: *const u64, count: usize);
 }
@@ -40,6 +43,11 @@ impl Side for C {
         unsafe { loops_get(self.all, keys.as_ptr(), keys.len()) }
     }
 
+    fn get_each_own(&mut self, keys: &[u64]) -> u64 {
+        // SAFETY: as in `get_each`.
+        unsafe { loops_get_own(self.all, keys.as_ptr(), keys.len()) }
+    }
+
     fn read_each(&mut self, keys: &[u64]) -> u64 {
         // SAFETY: as in `get_each`.
         unsafe { loops_read(self.all, keys.as_ptr(), keys.len()) }
@@ -57,6 +65,16 @@ impl Side for C {
 
     fn load_each_into(&mut self, keys: &[u64]) -> u64 {
         self.load_each(keys)
+    }
+
+    fn load_in_eights(&mut self, keys: &[u64]) -> u64 {
+        // SAFETY: as in `get_each`.
+        unsafe { loops_load_in_eights(self.all, keys.as_ptr(), keys.len()) }
+    }
+
+    fn own_keys(&mut self, count: usize) -> u64 {
+        // SAFETY: it is open.
+        unsafe { loops_own_keys(self.all, count) }
     }
 
     fn insert_each(&mut self, samples: &Samples, keys: &mut [u64]) -> u64 {

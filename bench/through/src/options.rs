@@ -1,15 +1,21 @@
 //! The command line.
 
-/// What is done over and over: the workloads of `tool_bench` by their names, and two of ours.
+/// What is done over and over: the workloads of `tool_bench` by their names, and those of the library alone.
 #[derive(Clone, Copy, Debug, PartialEq, Eq)]
 pub enum Workload {
     Get,
+    /// As `Get`, by the owner of the shard.
+    GetOwn,
     Read,
     ReadInto,
     /// A get, a read and a release by one call.
     Load,
     /// The same, into a value of the caller's.
     LoadInto,
+    /// Loads in batches of eight keys, each by one call.
+    LoadEach,
+    /// The owner goes through the keys of its shard, again and again. One operation is a key that it is given.
+    OwnKeys,
     Insert,
     Remove,
 }
@@ -27,10 +33,13 @@ pub struct Options {
 fn workload(name: &str) -> Result<Workload, String> {
     match name {
         "get" => Ok(Workload::Get),
+        "get-own" => Ok(Workload::GetOwn),
         "read" => Ok(Workload::Read),
         "read-into" => Ok(Workload::ReadInto),
         "load" => Ok(Workload::Load),
         "load-into" => Ok(Workload::LoadInto),
+        "load-each" => Ok(Workload::LoadEach),
+        "own-keys" => Ok(Workload::OwnKeys),
         "insert" => Ok(Workload::Insert),
         "remove" => Ok(Workload::Remove),
         _ => Err(format!("no workload {name}")),

@@ -1,5 +1,5 @@
 //! The library from Rust: the calls of the crate `gearlongan`.
-use crate::side::{Samples, Side};
+use crate::side::{Samples, Side, EIGHT};
 use gearlongan::{Error, Heap, Key, Layout, Pass, Room, Shard, Value};
 use std::fmt::Display;
 use std::process::exit;
@@ -46,6 +46,10 @@ impl Side for Rust {
         sum_over(keys, |key| Ok(self.user.get(key)?.key().into()))
     }
 
+    fn get_each_own(&mut self, keys: &[u64]) -> u64 {
+        sum_over(keys, |key| Ok(self.owner.get(key)?.key().into()))
+    }
+
     fn read_each(&mut self, keys: &[u64]) -> u64 {
         sum_over(keys, |key| Ok(sum_of(&self.user.get(key)?)))
     }
@@ -68,6 +72,26 @@ impl Side for Rust {
             self.user.load_into(key, &mut value)?;
             Ok(sum_of(&value))
         })
+    }
+
+    fn load_in_eights(&mut self, keys: &[u64]) -> u64 {
+        let mut results = [Ok(Value::default()); EIGHT];
+        keys.chunks_exact(EIGHT).fold(0, |sum, eight| {
+            let eight: [Key; EIGHT] = std::array::from_fn(|n| Key::from(eight[n]));
+            self.user.load_each(&eight, &mut results);
+            results.iter().fold(sum, |sum, value| sum.wrapping_add(sum_of(&must(*value))))
+        })
+    }
+
+    fn own_keys(&mut self, count: usize) -> u64 {
+        let (mut sum, mut given) = (0u64, 0);
+        while given < count {
+            for key in self.owner.keys().take(count - given) {
+                sum = sum.wrapping_add(must(key).into());
+                given += 1;
+            }
+        }
+        sum
     }
 
     fn insert_each(&mut self, samples: &Samples, keys: &mut [u64]) -> u64 {

@@ -2,6 +2,8 @@
 
 pub const SAMPLES: usize = 16;
 pub const WORDS: usize = 16;
+/// How many keys a batch of loads has.
+pub const EIGHT: usize = 8;
 
 /// Sixteen values, the same as `tool_bench` stores: the one at place n of a list is the one at n % 16 here. C has the
 /// same structure.
@@ -34,6 +36,9 @@ pub trait Side: Sized {
     /// Takes a hold on each key and gives it back. Answers the sum of the keys.
     fn get_each(&mut self, keys: &[u64]) -> u64;
 
+    /// The same, by the owner of the shard.
+    fn get_each_own(&mut self, keys: &[u64]) -> u64;
+
     /// Reads the value of each key under a hold. Answers the sum of the words.
     fn read_each(&mut self, keys: &[u64]) -> u64;
 
@@ -45,6 +50,13 @@ pub trait Side: Sized {
 
     /// The same as `load_each`, into one value of the caller's.
     fn load_each_into(&mut self, keys: &[u64]) -> u64;
+
+    /// The same as `load_each`, by one call for each eight keys. Keys after the last eight are left out.
+    fn load_in_eights(&mut self, keys: &[u64]) -> u64;
+
+    /// Goes through the keys of the owner's shard until it was given `count` of them, from the first key again after
+    /// the last. Answers the sum of the keys. The shard has a key.
+    fn own_keys(&mut self, count: usize) -> u64;
 
     /// Inserts a value for each key, which it writes there. Answers the sum of the keys.
     fn insert_each(&mut self, samples: &Samples, keys: &mut [u64]) -> u64;

@@ -28,6 +28,9 @@ fn use_each<S: Side>(side: &mut S, keys: &[u64], workload: Workload) -> u64 {
         Workload::ReadInto => side.read_each_into(keys),
         Workload::Load => side.load_each(keys),
         Workload::LoadInto => side.load_each_into(keys),
+        Workload::LoadEach => side.load_in_eights(keys),
+        Workload::GetOwn => side.get_each_own(keys),
+        Workload::OwnKeys => side.own_keys(keys.len()),
         _ => side.get_each(keys),
     }
 }
@@ -100,7 +103,7 @@ mod tests {
 
     #[test]
     fn both_sides_read_the_words_that_were_stored() {
-        let ways = [Workload::Read, Workload::ReadInto, Workload::Load, Workload::LoadInto];
+        let ways = [Workload::Read, Workload::ReadInto, Workload::Load, Workload::LoadInto, Workload::LoadEach];
         for way in ways {
             assert_eq!(sums(way, 1, 16), 2000 * 120, "the words 0 to 15");
             assert_eq!(sums(way, 8, 1), 250 * 16 * 28, "each of the words 0, 16, .., 112 so often");
@@ -112,6 +115,12 @@ mod tests {
         for workload in [Workload::Get, Workload::Insert, Workload::Remove] {
             assert_ne!(sums(workload, 3, 2), 0);
         }
+    }
+
+    #[test]
+    fn the_owner_gets_the_same_keys_and_walks_through_them() {
+        let of_a_pass = sums(Workload::Get, 8, 1);
+        assert_eq!([Workload::GetOwn, Workload::OwnKeys].map(|way| sums(way, 8, 1)), [of_a_pass; 2]);
     }
 
     #[test]
