@@ -38,6 +38,7 @@ mod table;
 mod times;
 mod title;
 mod turning;
+mod waiting;
 mod workload;
 mod workloads;
 

@@ -5,6 +5,7 @@ use crate::rival::Rival;
 use crate::rivals::{with_rival, Room, Task};
 use crate::row::Row;
 use crate::turning;
+use crate::waiting::{Watch, MOST};
 use crate::workload::Workload;
 use crate::workloads;
 use std::path::Path;
@@ -27,6 +28,9 @@ pub const SIDES: [Side; 7] =
 /// The sides beside which the library is measured.
 pub const RIVALS: [Side; 6] =
     [Side::Sharded, Side::MutexSlab, Side::Dash, Side::MutexSlotMap, Side::RwSlotMap, Side::Model];
+
+// How often a turn is tried in which threads waited for a processor.
+const TRIES: usize = 3;
 
 // In a batch, or on their way in a ring, there are fewer values than this.
 const BESIDES: usize = 5000;
@@ -60,8 +64,8 @@ impl Side {
         RIVALS.into_iter().find(|side| side.name() == name)
     }
 
-    // Whether it has the workload of the row.
-    fn has(self, row: &Row) -> bool {
+    /// Whether it has the workload of the row.
+    pub fn has(self, row: &Row) -> bool {
         match (self, row.workload.changes_hands()) {
             (Side::Ours, _) => true,
             (Side::Model, true) => true,
@@ -80,14 +84,28 @@ impl Side {
         }
     }
 
-    /// The nanoseconds of one operation, in one turn, which is a process of its own; nothing if the side has no such
-    /// workload.
-    pub fn turn(self, program: &Path, row: &Row) -> Result<Option<f64>, String> {
+    // The nanoseconds of one operation, in one turn, which is a process of its own.
+    fn once(self, program: &Path, row: &Row) -> Result<f64, String> {
         match self {
-            Side::Ours => ours::measure(program, row).map(Some),
-            _ if !self.has(row) => Ok(None),
-            _ => turning::measure(self, row).map(Some),
+            Side::Ours => ours::measure(program, row),
+            _ => turning::measure(self, row),
         }
+    }
+
+    /// The nanoseconds of one operation in a turn. Nothing if the side has no such workload, or if the row has several
+    /// threads and in no turn of some tries all of them ran at once.
+    pub fn turn(self, program: &Path, row: &Row) -> Result<Option<f64>, String> {
+        if !self.has(row) {
+            return Ok(None);
+        }
+        for _try in 0..TRIES {
+            let watch = Watch::start();
+            let time = self.once(program, row)?;
+            if row.running() == 1 || watch.share().is_none_or(|share| share <= MOST) {
+                return Ok(Some(time));
+            }
+        }
+        Ok(None)
     }
 }
 

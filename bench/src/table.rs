@@ -19,9 +19,12 @@ pub enum Table {
 /// Those of the usual run.
 pub const TABLES: [Table; 3] = [Table::Calls, Table::Passes, Table::Changes];
 
+/// What a cell has if the side has the workload, and in no turn all threads ran at once.
+const NOT_AT_ONCE: &str = "not at once";
+
 fn nanoseconds(times: &[Times]) -> String {
     if times.is_empty() {
-        "none".to_string()
+        NOT_AT_ONCE.to_string()
     } else {
         text(times, 1)
     }
@@ -31,6 +34,7 @@ fn nanoseconds(times: &[Times]) -> String {
 fn ratio(measured: &Measured, rival: Side) -> String {
     let behind = measured.row.aim(rival).map_or(String::new(), |aim| format!(" ({aim})"));
     match measured.ratios(rival) {
+        none if none.is_empty() && rival.has(&measured.row) => NOT_AT_ONCE.to_string(),
         none if none.is_empty() => "none".to_string(),
         ratios => format!("{}{behind}", text(&ratios, 2)),
     }
@@ -101,6 +105,14 @@ impl Table {
 #[cfg(test)]
 mod tests {
     use super::*;
+    use crate::workload::Workload;
+
+    #[test]
+    fn a_row_without_a_turn_at_once_says_so() {
+        let line = calls_line(&Measured::new(Row::new(Workload::Get, 4, 1)));
+        assert_eq!(line[2..], [NOT_AT_ONCE; 7]);
+        assert_eq!(ratio(&Measured::new(Row::new(Workload::Heed, 1, 1)), Side::Sharded), "none");
+    }
 
     #[test]
     fn lines_have_as_many_places_as_their_head() {

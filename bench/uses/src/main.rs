@@ -1,0 +1,89 @@
+//! Measures concurrent maps in whole uses: `uses [--rows WORD] [ROUNDS]` prints a table of times, and `uses latency`,
+//! `uses memory` and `uses room` one each. ../README.md says what they are.
+#[path = "../../src/gate.rs"]
+mod gate;
+#[path = "../../src/machine.rs"]
+mod machine;
+#[path = "../../src/markdown.rs"]
+mod markdown;
+#[path = "../../src/payload.rs"]
+mod payload;
+#[allow(dead_code)]
+#[path = "../../src/times.rs"]
+mod times;
+#[path = "../../src/waiting.rs"]
+mod waiting;
+
+mod dice;
+mod map;
+mod maps;
+mod probe;
+mod room;
+mod scenes;
+mod tables;
+mod together;
+mod turning;
+
+use maps::Side;
+use probe::CALLS;
+use std::process::ExitCode;
+use turning::{row_of, waited_line};
+
+const USAGE: &str = "usage: uses [--rows WORD] [ROUNDS] | uses latency | uses memory | uses room";
+const ROUNDS: usize = 3;
+
+fn latency_report(side: Side, threads: &str) -> Option<String> {
+    let threads = threads.parse().ok().filter(|threads| tables::THREADS.contains(threads))?;
+    let (mut clock, spent) = scenes::latency(side, threads);
+    let lines = CALLS.map(|call| {
+        let times = clock.quantiles(call).unwrap_or_default().map(|time| time.to_string());
+        format!("{} {}\n", call.name(), times.join(" "))
+    });
+    Some(format!("{}{}", lines.concat(), waited_line(&spent)))
+}
+
+// What one turn prints.
+fn report(side: &str, words: &[&str]) -> Option<String> {
+    let side = Side::of_name(side)?;
+    match words {
+        ["latency", threads] => latency_report(side, threads),
+        ["memory"] => Some(format!("bytes {}\n", scenes::memory(side).map(|bytes| bytes.to_string()).join(" "))),
+        words => {
+            let (nanoseconds, spent) = scenes::turn(side, row_of(words)?);
+            Some(format!("nanoseconds {nanoseconds}\n{}", waited_line(&spent)))
+        }
+    }
+}
+
+fn rounds(word: &str) -> Result<usize, String> {
+    word.parse().ok().filter(|rounds| *rounds > 0).ok_or_else(|| USAGE.to_string())
+}
+
+fn printed(words: &[&str]) -> Result<String, String> {
+    let about = |rounds: usize| format!("{}\nrounds: {rounds}\n\n", machine::text());
+    match words {
+        ["turn", side, words @ ..] => report(side, words).ok_or_else(|| USAGE.to_string()),
+        ["latency"] => Ok(format!("{}{}\n", about(1), tables::latency()?)),
+        ["memory"] => Ok(format!("{}\n", tables::memory()?)),
+        ["room"] => Ok(format!("{}\n", tables::room())),
+        ["--rows", word] => Ok(format!("{}{}\n", about(ROUNDS), tables::uses(ROUNDS, word)?)),
+        ["--rows", word, count] => Ok(format!("{}{}\n", about(rounds(count)?), tables::uses(rounds(count)?, word)?)),
+        [] => Ok(format!("{}{}\n", about(ROUNDS), tables::uses(ROUNDS, "")?)),
+        [count] => Ok(format!("{}{}\n", about(rounds(count)?), tables::uses(rounds(count)?, "")?)),
+        _ => Err(USAGE.to_string()),
+    }
+}
+
+fn main() -> ExitCode {
+    let words: Vec<String> = std::env::args().skip(1).collect();
+    match printed(&words.iter().map(String::as_str).collect::<Vec<_>>()) {
+        Ok(text) => {
+            print!("{text}");
+            ExitCode::SUCCESS
+        }
+        Err(why) => {
+            eprintln!("uses: {why}");
+            ExitCode::FAILURE
+        }
+    }
+}

@@ -1,0 +1,92 @@
+//! Turns, each in a process of its own: this program is run with the words of one turn.
+use crate::maps::Side;
+use crate::scenes::{self, Row, Scene};
+use crate::together::Spent;
+use crate::waiting;
+use std::env;
+use std::process::Command;
+
+/// How often a turn is tried again in which threads waited for a processor.
+const TRIES: usize = 3;
+
+/// What a turn printed: names, and the numbers behind them.
+pub struct Report(String);
+
+impl Report {
+    /// The numbers behind a name; none if it has no line.
+    pub fn numbers(&self, name: &str) -> Option<Vec<f64>> {
+        let line = self.0.lines().find_map(|line| line.strip_prefix(name)?.strip_prefix(' '))?;
+        line.split_whitespace().map(|word| word.parse().ok()).collect()
+    }
+
+    // Whether all threads had a processor, or the kernel does not count it.
+    fn ran_at_once(&self) -> bool {
+        self.numbers("waited").into_iter().flatten().all(|share| share <= waiting::MOST)
+    }
+}
+
+/// The words of a turn of this row.
+pub fn words_of(row: Row) -> Vec<String> {
+    let scene = match row.scene {
+        Scene::Session(reads) => format!("session-{reads}"),
+        Scene::Batches => "batches".to_string(),
+        Scene::Churned => "churned".to_string(),
+        Scene::Handing => "handing".to_string(),
+    };
+    vec![scene, row.threads.to_string()]
+}
+
+/// The row of which these are the words.
+pub fn row_of(words: &[&str]) -> Option<Row> {
+    scenes::rows().into_iter().find(|row| words_of(*row) == words)
+}
+
+/// A line for the share of the time in which threads waited.
+pub fn waited_line(spent: &Spent) -> String {
+    spent.waited.map_or(String::new(), |share| format!("waited {share:.4}\n"))
+}
+
+fn once(side: Side, words: &[String]) -> Result<Report, String> {
+    let program = env::current_exe().map_err(|why| format!("this program's file: {why}"))?;
+    let run = Command::new(program).args(["turn", side.name()]).args(words).output();
+    let run = run.map_err(|why| format!("a turn of {}: {why}", side.name()))?;
+    match run.status.success() {
+        true => Ok(Report(String::from_utf8_lossy(&run.stdout).into_owned())),
+        false => Err(format!("a turn of {}: {}", side.name(), String::from_utf8_lossy(&run.stderr).trim())),
+    }
+}
+
+/// A turn of this side in which all threads ran at once; none if there was none in some tries.
+pub fn turn(side: Side, words: &[String]) -> Result<Option<Report>, String> {
+    for _try in 0..TRIES {
+        let report = once(side, words)?;
+        if report.ran_at_once() {
+            return Ok(Some(report));
+        }
+    }
+    Ok(None)
+}
+
+#[cfg(test)]
+mod tests {
+    use super::*;
+
+    #[test]
+    fn a_report_has_numbers_by_name() {
+        let report = Report("read 1 2.5\nreads 7\nwaited 0.02\n".to_string());
+        assert_eq!(report.numbers("read"), Some(vec![1.0, 2.5]));
+        assert_eq!(report.numbers("reads"), Some(vec![7.0]));
+        assert_eq!(report.numbers("rea"), None);
+        assert!(report.ran_at_once() && Report(String::new()).ran_at_once());
+        assert!(!Report("waited 0.5\n".to_string()).ran_at_once());
+    }
+
+    #[test]
+    fn words_are_those_of_one_row() {
+        for row in scenes::rows() {
+            let words = words_of(row);
+            assert_eq!(row_of(&words.iter().map(String::as_str).collect::<Vec<_>>()), Some(row));
+        }
+        assert_eq!(row_of(&["session-90", "3"]), None);
+    }
+}
