@@ -1,6 +1,7 @@
 //! The codes that calls return.
 ghost use Rattle.std.specs.Prelude.{◌≡◌};
 ghost use Rattle.c_exports.specs.Told.{code_of};
+ghost use Rattle.sh_value.specs.Refusal.{refusal_number};
 
 use sh_value::Refusal;
 
@@ -40,6 +41,15 @@ pub(crate) fn code<T>(answer: &Result<T, Refusal>) -> u32
 {
     match answer {
         Ok(_) => OK,
-        Err(refusal) => refusal.number(),
+        Err(refusal) => refused(*refusal),
     }
+}
+
+// The code of a refusal. As a call of its own it keeps the instructions that pick a code out of the calls that are done.
+#[cold]
+#[inline(never)]
+fn refused(refusal: Refusal) -> u32
+    ensures { result ≡ refusal_number refusal }
+{
+    refusal.number()
 }
