@@ -32,7 +32,7 @@ BLOCK = re.compile(
     r"(<!-- bench rows(?:: (?P<name>[\w-]+)(?P<all>, all)?)? -->\n)(?P<body>.*?)(<!-- end of bench rows -->)", re.S
 )
 # the columns that name a row; of a heap that is opened the number of words is measured
-KEYS = ("Workload", "Threads", "Call", "Values", "Words")
+KEYS = ("Workload", "Threads", "Call", "Map", "Values", "Words")
 OPENING = "ns a word"
 AIM = " (aim)"
 RATIO = re.compile(r"(?:[\d.]+-)?([\d.]+) / \S+ \(([\d.]+)\)")

@@ -12,7 +12,8 @@ const SIDES: usize = 3;
 #[derive(Clone, Copy)]
 struct Call {
     title: &'static str,
-    inside: &'static str,
+    // None if `tool_bench` has no such workload.
+    inside: Option<&'static str>,
     through: &'static str,
     operations: usize,
     live: usize,
@@ -27,12 +28,13 @@ struct Job<'a> {
 
 // What is done, its names in `tool_bench` and in `through`, and how often. With a read go the get and the release of
 // its hold. `tool_bench` has no load: it is beside the three calls that it replaces.
-const WAYS: [(&str, &str, &str, usize); 7] = [
+const WAYS: [(&str, &str, &str, usize); 8] = [
     ("get + release", "get", "get", 1_000_000),
     ("read", "read", "read", 400_000),
     ("read into", "read-into", "read-into", 400_000),
     ("load", "read", "load", 400_000),
     ("load into", "read-into", "load-into", 400_000),
+    ("load, eight a call", "read-into", "load-each", 400_000),
     ("insert", "insert", "insert", 200_000),
     ("remove by the owner", "remove", "remove", 400_000),
 ];
@@ -42,17 +44,22 @@ const VALUES: [(usize, usize); 4] = [(1, 1), (10_000, 1), (1, 16), (1000, 16)];
 
 fn calls() -> Vec<Call> {
     let of = |(title, inside, through, operations)| {
-        VALUES.map(|(live, words)| Call { title, inside, through, operations, live, words })
+        VALUES.map(|(live, words)| Call { title, inside: Some(inside), through, operations, live, words })
     };
     let all = WAYS.map(of).concat();
-    all.into_iter().filter(|call| call.words == 1 || call.inside != "get").collect()
+    let walk = ("next key of a shard", "own-keys", 100_000);
+    let walks = [9600, 96].map(|live| {
+        let (title, through, operations) = walk;
+        Call { title, inside: None, through, operations, live, words: 1 }
+    });
+    all.into_iter().filter(|call| call.words == 1 || call.inside != Some("get")).chain(walks).collect()
 }
 
 impl Call {
     fn title(&self) -> String {
         let keys = if self.live == 1 { "one key".to_string() } else { format!("{} keys", grouped(self.live)) };
         match self.inside {
-            "get" => format!("{}, {keys}", self.title),
+            Some("get") | None => format!("{}, {keys}", self.title),
             _ if self.words == 1 => format!("{}, 1 word, {keys}", self.title),
             _ => format!("{}, {} words, {keys}", self.title, self.words),
         }
@@ -65,20 +72,22 @@ impl Call {
         first.iter().map(|word| word.to_string()).chain(options).collect()
     }
 
-    fn jobs<'a>(&self, inside: &'a Path, through: &'a Path) -> [Job<'a>; SIDES] {
+    // (Without such a workload inside the first one has none.)
+    fn jobs<'a>(&self, inside: &'a Path, through: &'a Path) -> [Option<Job<'a>>; SIDES] {
         [
-            Job { program: inside, words: self.words(&[self.inside]) },
-            Job { program: through, words: self.words(&["rust", self.through]) },
-            Job { program: through, words: self.words(&["c", self.through]) },
+            self.inside.map(|name| Job { program: inside, words: self.words(&[name]) }),
+            Some(Job { program: through, words: self.words(&["rust", self.through]) }),
+            Some(Job { program: through, words: self.words(&["c", self.through]) }),
         ]
     }
 
     // In each round another side is first.
-    fn measure(&self, jobs: &[Job<'_>; SIDES], rounds: usize) -> Result<[Vec<f64>; SIDES], String> {
+    fn measure(&self, jobs: &[Option<Job<'_>>; SIDES], rounds: usize) -> Result<[Vec<f64>; SIDES], String> {
         let mut times: [Vec<f64>; SIDES] = Default::default();
         for turn in 0..rounds * SIDES {
             let at = (turn / SIDES + turn) % SIDES;
-            let all = spent(jobs[at].program, &jobs[at].words, self.operations)?;
+            let Some(job) = &jobs[at] else { continue };
+            let all = spent(job.program, &job.words, self.operations)?;
             times[at].push(all / self.operations as f64);
         }
         Ok(times)
@@ -120,7 +129,8 @@ mod tests {
         let all = titles.len();
         titles.sort();
         titles.dedup();
-        assert_eq!((titles.len(), all), (26, 26));
+        assert_eq!((titles.len(), all), (32, 32));
+        assert!(titles.contains(&"next key of a shard, 9,600 keys".to_string()));
         assert!(titles.contains(&"get + release, 10,000 keys".to_string()));
         assert!(titles.contains(&"load into, 16 words, one key".to_string()));
     }
@@ -134,9 +144,17 @@ mod tests {
     }
 
     #[test]
+    fn a_call_that_is_not_inside_has_no_ratio() {
+        let walk = calls().pop().expect("there are calls");
+        assert!(walk.jobs(Path::new("/a"), Path::new("/b"))[0].is_none());
+        let line = walk.line([vec![], vec![12.0], vec![9.0]]);
+        assert_eq!(line, "| next key of a shard, 96 keys | none | 12.0 / 12.0 | none | 9.0 / 9.0 | none |");
+    }
+
+    #[test]
     fn the_programs_are_told_the_same_numbers() {
         let (inside, through) = (Path::new("/tool_bench"), Path::new("/through"));
-        let jobs = calls()[2].jobs(inside, through).map(|job| job.words.join(" "));
+        let jobs = calls()[2].jobs(inside, through).map(|job| job.map_or(String::new(), |job| job.words.join(" ")));
         let numbers = "--operations 400000 --live 1 --words 1";
         assert_eq!(jobs, ["read", "rust read", "c read"].map(|first| format!("{first} {numbers}")));
     }

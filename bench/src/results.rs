@@ -1,5 +1,6 @@
 //! The table of calls as a run printed it, read back: a kept output is enough to draw its pictures.
 use crate::sides::{Side, RIVALS};
+use crate::table::NOT_AT_ONCE;
 
 /// The least times of one row, or its least ratios: one number, or a range if the row had several runs.
 #[derive(Clone, Copy, Debug, PartialEq)]
@@ -77,6 +78,8 @@ pub fn figures(text: &str) -> Result<Vec<Figure>, String> {
     let head = lines.next().ok_or("the text has no table of calls")?;
     let rivals = rivals(head);
     let rows = lines.skip(1).take_while(|line| line.starts_with('|'));
+    // A row that has no time of ours, since its threads did not run at once, has no place in a picture.
+    let rows = rows.filter(|line| places(line).get(2) != Some(&NOT_AT_ONCE));
     rows.map(|line| figure(line, &rivals).ok_or(format!("no row of the table of calls: {line}"))).collect()
 }
 
@@ -91,6 +94,7 @@ rounds: 15
 |---|---|---|---|---|
 | get + release, one key | 1 | 24.2 / 31.9 | 1.03 / 1.19 (0.9) | none |
 | get + release, one key | 2 | 40.0-80.0 / 88.7-102.7 | 0.50-1.00 / 0.45-0.59 | 0.87-2.09 / 1.29-1.46 (1.1) |
+| get + release, one key | 4 | not at once | not at once | not at once |
 
 | Workload | Threads | ns | to `sharded_slab` (aim) |
 |---|---|---|---|

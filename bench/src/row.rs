@@ -78,6 +78,11 @@ impl Row {
         }
     }
 
+    /// Whether it is a row of the table of large heaps.
+    pub fn is_large(&self) -> bool {
+        self.is_deep || self.workload == Workload::Fill
+    }
+
     /// How many pages have values or free slots, if these have one word.
     pub fn pages(&self) -> usize {
         (self.live + self.freed).div_ceil(48)

@@ -64,12 +64,18 @@ impl Side {
         RIVALS.into_iter().find(|side| side.name() == name)
     }
 
+    // Whether it is a map behind a lock. Large rows leave these out.
+    fn is_locked(self) -> bool {
+        matches!(self, Side::MutexSlab | Side::MutexSlotMap | Side::RwSlotMap)
+    }
+
     /// Whether it has the workload of the row.
     pub fn has(self, row: &Row) -> bool {
         match (self, row.workload.changes_hands()) {
             (Side::Ours, _) => true,
             (Side::Model, true) => true,
             (_, true) => false,
+            (_, false) if row.is_large() && self.is_locked() => false,
             (_, false) => row.passes == 1 && row.workload != Workload::Heed,
         }
     }
@@ -120,6 +126,7 @@ mod tests {
         assert_eq!(with(Row::new(Workload::Get, 1, 10).passes(2)), [false; 6]);
         assert_eq!(with(Row::new(Workload::Heed, 1, 10)), [false; 6]);
         assert_eq!(with(Row::new(Workload::Adopt, 1, 10)), [false, false, false, false, false, true]);
+        assert_eq!(with(Row::new(Workload::Get, 1, 10).deep()), [true, false, true, false, false, true]);
     }
 
     #[test]

@@ -20,7 +20,7 @@ pub enum Table {
 pub const TABLES: [Table; 3] = [Table::Calls, Table::Passes, Table::Changes];
 
 /// What a cell has if the side has the workload, and in no turn all threads ran at once.
-const NOT_AT_ONCE: &str = "not at once";
+pub const NOT_AT_ONCE: &str = "not at once";
 
 fn nanoseconds(times: &[Times]) -> String {
     if times.is_empty() {

@@ -1,5 +1,6 @@
 //! Measures concurrent maps in whole uses: `uses [--rows WORD] [ROUNDS]` prints a table of times, and `uses latency`,
-//! `uses memory` and `uses room` one each. ../README.md says what they are.
+//! `uses memory` and `uses room` one each. `uses picture RESULTS FILE` draws a kept table of latencies. ../README.md says
+//! what they are.
 #[path = "../../src/gate.rs"]
 mod gate;
 #[path = "../../src/machine.rs"]
@@ -8,6 +9,8 @@ mod machine;
 mod markdown;
 #[path = "../../src/payload.rs"]
 mod payload;
+#[path = "../../src/svg.rs"]
+mod svg;
 #[allow(dead_code)]
 #[path = "../../src/times.rs"]
 mod times;
@@ -17,6 +20,7 @@ mod waiting;
 mod dice;
 mod map;
 mod maps;
+mod picture;
 mod probe;
 mod room;
 mod scenes;
@@ -26,10 +30,14 @@ mod turning;
 
 use maps::Side;
 use probe::CALLS;
+use std::fs;
 use std::process::ExitCode;
 use turning::{row_of, waited_line};
 
-const USAGE: &str = "usage: uses [--rows WORD] [ROUNDS] | uses latency | uses memory | uses room";
+const USAGE: &str = "\
+usage: uses [--rows WORD] [ROUNDS]
+       uses latency | uses memory | uses room
+       uses picture RESULTS FILE";
 const ROUNDS: usize = 3;
 
 fn latency_report(side: Side, threads: &str) -> Option<String> {
@@ -59,6 +67,14 @@ fn rounds(word: &str) -> Result<usize, String> {
     word.parse().ok().filter(|rounds| *rounds > 0).ok_or_else(|| USAGE.to_string())
 }
 
+// Draws the latencies of a run whose output was kept.
+fn draw(results: &str, file: &str) -> Result<(), String> {
+    let said = |name: &str, why: std::io::Error| format!("{name}: {why}");
+    let text = fs::read_to_string(results).map_err(|why| said(results, why))?;
+    let picture = picture::picture(&text).ok_or_else(|| format!("{results} has no table of latencies"))?;
+    fs::write(file, picture).map_err(|why| said(file, why))
+}
+
 fn printed(words: &[&str]) -> Result<String, String> {
     let about = |rounds: usize| format!("{}\nrounds: {rounds}\n\n", machine::text());
     match words {
@@ -66,6 +82,7 @@ fn printed(words: &[&str]) -> Result<String, String> {
         ["latency"] => Ok(format!("{}{}\n", about(1), tables::latency()?)),
         ["memory"] => Ok(format!("{}\n", tables::memory()?)),
         ["room"] => Ok(format!("{}\n", tables::room())),
+        ["picture", results, file] => draw(results, file).map(|()| String::new()),
         ["--rows", word] => Ok(format!("{}{}\n", about(ROUNDS), tables::uses(ROUNDS, word)?)),
         ["--rows", word, count] => Ok(format!("{}{}\n", about(rounds(count)?), tables::uses(rounds(count)?, word)?)),
         [] => Ok(format!("{}{}\n", about(ROUNDS), tables::uses(ROUNDS, "")?)),

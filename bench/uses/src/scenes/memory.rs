@@ -47,7 +47,7 @@ impl Task for Churn {
 
 /// The bytes of the process for each value, beyond those at its start, after each of the `ROUNDS`.
 pub fn memory(side: Side) -> [f64; ROUNDS.len()] {
-    // In a heap a page is of values of one length, so the lengths need more room than the values in all.
-    let room = Room { owners: 1, values: 2 * VALUES, words: WORDS };
+    // The heap takes its room as it opens: for as many values of 16 words.
+    let room = Room { owners: 1, values: VALUES, words: WORDS };
     side.with::<UpTo16, _>(room, Churn).map(|bytes| bytes as f64 / VALUES as f64)
 }
