@@ -69,6 +69,12 @@ impl Side {
         matches!(self, Side::MutexSlab | Side::MutexSlotMap | Side::RwSlotMap)
     }
 
+    // Whether its threads may sleep until another one wakes them. The kernel counts the moments of waking as waiting, so
+    // it does not show whether they ran at once.
+    fn sleeps(self) -> bool {
+        self.is_locked() || self == Side::Dash
+    }
+
     /// Whether it has the workload of the row.
     pub fn has(self, row: &Row) -> bool {
         match (self, row.workload.changes_hands()) {
@@ -99,7 +105,7 @@ impl Side {
     }
 
     /// The nanoseconds of one operation in a turn. Nothing if the side has no such workload, or if the row has several
-    /// threads and in no turn of some tries all of them ran at once.
+    /// threads and in no turn of some tries all of them ran at once. Of a side that sleeps each turn counts.
     pub fn turn(self, program: &Path, row: &Row) -> Result<Option<f64>, String> {
         if !self.has(row) {
             return Ok(None);
@@ -107,7 +113,7 @@ impl Side {
         for _try in 0..TRIES {
             let watch = Watch::start();
             let time = self.once(program, row)?;
-            if row.running() == 1 || watch.share().is_none_or(|share| share <= MOST) {
+            if row.running() == 1 || self.sleeps() || watch.share().is_none_or(|share| share <= MOST) {
                 return Ok(Some(time));
             }
         }

@@ -30,6 +30,7 @@ mod turning;
 
 use maps::Side;
 use probe::CALLS;
+use scenes::{Row, Scene};
 use std::fs;
 use std::process::ExitCode;
 use turning::{row_of, waited_line};
@@ -43,11 +44,12 @@ const ROUNDS: usize = 3;
 fn latency_report(side: Side, threads: &str) -> Option<String> {
     let threads = threads.parse().ok().filter(|threads| tables::THREADS.contains(threads))?;
     let (mut clock, spent) = scenes::latency(side, threads);
+    let row = Row { scene: Scene::Session(90), threads };
     let lines = CALLS.map(|call| {
         let times = clock.quantiles(call).unwrap_or_default().map(|time| time.to_string());
         format!("{} {}\n", call.name(), times.join(" "))
     });
-    Some(format!("{}{}", lines.concat(), waited_line(&spent)))
+    Some(format!("{}{}", lines.concat(), waited_line(side, row, &spent)))
 }
 
 // What one turn prints.
@@ -57,8 +59,9 @@ fn report(side: &str, words: &[&str]) -> Option<String> {
         ["latency", threads] => latency_report(side, threads),
         ["memory"] => Some(format!("bytes {}\n", scenes::memory(side).map(|bytes| bytes.to_string()).join(" "))),
         words => {
-            let (nanoseconds, spent) = scenes::turn(side, row_of(words)?);
-            Some(format!("nanoseconds {nanoseconds}\n{}", waited_line(&spent)))
+            let row = row_of(words)?;
+            let (nanoseconds, spent) = scenes::turn(side, row);
+            Some(format!("nanoseconds {nanoseconds}\n{}", waited_line(side, row, &spent)))
         }
     }
 }

@@ -39,7 +39,7 @@ pub trait Map: Sync + Sized {
 
 /// The calls of one thread.
 pub trait Caller {
-    /// Stores the words, and answers their key.
+    /// Stores the words, and returns their key.
     fn insert(&mut self, words: &[u64]) -> u64;
 
     /// Removes a key, which this thread or another one inserted: whether it was there.

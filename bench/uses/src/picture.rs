@@ -1,5 +1,5 @@
-//! The picture of the table of latencies: for each call and number of threads a line a map, from the time that half of
-//! the calls take at most to the greatest.
+//! The picture of the table of latencies. Each call in each number of threads has a line for each map. It goes from the
+//! time that half of the calls take at most to the greatest.
 use crate::svg::{Anchor, Sheet, FAINT, INK, PALE};
 
 /// The head of the table, as a run printed it.

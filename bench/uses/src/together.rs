@@ -54,7 +54,7 @@ impl Timer {
     }
 }
 
-/// Runs the job in this many threads, each with its number, and answers what they took together and what they returned.
+/// Runs the job in this many threads, each with its number, and returns what they took together and what each returned.
 pub fn together<T: Send>(threads: usize, job: impl Fn(usize, &Start) -> (Spent, T) + Sync) -> (Spent, Vec<T>) {
     let (start, job) = (&Start::new(threads), &job);
     let all: Vec<(Spent, T)> = thread::scope(|scope| {

@@ -41,9 +41,12 @@ pub fn row_of(words: &[&str]) -> Option<Row> {
     scenes::rows().into_iter().find(|row| words_of(*row) == words)
 }
 
-/// A line for the share of the time in which threads waited.
-pub fn waited_line(spent: &Spent) -> String {
-    spent.waited.map_or(String::new(), |share| format!("waited {share:.4}\n"))
+/// A line for the share of the time in which threads waited, if that shows whether they ran at once: not of one thread,
+/// and not if threads sleep, as a consumer does.
+pub fn waited_line(side: Side, row: Row, spent: &Spent) -> String {
+    let sleep = side.sleeps() || row.scene == Scene::Batches;
+    let share = spent.waited.filter(|_| row.threads > 1 && !sleep);
+    share.map_or(String::new(), |share| format!("waited {share:.4}\n"))
 }
 
 fn once(side: Side, words: &[String]) -> Result<Report, String> {
@@ -79,6 +82,17 @@ mod tests {
         assert_eq!(report.numbers("rea"), None);
         assert!(report.ran_at_once() && Report(String::new()).ran_at_once());
         assert!(!Report("waited 0.5\n".to_string()).ran_at_once());
+    }
+
+    #[test]
+    fn only_threads_that_do_not_sleep_are_looked_at() {
+        let spent = Spent { longest: std::time::Duration::ZERO, waited: Some(0.5) };
+        let row = |scene, threads| Row { scene, threads };
+        let is_looked_at = |side, row| !waited_line(side, row, &spent).is_empty();
+        assert!(is_looked_at(Side::Heap, row(Scene::Churned, 2)));
+        assert!(!is_looked_at(Side::Heap, row(Scene::Session(90), 1)));
+        assert!(!is_looked_at(Side::Heap, row(Scene::Batches, 2)));
+        assert!(!is_looked_at(Side::ParkingHash, row(Scene::Churned, 2)));
     }
 
     #[test]

@@ -57,6 +57,12 @@ impl Side {
         }
     }
 
+    /// Whether its threads may sleep until another one wakes them. The kernel counts the moments of waking as waiting,
+    /// so it does not show whether they ran at once.
+    pub fn sleeps(self) -> bool {
+        matches!(self, Side::Dash | Side::StdHash | Side::ParkingHash)
+    }
+
     /// The side of this name.
     pub fn of_name(name: &str) -> Option<Side> {
         SIDES.into_iter().find(|side| side.name() == name)

@@ -25,7 +25,7 @@ fn produce(caller: &mut impl Caller, way: &SyncSender<Batch>, count: usize) {
     }
 }
 
-// Answers the sum of what was read.
+// Returns the sum of what was read.
 fn consume(caller: &mut impl Caller, way: &Receiver<Batch>, count: usize) -> u64 {
     let (mut sum, mut taken) = (0u64, 0);
     while taken < count {

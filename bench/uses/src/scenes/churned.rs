@@ -17,7 +17,7 @@ struct Table {
     reading: AtomicUsize,
 }
 
-// Replaces values until no reader reads. Answers how many.
+// Replaces values until no reader reads. Returns how many.
 fn churn(table: &Table, caller: &mut impl Caller) -> usize {
     let (mut dice, mut replaced) = (Dice::new(0), 0);
     while table.reading.load(Relaxed) > 0 {
@@ -29,7 +29,7 @@ fn churn(table: &Table, caller: &mut impl Caller) -> usize {
     replaced
 }
 
-// Answers how many reads found a value.
+// Returns how many reads found a value.
 fn read(table: &Table, caller: &mut impl Caller, number: usize, reads: usize) -> usize {
     let mut dice = Dice::new(number);
     let mut one = || caller.read(table.keys[dice.below(VALUES)].load(Acquire));
