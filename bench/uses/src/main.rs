@@ -82,7 +82,7 @@ fn printed(words: &[&str]) -> Result<String, String> {
     let about = |rounds: usize| format!("{}\nrounds: {rounds}\n\n", machine::text());
     match words {
         ["turn", side, words @ ..] => report(side, words).ok_or_else(|| USAGE.to_string()),
-        ["latency"] => Ok(format!("{}{}\n", about(1), tables::latency()?)),
+        ["latency"] => Ok(format!("{}\n\n{}\n", machine::text(), tables::latency()?)),
         ["memory"] => Ok(format!("{}\n", tables::memory()?)),
         ["room"] => Ok(format!("{}\n", tables::room())),
         ["picture", results, file] => draw(results, file).map(|()| String::new()),
