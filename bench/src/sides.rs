@@ -30,7 +30,7 @@ pub const RIVALS: [Side; 6] =
     [Side::Sharded, Side::MutexSlab, Side::Dash, Side::MutexSlotMap, Side::RwSlotMap, Side::Model];
 
 // How often a turn is tried in which threads waited for a processor.
-const TRIES: usize = 3;
+const TRIES: usize = 4;
 
 // In a batch, or on their way in a ring, there are fewer values than this.
 const BESIDES: usize = 5000;
@@ -69,8 +69,8 @@ impl Side {
         matches!(self, Side::MutexSlab | Side::MutexSlotMap | Side::RwSlotMap)
     }
 
-    // Whether its threads may sleep until another one wakes them. The kernel counts the moments of waking as waiting, so
-    // it does not show whether they ran at once.
+    // Whether its threads may sleep until another one wakes them. The kernel counts the moments of waking as waiting,
+    // so it does not show whether they ran at once.
     fn sleeps(self) -> bool {
         self.is_locked() || self == Side::Dash
     }

@@ -3,8 +3,8 @@ use std::fs;
 use std::time::{Duration, Instant};
 
 /// Threads ran at once if none waited for more than this share of the time. It leaves room for the moments in which
-/// threads start and end.
-pub const MOST: f64 = 0.03;
+/// threads start and end, and in which the kernel has work of its own.
+pub const MOST: f64 = 0.05;
 
 // The time in which at least one thread that could run waited, since the machine started: `some` of the pressure.
 fn total(pressure: &str) -> Option<Duration> {
@@ -65,6 +65,6 @@ full avg10=0.00 avg60=0.00 avg300=0.00 total=7
             }
         };
         std::thread::scope(|scope| (0..4 * processors).for_each(|_| _ = scope.spawn(spin)));
-        assert!(watch.share().expect("it is counted") > 10.0 * MOST);
+        assert!(watch.share().expect("it is counted") > 5.0 * MOST);
     }
 }

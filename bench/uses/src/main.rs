@@ -1,6 +1,6 @@
 //! Measures concurrent maps in whole uses: `uses [--rows WORD] [ROUNDS]` prints a table of times, and `uses latency`,
-//! `uses memory` and `uses room` one each. `uses picture RESULTS FILE` draws a kept table of latencies. ../README.md says
-//! what they are.
+//! `uses memory` and `uses room` one each. `uses picture RESULTS FILE` draws a kept table of latencies. ../README.md
+//! says what they are.
 #[path = "../../src/gate.rs"]
 mod gate;
 #[path = "../../src/machine.rs"]

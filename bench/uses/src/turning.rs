@@ -6,8 +6,8 @@ use crate::waiting;
 use std::env;
 use std::process::Command;
 
-/// How often a turn is tried again in which threads waited for a processor.
-const TRIES: usize = 3;
+/// How often a turn is tried in which threads waited for a processor.
+const TRIES: usize = 4;
 
 /// What a turn printed: names, and the numbers behind them.
 pub struct Report(String);
@@ -41,8 +41,8 @@ pub fn row_of(words: &[&str]) -> Option<Row> {
     scenes::rows().into_iter().find(|row| words_of(*row) == words)
 }
 
-/// A line for the share of the time in which threads waited, if that shows whether they ran at once: not of one thread,
-/// and not if threads sleep, as a consumer does.
+/// A line for the share of the time in which threads waited, if that shows whether they ran at once. It does not of one
+/// thread, or if threads sleep, as a consumer does.
 pub fn waited_line(side: Side, row: Row, spent: &Spent) -> String {
     let sleep = side.sleeps() || row.scene == Scene::Batches;
     let share = spent.waited.filter(|_| row.threads > 1 && !sleep);
