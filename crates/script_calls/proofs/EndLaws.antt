@@ -17,7 +17,7 @@ use Rattle.script_calls.specs.Parts.{RunTerms, PassPart, SeenPass, SamePass, Bec
 use Rattle.script_calls.specs.Calls.{UnlessRefused, LeaveAnswers, PartLeft, needs_shard}
 use Rattle.script_calls.specs.Meeting.{JoinsParts, EndedAmong, HasEnded, CarriesEnd, parts_carried}
 use Rattle.script_calls.specs.Alone.{AnsweredSoFar, HeedsLast, seen_with_part}
-use Rattle.script_calls.proofs.ListLemmas.{map_more}
+use Rattle.script_calls.proofs.ListLemmas.{get_some, map_more}
 
 -- ---- leaving
 
@@ -113,11 +113,6 @@ parts_heed (Some r) s c e =
     λ i. record { pass = pass i; own = k.0 i } ∷ k.1 i
 
 -- ---- the end
-
-get_some : {A : Type 0} (xs : List A) (k : ℕ) → k < length xs → (x : A) × (slice_get xs k ≡ Some x)
-get_some [] k lt = absurd (omega (arith, lt))
-get_some (x ∷ xs) zero lt = (x, refl)
-get_some (x ∷ xs) (suc k) lt = get_some xs k (omega (arith, lt))
 
 at_all : {A : Type 0} (P : A → Type 0) (xs : List A) (k : ℕ) (x : A) → slice_get xs k ≡ Some x → All P xs → P x
 at_all P [] k x e h = absurd (none-some x e)

@@ -11,6 +11,11 @@ use Rattle.sh_table.specs.Views.{Each}
 use Rattle.std.proofs.lemmas.Option.{none-some, same_Some}
 use Rattle.script_calls.specs.Parts.{passes_below}
 
+pub get_some : {A : Type 0} (xs : List A) (k : ℕ) → k < length xs → (x : A) × (slice_get xs k ≡ Some x)
+get_some [] k lt = absurd (omega (arith, lt))
+get_some (x ∷ xs) zero lt = (x, refl)
+get_some (x ∷ xs) (suc k) lt = get_some xs k (omega (arith, lt))
+
 pub get_set_same : {A : Type 0} (xs : List A) (k : ℕ) (x y : A) → slice_get xs k ≡ Some x → slice_get (set xs k y) k
     ≡ Some y
 get_set_same [] k x y e = absurd (none-some x e)

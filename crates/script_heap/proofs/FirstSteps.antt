@@ -28,6 +28,7 @@ use Rattle.sh_core.specs.Outcomes.{row_of_event}
 use Rattle.sh_core.specs.Trails.{trodden, trail_from, trail_of}
 use Rattle.sh_core.specs.Words.{read, opening}
 use Rattle.sh_core.specs.Worlds.{World, step, apply, open_world}
+use Rattle.sh_core.proofs.WaitFree.{skipped}
 
 -- ---- trails
 
@@ -66,20 +67,6 @@ trail_more plan w a steps e es = refl
 trail_none : (plan : Plan) (w : World) (a : ℕ) → trail_from plan w a [] [] ≡ []
 unfolding trail_from
 trail_none plan w a = refl
-
--- an event without a row changes nothing
-skipped : (plan : Plan) (w : World) (e : Event) → row_of_event plan w e ≡ None → step plan w e ≡ w
-unfolding step row_of_event
-skipped plan w e none = go (slice_get w.parts e.pass) none
-  where
-    go : (o : Option Body)
-        → elim o as (λ _. Option Row) [ Some p ↦ row plan p e.action | None ↦ None ] ≡ None
-        → elim o as (λ _. World) [
-          | Some p ↦ elim (row plan p e.action) [ Some m ↦ apply w e.pass m | None ↦ w ]
-          | None ↦ w
-        ] ≡ w
-    go None h = refl
-    go (Some p) h = ap (λ (o : Option Row). elim o as (λ _. World) [ Some m ↦ apply w e.pass m | None ↦ w ]) h
 
 -- an event that is done is of a pass of the world
 is_of_pass : (plan : Plan) (w : World) (e : Event) (m : Row) → row_of_event plan w e ≡ Some m → e.pass < length w.parts

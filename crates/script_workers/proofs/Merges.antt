@@ -18,7 +18,7 @@ use Rattle.script_calls.specs.InOrder.{adding_passes, times}
 use Rattle.script_calls.specs.Meeting.{orders_of}
 use Rattle.script_calls.specs.Named.{numbers_told, HeardOfNumber, NamesWereHeard}
 use Rattle.script_calls.proofs.NameLemmas.{numbers_after, counts_after, heard_more, heard_kept, orders_at}
-use Rattle.script_calls.proofs.ListLemmas.{get_set_same, get_set_other, take_at, take_past}
+use Rattle.script_calls.proofs.ListLemmas.{get_some, get_set_same, get_set_other, take_at, take_past}
 use Rattle.script_calls.proofs.LineLemmas.{OneMore, one_more, part_here, part_there}
 use Rattle.script_workers.specs.declared.worker.Made.{Made}
 use Rattle.script_workers.specs.Works.{own_calls, CallMade, CallsMade, IsWork}
@@ -43,11 +43,6 @@ within : {A : Type 0} (xs : List A) (k : ℕ) (x : A) → slice_get xs k ≡ Som
 within [] k x e = absurd (none-some x e)
 within (y ∷ ys) zero x e = omega arith
 within (y ∷ ys) (suc k) x e = let h = within ys k x e in omega (arith, h)
-
-get_some : {A : Type 0} (xs : List A) (k : ℕ) → k < length xs → (x : A) × (slice_get xs k ≡ Some x)
-get_some [] k h = absurd (omega arith)
-get_some (x ∷ xs) zero h = (x, refl)
-get_some (x ∷ xs) (suc k) h = get_some xs k (omega arith)
 
 -- ---- a pass's own calls among the lines that are left
 
