@@ -7,12 +7,12 @@
 
 pub mod call;
 pub mod clashing;
-pub mod course;
-pub mod holding;
+mod course;
+mod holding;
 pub mod judging;
 pub mod law;
-pub mod moment;
-pub mod order;
+mod moment;
+mod order;
 pub mod span;
 pub mod verdict;
 
