@@ -49,7 +49,7 @@ same_length [] (y ∷ ys) h = let n = h y in let z = times_none y in let c = tim
     in absurd (omega (arith, n, z, c, o))
 same_length (x ∷ xs) ys h =
     let here : 0 < times x ys = let n = h x in let c = times_cons x x xs in let o = if1_self x
-        in omega (arith, n, c, o) in
+    in omega (arith, n, c, o) in
     let rest : length xs ≡ length (without (λ y. y == x) ys) =
     same_length xs (without (λ y. y == x) ys) (λ k. cancels (if1 (x == k)) (times k xs) (times k ys)
     (times k (without (λ y. y == x) ys)) (sym (times_cons k x xs) ∙ h k) (times_off x k ys here)) in
