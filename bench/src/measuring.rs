@@ -105,9 +105,11 @@ mod tests {
 
     fn run(ours: f64, model: f64) -> Run {
         let times = |time| Some(Times { least: time, median: 2.0 * time });
-        let mut sides = [None; SIDES.len()];
-        (sides[0], sides[SIDES.len() - 1]) = (times(ours), times(model));
-        Run(sides)
+        Run(SIDES.map(|side| match side {
+            Side::Ours => times(ours),
+            Side::Model => times(model),
+            _ => None,
+        }))
     }
 
     #[test]

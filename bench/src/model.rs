@@ -21,14 +21,14 @@ pub fn pages_for(lengths: std::ops::RangeInclusive<usize>, values: usize) -> usi
     lengths.map(|len| each.div_ceil(slots_for(len))).sum()
 }
 
-impl Rival for Words {
-    type Owner<'a> = Owner<'a>;
+impl<const PLAIN: bool> Rival for Words<PLAIN> {
+    type Owner<'a> = Owner<'a, PLAIN>;
 
-    fn owner(&self, shard: usize) -> Owner<'_> {
+    fn owner(&self, shard: usize) -> Owner<'_, PLAIN> {
         Owner::adopt(self, shard)
     }
 
-    fn insert(&self, owner: &mut Owner<'_>, words: &[u64]) -> u64 {
+    fn insert(&self, owner: &mut Owner<'_, PLAIN>, words: &[u64]) -> u64 {
         loop {
             if let Some(key) = owner.insert(words) {
                 return key;
@@ -36,7 +36,7 @@ impl Rival for Words {
         }
     }
 
-    fn remove_own(&self, owner: &mut Owner<'_>, key: u64) {
+    fn remove_own(&self, owner: &mut Owner<'_, PLAIN>, key: u64) {
         owner.remove(key);
     }
 

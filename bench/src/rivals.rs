@@ -26,7 +26,7 @@ pub trait Task {
     fn with<H: Rival>(self, open: impl FnOnce() -> H) -> Self::Answer;
 }
 
-fn words_for(room: &Room) -> Words {
+fn words_for<const PLAIN: bool>(room: &Room) -> Words<PLAIN> {
     let pages = match room.lengths {
         Lengths::Each(len) => pages_for(len..=len, room.values),
         Lengths::Mixed => pages_for(1..=16, room.values),
@@ -42,7 +42,8 @@ fn with_values<V: Payload, T: Task>(side: Side, room: &Room, task: T) -> Option<
         Side::Dash => Some(task.with(Dash::<V>::new)),
         Side::MutexSlotMap => Some(task.with(MutexSlotMap::<V>::new)),
         Side::RwSlotMap => Some(task.with(RwSlotMap::<V>::new)),
-        Side::Model => Some(task.with(|| words_for(room))),
+        Side::Model => Some(task.with(|| words_for::<false>(room))),
+        Side::PlainStores => Some(task.with(|| words_for::<true>(room))),
     }
 }
 

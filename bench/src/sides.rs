@@ -20,14 +20,24 @@ pub enum Side {
     MutexSlotMap,
     RwSlotMap,
     Model,
+    /// The model, with plain stores of a value's words. Of what it changes it is the floor.
+    PlainStores,
 }
 
-pub const SIDES: [Side; 7] =
-    [Side::Ours, Side::Sharded, Side::MutexSlab, Side::Dash, Side::MutexSlotMap, Side::RwSlotMap, Side::Model];
+pub const SIDES: [Side; 8] = [
+    Side::Ours,
+    Side::Sharded,
+    Side::MutexSlab,
+    Side::Dash,
+    Side::MutexSlotMap,
+    Side::RwSlotMap,
+    Side::Model,
+    Side::PlainStores,
+];
 
 /// The sides beside which the library is measured.
-pub const RIVALS: [Side; 6] =
-    [Side::Sharded, Side::MutexSlab, Side::Dash, Side::MutexSlotMap, Side::RwSlotMap, Side::Model];
+pub const RIVALS: [Side; 7] =
+    [Side::Sharded, Side::MutexSlab, Side::Dash, Side::MutexSlotMap, Side::RwSlotMap, Side::Model, Side::PlainStores];
 
 // How often a turn is tried in which threads waited for a processor.
 const TRIES: usize = 4;
@@ -56,6 +66,7 @@ impl Side {
             Side::MutexSlotMap => "`Mutex` and `SlotMap`",
             Side::RwSlotMap => "`RwLock` and `SlotMap`",
             Side::Model => "bare atomics",
+            Side::PlainStores => "plain stores",
         }
     }
 
@@ -81,6 +92,7 @@ impl Side {
             (Side::Ours, _) => true,
             (Side::Model, true) => true,
             (_, true) => false,
+            (Side::PlainStores, false) if !row.workload.inserts() => false,
             (_, false) if row.is_large() && self.is_locked() => false,
             (_, false) => row.passes == 1 && row.workload != Workload::Heed,
         }
@@ -128,11 +140,12 @@ mod tests {
     #[test]
     fn passes_receipts_and_owners_that_change_are_asked_of_those_alone_that_have_them() {
         let with = |row: Row| RIVALS.map(|side| side.turn_here(&row).is_some());
-        assert_eq!(with(Row::new(Workload::Get, 1, 10)), [true; 6]);
-        assert_eq!(with(Row::new(Workload::Get, 1, 10).passes(2)), [false; 6]);
-        assert_eq!(with(Row::new(Workload::Heed, 1, 10)), [false; 6]);
-        assert_eq!(with(Row::new(Workload::Adopt, 1, 10)), [false, false, false, false, false, true]);
-        assert_eq!(with(Row::new(Workload::Get, 1, 10).deep()), [true, false, true, false, false, true]);
+        assert_eq!(with(Row::new(Workload::Insert, 1, 10)), [true; 7]);
+        assert_eq!(with(Row::new(Workload::Get, 1, 10)), [true, true, true, true, true, true, false]);
+        assert_eq!(with(Row::new(Workload::Get, 1, 10).passes(2)), [false; 7]);
+        assert_eq!(with(Row::new(Workload::Heed, 1, 10)), [false; 7]);
+        assert_eq!(with(Row::new(Workload::Adopt, 1, 10)), [false, false, false, false, false, true, false]);
+        assert_eq!(with(Row::new(Workload::Get, 1, 10).deep()), [true, false, true, false, false, true, false]);
     }
 
     #[test]

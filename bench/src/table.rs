@@ -110,7 +110,8 @@ mod tests {
     #[test]
     fn a_row_without_a_turn_at_once_says_so() {
         let line = calls_line(&Measured::new(Row::new(Workload::Get, 4, 1)));
-        assert_eq!(line[2..], [NOT_AT_ONCE; 7]);
+        assert_eq!(line[2..9], [NOT_AT_ONCE; 7]);
+        assert_eq!(line[9], "none");
         assert_eq!(ratio(&Measured::new(Row::new(Workload::Heed, 1, 1)), Side::Sharded), "none");
     }
 

@@ -66,6 +66,11 @@ impl Workload {
         }
     }
 
+    /// Whether values are inserted while the time is taken.
+    pub fn inserts(self) -> bool {
+        matches!(self, Workload::Insert | Workload::Fill | Workload::Churn | Workload::Hand)
+    }
+
     /// Whether a shard changes hands, which of the rivals the model alone has.
     pub fn changes_hands(self) -> bool {
         matches!(self, Workload::Adopt | Workload::Leave)

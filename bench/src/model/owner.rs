@@ -13,8 +13,8 @@ struct Page {
     cursor: Option<usize>,
 }
 
-pub struct Owner<'a> {
-    words: &'a Words,
+pub struct Owner<'a, const PLAIN: bool = false> {
+    words: &'a Words<PLAIN>,
     shard: usize,
     pages: Vec<Page>,
     queues: [VecDeque<usize>; 8],
@@ -24,9 +24,9 @@ pub struct Owner<'a> {
     blank: usize,
 }
 
-impl<'a> Owner<'a> {
+impl<'a, const PLAIN: bool> Owner<'a, PLAIN> {
     /// Takes the shard over, and reads the class of each page.
-    pub fn adopt(words: &'a Words, shard: usize) -> Self {
+    pub fn adopt(words: &'a Words<PLAIN>, shard: usize) -> Self {
         assert_eq!(words.owner(shard).swap(1, SeqCst), 0);
         let first = shard * words.pages;
         let page = |class_word| Page { lists: Lists::full(0), class_word, armed: false, full: false, cursor: None };
@@ -51,10 +51,10 @@ impl<'a> Owner<'a> {
     }
 
     fn fill(&self, spot: Spot, class: usize, words: &[u64]) -> u64 {
-        self.words.length(spot).store(words.len() as u64, SeqCst);
+        self.words.length(spot).store(words.len() as u64, Words::<PLAIN>::FILLS);
         let first = spot.slot * width(class);
         for (i, word) in words.iter().enumerate() {
-            self.words.payload(spot.page, first + i).store(*word, SeqCst);
+            self.words.payload(spot.page, first + i).store(*word, Words::<PLAIN>::FILLS);
         }
         let found = self.words.state(spot).fetch_or(PRESENT, SeqCst);
         self.words.key(spot, found >> 32)

@@ -6,7 +6,7 @@ fn is_live(found: u64, generation: u64) -> bool {
     found >> 32 == generation && found & FLAGS == PRESENT
 }
 
-impl Words {
+impl<const PLAIN: bool> Words<PLAIN> {
     /// One step: whether the key was there, which is then held.
     pub fn get(&self, key: u64) -> Option<Spot> {
         let (spot, generation) = self.place(key)?;

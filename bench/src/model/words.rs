@@ -1,5 +1,5 @@
 //! The words that threads share, and the place of each: 195 a page, then two for each shard, as in the heap.
-use std::sync::atomic::AtomicU64;
+use std::sync::atomic::{AtomicU64, Ordering};
 
 pub const SLOTS: usize = 48;
 pub const PAGE_WORDS: usize = 195;
@@ -39,14 +39,18 @@ pub struct Spot {
     pub slot: usize,
 }
 
-/// All words of a heap with `shards` shards of `pages` pages each.
-pub struct Words {
+/// All words of a heap with `shards` shards of `pages` pages each. If `PLAIN`, the words of a value are stored by plain
+/// moves. A locked instruction follows them, the publish, so their order is the same.
+pub struct Words<const PLAIN: bool = false> {
     words: Box<[AtomicU64]>,
     pub shards: usize,
     pub pages: usize,
 }
 
-impl Words {
+impl<const PLAIN: bool> Words<PLAIN> {
+    /// How the words of a value are stored: on x86-64 `SeqCst` is an `xchg`, and `Release` a `mov`.
+    pub const FILLS: Ordering = if PLAIN { Ordering::Release } else { Ordering::SeqCst };
+
     pub fn new(shards: usize, pages: usize) -> Self {
         let total = shards * pages * PAGE_WORDS;
         let at_opening = |i: usize| match i % PAGE_WORDS {
