@@ -1,8 +1,7 @@
 //! The maps, and how each is opened.
 mod epoch;
 mod heap;
-mod own_slab;
-mod peer;
+mod slabs;
 mod tables;
 
 use crate::map::{Map, Room};
@@ -72,10 +71,10 @@ impl Side {
     pub fn with<V: Payload, T: Task>(self, room: Room, task: T) -> T::Answer {
         match self {
             Side::Heap => task.with::<heap::OfHeap>(room),
-            Side::Slab => task.with::<own_slab::Slab<V>>(room),
-            Side::Pool => task.with::<own_slab::Pool<V>>(room),
-            Side::Sharded => task.with::<peer::Slab<V>>(room),
-            Side::ShardedPool => task.with::<peer::Pool<V>>(room),
+            Side::Slab => task.with::<slabs::own::Slab<V>>(room),
+            Side::Pool => task.with::<slabs::own::Pool<V>>(room),
+            Side::Sharded => task.with::<slabs::peer::Slab<V>>(room),
+            Side::ShardedPool => task.with::<slabs::peer::Pool<V>>(room),
             Side::Dash => task.with::<tables::Dash<V>>(room),
             Side::StdHash => task.with::<tables::StdHash<V>>(room),
             Side::ParkingHash => task.with::<tables::ParkingHash<V>>(room),
