@@ -19,30 +19,50 @@ impl<L: KeyLayout, H: KeepsHeap<L>> Reader for Pass<L, H> {
     }
 
     fn get(&mut self, key: u64) -> Result<Hold, Refusal> {
-        Pass::get(self, key)
+        let _known = self.shape();
+        let answer = Pass::get(self, key);
+        let _known = self.shape();
+        answer
     }
 
     fn read(&mut self, hold: Hold) -> Result<Value, Refusal> {
-        Pass::read(self, hold)
+        let _known = self.shape();
+        let answer = Pass::read(self, hold);
+        let _known = self.shape();
+        answer
     }
 
     fn read_into(&mut self, hold: Hold, value: &mut Value) -> Result<(), Refusal> {
-        Pass::read_into(self, hold, value)
+        let _known = self.shape();
+        let answer = Pass::read_into(self, hold, value);
+        let _known = self.shape();
+        answer
     }
 
     fn remove(&mut self, key: u64) -> Result<(), Refusal> {
-        Pass::remove(self, key)
+        let _known = self.shape();
+        let answer = Pass::remove(self, key);
+        let _known = self.shape();
+        answer
     }
 
     fn release(&mut self, hold: Hold) -> Result<(), Refusal> {
-        Pass::release(self, hold)
+        let _known = self.shape();
+        let answer = Pass::release(self, hold);
+        let _known = self.shape();
+        answer
     }
 
     fn receipt(&mut self) -> Receipt {
-        Pass::receipt(self)
+        let _known = self.shape();
+        let receipt = Pass::receipt(self);
+        let _known = self.shape();
+        receipt
     }
 
     fn heed(&mut self, receipt: Receipt) {
+        let _known = self.shape();
         Pass::heed(self, receipt);
+        let _known = self.shape();
     }
 }

@@ -19,30 +19,50 @@ impl<L: KeyLayout, H: KeepsHeap<L>> Reader for Shard<L, H> {
     }
 
     fn get(&mut self, key: u64) -> Result<Hold, Refusal> {
-        Shard::get(self, key)
+        let _known = self.shape();
+        let answer = Shard::get(self, key);
+        let _known = self.shape();
+        answer
     }
 
     fn read(&mut self, hold: Hold) -> Result<Value, Refusal> {
-        Shard::read(self, hold)
+        let _known = self.shape();
+        let answer = Shard::read(self, hold);
+        let _known = self.shape();
+        answer
     }
 
     fn read_into(&mut self, hold: Hold, value: &mut Value) -> Result<(), Refusal> {
-        Shard::read_into(self, hold, value)
+        let _known = self.shape();
+        let answer = Shard::read_into(self, hold, value);
+        let _known = self.shape();
+        answer
     }
 
     fn remove(&mut self, key: u64) -> Result<(), Refusal> {
-        Shard::remove(self, key)
+        let _known = self.shape();
+        let answer = Shard::remove(self, key);
+        let _known = self.shape();
+        answer
     }
 
     fn release(&mut self, hold: Hold) -> Result<(), Refusal> {
-        Shard::release(self, hold)
+        let _known = self.shape();
+        let answer = Shard::release(self, hold);
+        let _known = self.shape();
+        answer
     }
 
     fn receipt(&mut self) -> Receipt {
-        Shard::receipt(self)
+        let _known = self.shape();
+        let receipt = Shard::receipt(self);
+        let _known = self.shape();
+        receipt
     }
 
     fn heed(&mut self, receipt: Receipt) {
+        let _known = self.shape();
         Shard::heed(self, receipt);
+        let _known = self.shape();
     }
 }
