@@ -1,0 +1,7 @@
+use Rattle.std.proofs.Common.{◌≡◌, ℕ, ◌<◌}
+use Rattle.sh_grown.specs.Inserts.{HasMet}
+use Rattle.sh_grown.proofs.caller.Caller.insert_in_any.Given as goal
+
+abbrev pub invariant-loop-number : goal.invariant-loop-number
+invariant-loop-number l = (l.self.growing ≡ l.initial.self.growing)
+    × ((chunk : ℕ) → chunk < l.number → HasMet l.self.met.items chunk)

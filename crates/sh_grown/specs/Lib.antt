@@ -1,0 +1,4 @@
+pub mod Callers
+pub mod ChunkShapes
+pub mod Growing
+pub mod Inserts
