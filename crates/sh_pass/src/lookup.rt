@@ -22,22 +22,18 @@ impl<L: KeyLayout, H: KeepsHeap<L>> Lookup for Pass<L, H> {
     ghost releases = { λ old key result new. ReleaseDoes L.layout key old result new };
 
     fn get(&mut self, key: u64) -> Result<Hold, Refusal> {
-        let _known = self.shape();
         Pass::get(self, key)
     }
 
     fn read(&mut self, hold: Hold) -> Result<Value, Refusal> {
-        let _known = self.shape();
         Pass::read(self, hold)
     }
 
     fn remove(&mut self, key: u64) -> Result<(), Refusal> {
-        let _known = self.shape();
         Pass::remove(self, key)
     }
 
     fn release(&mut self, hold: Hold) -> Result<(), Refusal> {
-        let _known = self.shape();
         Pass::release(self, hold)
     }
 }

@@ -1,9 +1,9 @@
 //! The calls of an owner: those of a pass, each with the slot of its shard that became its own, if any.
 ghost use Rattle.std.specs.Prelude.{◌≡◌, None};
 ghost use Rattle.sh_slots.specs.declared.hand.Hand.TheVariants.{Idle};
-ghost use Rattle.sh_table.specs.Tales.{ViewStands};
 ghost use Rattle.sh_pass.specs.Passes.{GetDoes, ReadDoes, ReadIntoDoes, RemoveDoes, ReleaseDoes};
 ghost use Rattle.sh_pass.specs.Owners.{CallLeaves, own_body};
+ghost use Rattle.sh_pass.specs.Remaining.{Remains};
 
 use crate::calls::{get_guard_of, get_key, read_key, release_key, remove_key};
 use crate::guard::Guard;
@@ -22,7 +22,7 @@ impl<L: KeyLayout, H: KeepsHeap<L>> Owner<L, H> {
         requires idle { (own_body self.old).hand ≡ Idle }
         ensures does { GetDoes L.layout key self.old result.0 self.new }
         ensures leaves { CallLeaves L.layout result.1 self.old self.new }
-        ensures stands { ViewStands L.layout self.new.view }
+        ensures remains { Remains L.layout self.old self.new }
     {
         let heap = self.heap.kept();
         get_key(&heap.table, &mut self.seat, &mut self.held, key, self.owned)
@@ -50,7 +50,7 @@ impl<L: KeyLayout, H: KeepsHeap<L>> Owner<L, H> {
         requires idle { (own_body self.old).hand ≡ Idle }
         ensures does { GetDoes L.layout key self.old result.0 self.new }
         ensures leaves { CallLeaves L.layout result.1 self.old self.new }
-        ensures stands { ViewStands L.layout self.new.view }
+        ensures remains { Remains L.layout self.old self.new }
     {
         let heap = self.heap.kept();
         get_guard_of(&heap.table, &mut self.seat, &mut self.held, key, self.owned)
@@ -62,7 +62,7 @@ impl<L: KeyLayout, H: KeepsHeap<L>> Owner<L, H> {
         requires idle { (own_body self.old).hand ≡ Idle }
         ensures does { RemoveDoes L.layout key self.old result.0 self.new }
         ensures leaves { CallLeaves L.layout result.1 self.old self.new }
-        ensures stands { ViewStands L.layout self.new.view }
+        ensures remains { Remains L.layout self.old self.new }
     {
         let heap = self.heap.kept();
         remove_key(&heap.table, &mut self.seat, key, self.owned)
@@ -73,7 +73,7 @@ impl<L: KeyLayout, H: KeepsHeap<L>> Owner<L, H> {
         requires idle { (own_body self.old).hand ≡ Idle }
         ensures does { ReleaseDoes L.layout hold.key self.old result.0 self.new }
         ensures leaves { CallLeaves L.layout result.1 self.old self.new }
-        ensures stands { ViewStands L.layout self.new.view }
+        ensures remains { Remains L.layout self.old self.new }
     {
         let heap = self.heap.kept();
         release_key(
@@ -91,7 +91,7 @@ impl<L: KeyLayout, H: KeepsHeap<L>> Owner<L, H> {
         requires idle { (own_body self.old).hand ≡ Idle }
         ensures does { ReleaseDoes L.layout guard.key self.old result.0 self.new }
         ensures leaves { CallLeaves L.layout result.1 self.old self.new }
-        ensures stands { ViewStands L.layout self.new.view }
+        ensures remains { Remains L.layout self.old self.new }
     {
         let heap = self.heap.kept();
         release_key(
@@ -108,7 +108,7 @@ impl<L: KeyLayout, H: KeepsHeap<L>> Owner<L, H> {
         requires idle { (own_body self.old).hand ≡ Idle }
         ensures does { ReadDoes hold.key self.old result self.new }
         ensures leaves { CallLeaves L.layout None self.old self.new }
-        ensures stands { ViewStands L.layout self.new.view }
+        ensures remains { Remains L.layout self.old self.new }
     {
         // (The initial value has one word, as most values have: reading a value of one word into it is one store.)
         let mut value = Value::from(0);
@@ -124,7 +124,7 @@ impl<L: KeyLayout, H: KeepsHeap<L>> Owner<L, H> {
         requires idle { (own_body self.old).hand ≡ Idle }
         ensures does { ReadIntoDoes hold.key self.old value.old result value.new self.new }
         ensures leaves { CallLeaves L.layout None self.old self.new }
-        ensures stands { ViewStands L.layout self.new.view }
+        ensures remains { Remains L.layout self.old self.new }
     {
         let heap = self.heap.kept();
         read_key(&heap.table, &mut self.seat, &self.held, &hold, value)
@@ -136,7 +136,7 @@ impl<L: KeyLayout, H: KeepsHeap<L>> Owner<L, H> {
         requires idle { (own_body self.old).hand ≡ Idle }
         ensures does { ReadIntoDoes guard.now.key self.old value.old result value.new self.new }
         ensures leaves { CallLeaves L.layout None self.old self.new }
-        ensures stands { ViewStands L.layout self.new.view }
+        ensures remains { Remains L.layout self.old self.new }
     {
         let heap = self.heap.kept();
         read_key(&heap.table, &mut self.seat, &self.held, guard, value)

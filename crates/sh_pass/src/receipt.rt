@@ -3,6 +3,7 @@
 ghost use Rattle.std.specs.Prelude.{◌≡◌};
 ghost use Rattle.sh_table.specs.Tales.{ViewStands};
 ghost use Rattle.sh_pass.specs.Receipts.{receipt_by, heeded};
+ghost use Rattle.sh_pass.specs.Remaining.{Remains};
 
 use crate::heap::Heap;
 use crate::keeping::KeepsHeap;
@@ -58,6 +59,7 @@ impl<L: KeyLayout> PassState<L> {
         requires { self.old.heap ≡ heap.now }
         ensures same { self.new ≡ self.old }
         ensures tells { result ≡ receipt_by self.old }
+        ensures remains { Remains L.layout self.old self.new }
     {
         Receipt {
             seat: heap.table.receipt(&mut self.seat),
@@ -69,7 +71,7 @@ impl<L: KeyLayout> PassState<L> {
         requires own { self.old.heap ≡ heap.now }
         requires receipt { receipt.heap ≡ heap.now }
         ensures heeds { self.new ≡ heeded self.old receipt }
-        ensures stands { ViewStands L.layout self.new.view }
+        ensures remains { Remains L.layout self.old self.new }
     {
         let Receipt { seat } = receipt;
         heap.table.heed(&mut self.seat, seat);
@@ -81,6 +83,7 @@ impl<L: KeyLayout, H: KeepsHeap<L>> Pass<L, H> {
     pub fn receipt(&mut self) -> Receipt
         ensures same { self.new ≡ self.old }
         ensures tells { result ≡ receipt_by self.old }
+        ensures remains { Remains L.layout self.old self.new }
     {
         self.state.receipt(self.heap.kept())
     }
@@ -89,7 +92,7 @@ impl<L: KeyLayout, H: KeepsHeap<L>> Pass<L, H> {
     pub fn heed(&mut self, receipt: Receipt)
         requires { receipt.heap ≡ self.old.heap }
         ensures heeds { self.new ≡ heeded self.old receipt }
-        ensures stands { ViewStands L.layout self.new.view }
+        ensures remains { Remains L.layout self.old self.new }
     {
         self.state.heed(self.heap.kept(), receipt);
     }

@@ -1,7 +1,7 @@
 //! A pass without the heap that it steps on.
 ghost use Rattle.std.specs.Prelude.{◌≡◌};
-ghost use Rattle.sh_slots.specs.declared.hand.Hand.TheVariants.{Idle};
 ghost use Rattle.sh_table.specs.Tales.{ViewStands};
+ghost use Rattle.sh_pass.specs.Remaining.{Remains};
 ghost use Rattle.sh_pass.specs.Passes.{GetDoes, ReadDoes, ReadIntoDoes, RemoveDoes, ReleaseDoes, IsAtRest};
 
 use crate::calls::{get_guard_of, get_key, read_key, release_key, remove_key};
@@ -59,9 +59,7 @@ impl<L: KeyLayout> PassState<L> {
     pub fn get(&mut self, heap: &Heap<L>, key: u64) -> Result<Hold, Refusal>
         requires { self.old.heap ≡ heap.now }
         ensures does { GetDoes L.layout key self.old result self.new }
-        ensures stands { ViewStands L.layout self.new.view }
-        ensures same { self.new.heap ≡ self.old.heap }
-        ensures idle { self.new.view.own.body.hand ≡ Idle }
+        ensures remains { Remains L.layout self.old self.new }
     {
         get_key(&heap.table, &mut self.seat, &mut self.held, key, None).0
     }
@@ -71,9 +69,7 @@ impl<L: KeyLayout> PassState<L> {
     pub fn get_guard(&mut self, heap: &Heap<L>, key: u64) -> Result<Guard<L>, Refusal>
         requires { self.old.heap ≡ heap.now }
         ensures does { GetDoes L.layout key self.old result self.new }
-        ensures stands { ViewStands L.layout self.new.view }
-        ensures same { self.new.heap ≡ self.old.heap }
-        ensures idle { self.new.view.own.body.hand ≡ Idle }
+        ensures remains { Remains L.layout self.old self.new }
     {
         get_guard_of(&heap.table, &mut self.seat, &mut self.held, key, None).0
     }
@@ -97,9 +93,7 @@ impl<L: KeyLayout> PassState<L> {
     pub fn remove(&mut self, heap: &Heap<L>, key: u64) -> Result<(), Refusal>
         requires { self.old.heap ≡ heap.now }
         ensures does { RemoveDoes L.layout key self.old result self.new }
-        ensures stands { ViewStands L.layout self.new.view }
-        ensures same { self.new.heap ≡ self.old.heap }
-        ensures idle { self.new.view.own.body.hand ≡ Idle }
+        ensures remains { Remains L.layout self.old self.new }
     {
         remove_key(&heap.table, &mut self.seat, key, None).0
     }
@@ -109,9 +103,7 @@ impl<L: KeyLayout> PassState<L> {
     pub fn release(&mut self, heap: &Heap<L>, hold: Hold) -> Result<(), Refusal>
         requires { self.old.heap ≡ heap.now }
         ensures does { ReleaseDoes L.layout hold.key self.old result self.new }
-        ensures stands { ViewStands L.layout self.new.view }
-        ensures same { self.new.heap ≡ self.old.heap }
-        ensures idle { self.new.view.own.body.hand ≡ Idle }
+        ensures remains { Remains L.layout self.old self.new }
     {
         release_key(&heap.table, &mut self.seat, &mut self.held, &hold, None).0
     }
@@ -121,9 +113,7 @@ impl<L: KeyLayout> PassState<L> {
     pub fn release_guard(&mut self, heap: &Heap<L>, guard: Guard<L>) -> Result<(), Refusal>
         requires { self.old.heap ≡ heap.now }
         ensures does { ReleaseDoes L.layout guard.key self.old result self.new }
-        ensures stands { ViewStands L.layout self.new.view }
-        ensures same { self.new.heap ≡ self.old.heap }
-        ensures idle { self.new.view.own.body.hand ≡ Idle }
+        ensures remains { Remains L.layout self.old self.new }
     {
         release_key(&heap.table, &mut self.seat, &mut self.held, &guard, None).0
     }
@@ -132,9 +122,7 @@ impl<L: KeyLayout> PassState<L> {
     pub fn read(&mut self, heap: &Heap<L>, hold: Hold) -> Result<Value, Refusal>
         requires { self.old.heap ≡ heap.now }
         ensures does { ReadDoes hold.key self.old result self.new }
-        ensures stands { ViewStands L.layout self.new.view }
-        ensures same { self.new.heap ≡ self.old.heap }
-        ensures idle { self.new.view.own.body.hand ≡ Idle }
+        ensures remains { Remains L.layout self.old self.new }
     {
         // (The initial value has one word, as most values have: reading a value of one word into it is one store.)
         let mut value = Value::from(0);
@@ -153,9 +141,7 @@ impl<L: KeyLayout> PassState<L> {
     ) -> Result<(), Refusal>
         requires { self.old.heap ≡ heap.now }
         ensures does { ReadIntoDoes hold.key self.old value.old result value.new self.new }
-        ensures stands { ViewStands L.layout self.new.view }
-        ensures same { self.new.heap ≡ self.old.heap }
-        ensures idle { self.new.view.own.body.hand ≡ Idle }
+        ensures remains { Remains L.layout self.old self.new }
     {
         read_key(&heap.table, &mut self.seat, &self.held, &hold, value)
     }
@@ -170,9 +156,7 @@ impl<L: KeyLayout> PassState<L> {
     ) -> Result<(), Refusal>
         requires { self.old.heap ≡ heap.now }
         ensures does { ReadIntoDoes guard.now.key self.old value.old result value.new self.new }
-        ensures stands { ViewStands L.layout self.new.view }
-        ensures same { self.new.heap ≡ self.old.heap }
-        ensures idle { self.new.view.own.body.hand ≡ Idle }
+        ensures remains { Remains L.layout self.old self.new }
     {
         read_key(&heap.table, &mut self.seat, &self.held, guard, value)
     }

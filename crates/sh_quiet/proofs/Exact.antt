@@ -243,7 +243,7 @@ bell_is_empty layout shape o n k b d same_o same_n is_b is_d done never =
           absurd (never (subst Q (λ i. (same_o i, same_n i)) more))
 
 pub full_is_exact : FullIsExact
-full_is_exact layout c o n last bell_o bell_n held full is_layout is_shape fits early more before after p s below class
+full_is_exact layout c o n last had held full is_layout is_shape fits early more before after p s below class
     slot =
     let v = o.pages.owner in
     let u = n.pages.owner in
@@ -262,7 +262,7 @@ full_is_exact layout c o n last bell_o bell_n held full is_layout is_shape fits 
     let k = n.pages.shard in
     let same_shard : n.pages.shard ≡ o.pages.shard = through.shard in
     let bell = bell_is_empty layout shape v u k o.pages.bell n.pages.bell refl through.aside.same.shape
-    (bell_o ∙ ap (seen_bell layout v) (sym same_shard)) bell_n full.left.bell
+    (had.bell ∙ ap (seen_bell layout v) (sym same_shard)) held.bell full.left.bell
     (none_met_on_bell layout shape is_layout is_shape fits early more a v.view.own u.view.own g put k) in
     let q = heap_page u (shard_page k p) in
     let page_before : heap_page v (shard_page o.pages.shard p) ≡ q = λ i. heap_page

@@ -17,7 +17,7 @@ use Rattle.sh_table.specs.declared.view.View.{View}
 use Rattle.sh_table.specs.Views.{Each}
 use Rattle.sh_table.specs.Whole.{IsWhole}
 use Rattle.sh_pass.specs.Growing.{SameTale}
-use Rattle.sh_pass.specs.Owners.{NonePut, heap_page, own_body, seen_bell, seen_page}
+use Rattle.sh_pass.specs.Owners.{NonePut, heap_page, own_body, seen_page}
 use Rattle.sh_pass.specs.Passes.{Caller}
 use Rattle.sh_shard.specs.Pages.{Paged, page_at, shard_page}
 use Rattle.sh_shard.specs.Shards.{Sharded, HoldsShard, NoRoom}
@@ -47,10 +47,6 @@ CollectedIsEmpty = (layout : Layout) (v w : Caller) (q : ℕ) → IsLastOne v.vi
     → (seen_page v q).takes < (seen_page w q).takes → (seen_page w q).cursor ≡ None
     → SureAfter layout v.view w.view (λ world l. NothingQueued world l q)
 
--- the bell is as the owner sees that of its shard
-abbrev pub SeesBell : Layout → Paged → Type 0
-SeesBell layout v = v.bell ≡ seen_bell layout v.owner v.shard
-
 -- the slot is live, marked or retired
 abbrev pub IsUsed : World → SlotRef → Type 0
 IsUsed w x = live (state_of w x) + marked (state_of w x) + retired (state_of w x) ≡ 1
@@ -63,8 +59,8 @@ ClassIsUsed c v w = (p s : ℕ) → p < v.count → (page_at v p).class ≡ Some
 -- The last one, if it owns a shard, gets Full only if each slot of each page of the class is used. (That no page is
 -- blank, no page of another class is wholly the owner's, and every segment is opened, NoRoom says itself.)
 abbrev pub FullIsExact : Type 0
-FullIsExact = (layout : Layout) (c : ℕ) (o n : Sharded) → IsLastOne o.pages.owner.view → SeesBell layout o.pages
-    → SeesBell layout n.pages → HoldsShard layout n → NoRoom c o n
+FullIsExact = (layout : Layout) (c : ℕ) (o n : Sharded) → IsLastOne o.pages.owner.view → HoldsShard layout o
+    → HoldsShard layout n → NoRoom c o n
     → SureAfter layout o.pages.owner.view n.pages.owner.view (λ w l. ClassIsUsed c n.pages w)
 
 -- if a tale names all passes, and none of them has begun anything, then so it is after all events that lead to it

@@ -9,7 +9,8 @@ pub fn collected_is_empty()
 
 /// An owner whose tale names all passes is refused an insert as `Full` only if the pages of the class are used up. Each
 /// slot of each such page in its shard is live, marked or retired. The insert itself ensures that no page of the shard
-/// is blank, that none is wholly the owner's, and that every segment is opened.
+/// is blank, that none is wholly the owner's, and that every segment is opened. What the law asks of the shard, before
+/// and after the insert, is what each of its calls ensures.
 pub fn full_is_exact()
     ensures { FullIsExact }
 {}

@@ -1,11 +1,12 @@
 -- One call more after a list of calls.
 use Rattle.std.proofs.Common.{◌≡◌, ℕ, ◌+◌, ◌<◌, ◌≤◌, List, [], ◌∷◌, ◌++◌, length, take, get_or, set}
-use Rattle.std.proofs.Common.{refl, sym, ◌∙◌, subst}
+use Rattle.std.proofs.Common.{refl, sym, subst}
 use Rattle.std.proofs.lemmas.List.{take_all, take_more, take_more_set}
 use Rattle.sh_key.specs.Layout.{Layout}
 use Rattle.sh_pass.specs.Passes.{Caller}
-use Rattle.sh_readers.specs.Readers.{Remains}
+use Rattle.sh_pass.specs.Remaining.{Remains}
 use Rattle.sh_readers.specs.Batches.{DoesEach, RemainsAfter}
+use Rattle.sh_readers.proofs.Ending.{remains_along}
 
 pub one_more : {K S A : Type 0} (does : K → S → A → S → Type 0) (keys : List K) (results : List A) (key : K)
     (result : A) (v m w : S) → DoesEach does keys v results m → does key m result w
@@ -38,12 +39,7 @@ all_done does keys results i v w past beyond done =
 remains_one : (layout : Layout) (keys : List ℕ) (key : ℕ) (v m w : Caller) → RemainsAfter layout keys v m
     → Remains layout m w → RemainsAfter layout (keys ++ key ∷ []) v w
 remains_one layout [] key v m w before last = subst (λ u. Remains layout u w) before last
-remains_one layout (k ∷ ks) key v m w before last = record {
-  heap = last.heap ∙ before.heap;
-  shard = last.shard ∙ before.shard;
-  idle = last.idle;
-  stands = last.stands;
-}
+remains_one layout (k ∷ ks) key v m w before last = remains_along layout v m w before last
 
 pub remains_more : (layout : Layout) (keys : List ℕ) (i key : ℕ) (v m w : Caller) → i < length keys
     → RemainsAfter layout (take i keys) v m → Remains layout m w → RemainsAfter layout (take (i + 1) keys) v w

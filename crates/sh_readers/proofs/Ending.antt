@@ -21,6 +21,7 @@ use Rattle.sh_pass.specs.Growing.{SameTale}
 use Rattle.sh_pass.specs.Deciding.{InOneStep, DropsHold, RemovalDecided}
 use Rattle.sh_pass.specs.Passes.{Caller, holds, CallAdds, CallReads, GetDoes, ReadDoes, ReleaseDoes, RemoveDoes}
 use Rattle.sh_pass.specs.Passes.{plan_for}
+use Rattle.sh_pass.specs.Remaining.{Remains}
 use Rattle.sh_table.specs.declared.view.View.{View}
 use Rattle.sh_readers.specs.Readers.{ReadsAndAdds, FetchDoes, TakeDoes}
 use Rattle.sh_readers.proofs.Holding.{without_first}
@@ -31,6 +32,16 @@ same_along u v w s t = record {
   pass = t.pass ∙ s.pass;
   told = t.told ∙ s.told;
   orders = t.orders ∙ s.orders;
+}
+
+pub remains_along : (layout : Layout) (u v w : Caller) → Remains layout u v → Remains layout v w → Remains layout u w
+remains_along layout u v w before last = record {
+  heap = last.heap ∙ before.heap;
+  shard = last.shard ∙ before.shard;
+  idle = last.idle;
+  shape = before.shape;
+  stood = before.stood;
+  stands = last.stands;
 }
 
 -- entries that have the value, and one more after them that has it

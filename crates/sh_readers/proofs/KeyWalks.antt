@@ -20,7 +20,7 @@ use Rattle.sh_shard.specs.Places.{IsKeyAtPlace, place_count}
 use Rattle.sh_shard.specs.Shards.{Sharded, StaysOwner}
 use Rattle.sh_readers.specs.OwnKeys.{Adds, AreBetween, AreOfLive, FindsKey, PassesOver, StepsForPlaces}
 use Rattle.sh_readers.specs.OwnKeys.{gone_entries}
-use Rattle.sh_readers.proofs.Ending.{same_along}
+use Rattle.sh_readers.proofs.Ending.{same_along, remains_along}
 use Rattle.sh_readers.proofs.Holding.{without_first}
 
 -- a get and a release
@@ -71,6 +71,7 @@ stays_along layout o m n a b = record {
   holds = b.holds;
   shard = b.shard ∙ a.shard;
   same = same_along o.pages.owner.view m.pages.owner.view n.pages.owner.view a.same b.same;
+  remains = remains_along layout o.pages.owner m.pages.owner n.pages.owner a.remains b.remains;
 }
 
 -- ---- places

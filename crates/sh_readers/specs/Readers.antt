@@ -1,23 +1,14 @@
--- What the calls do that end what they begin, and what each call of a reader leaves as it was.
+-- What the calls do that end what they begin.
 use Rattle.std.specs.Prelude.{◌≡◌, ℕ, ◌+◌, ◌<◌, ◌≤◌, ◌⊎◌, List, [], ◌∷◌, ◌++◌, map, length, Result, Ok, Err}
 use Rattle.sh_history.specs.declared.entry.Entry.TheVariants as entry
 use Rattle.sh_history.specs.declared.log.LogEntry.{LogEntry}
 use Rattle.sh_history.specs.declared.log.LogEntry.TheVariants.{Known}
 use Rattle.sh_history.specs.Log.{filled, AllHaveValue}
 use Rattle.sh_key.specs.Layout.{Layout}
-use Rattle.sh_slots.specs.declared.hand.Hand.TheVariants.{Idle}
 use Rattle.sh_value.specs.declared.refusal.Refusal.{Refusal}
 use Rattle.sh_value.specs.declared.refusal.Refusal.TheVariants as refusal
-use Rattle.sh_table.specs.Tales.{ViewStands}
 use Rattle.sh_pass.specs.Growing.{SameTale}
 use Rattle.sh_pass.specs.Passes.{Caller, holds, GetDoes, IsKeyOfHeap}
-
--- heap and shard are as before, nothing is begun, and all that is known holds
-pub record Remains (layout : Layout) (v w : Caller) : Type 0 where
-  pub heap : w.heap ≡ v.heap
-  pub shard : w.view.own.body.owned ≡ v.view.own.body.owned
-  pub idle : w.view.own.body.hand ≡ Idle
-  pub stands : ViewStands layout w.view
 
 -- the value of the key was read, which is then that of each get of the key, and these entries were added, in at most
 -- `most` steps; the holds are as they were

@@ -1,7 +1,8 @@
 //! One call for several keys, whose waits for memory overlap.
 ghost use Rattle.std.specs.Prelude.{◌≡◌, length};
 ghost use Rattle.sh_readers.specs.Batches.{GetsEach, FetchesEach, RemainsAfter};
-ghost use Rattle.sh_readers.specs.Readers.{Remains, FetchDoes};
+ghost use Rattle.sh_pass.specs.Remaining.{Remains};
+ghost use Rattle.sh_readers.specs.Readers.{FetchDoes};
 
 use crate::fetching::{fetch, fetch_into};
 use crate::reader::Reader;

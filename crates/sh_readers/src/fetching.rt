@@ -1,6 +1,7 @@
 //! A get, a read and a release in one.
 ghost use Rattle.std.specs.Fn.{FnOnceReturnsAt};
-ghost use Rattle.sh_readers.specs.Readers.{Remains, FetchDoes, FetchIntoDoes, WithDoes};
+ghost use Rattle.sh_pass.specs.Remaining.{Remains};
+ghost use Rattle.sh_readers.specs.Readers.{FetchDoes, FetchIntoDoes, WithDoes};
 
 use crate::reader::Reader;
 use sh_value::{Refusal, Value};

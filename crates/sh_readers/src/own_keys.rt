@@ -18,7 +18,6 @@ fn is_live<L: KeyLayout, H: KeepsHeap<L>>(
     ensures does { TryDoes key owner.old.pages.owner result owner.new.pages.owner }
     ensures stays { StaysOwner L.layout owner.old owner.new }
 {
-    let _known = owner.shape();
     match owner.get(key) {
         Ok(hold) => {
             let Ok(()) = owner.release(hold) else {

@@ -19,50 +19,30 @@ impl<L: KeyLayout, H: KeepsHeap<L>> Reader for Pass<L, H> {
     }
 
     fn get(&mut self, key: u64) -> Result<Hold, Refusal> {
-        let _known = self.shape();
-        let answer = Pass::get(self, key);
-        let _known = self.shape();
-        answer
+        Pass::get(self, key)
     }
 
     fn read(&mut self, hold: Hold) -> Result<Value, Refusal> {
-        let _known = self.shape();
-        let answer = Pass::read(self, hold);
-        let _known = self.shape();
-        answer
+        Pass::read(self, hold)
     }
 
     fn read_into(&mut self, hold: Hold, value: &mut Value) -> Result<(), Refusal> {
-        let _known = self.shape();
-        let answer = Pass::read_into(self, hold, value);
-        let _known = self.shape();
-        answer
+        Pass::read_into(self, hold, value)
     }
 
     fn remove(&mut self, key: u64) -> Result<(), Refusal> {
-        let _known = self.shape();
-        let answer = Pass::remove(self, key);
-        let _known = self.shape();
-        answer
+        Pass::remove(self, key)
     }
 
     fn release(&mut self, hold: Hold) -> Result<(), Refusal> {
-        let _known = self.shape();
-        let answer = Pass::release(self, hold);
-        let _known = self.shape();
-        answer
+        Pass::release(self, hold)
     }
 
     fn receipt(&mut self) -> Receipt {
-        let _known = self.shape();
-        let receipt = Pass::receipt(self);
-        let _known = self.shape();
-        receipt
+        Pass::receipt(self)
     }
 
     fn heed(&mut self, receipt: Receipt) {
-        let _known = self.shape();
         Pass::heed(self, receipt);
-        let _known = self.shape();
     }
 }

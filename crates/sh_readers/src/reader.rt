@@ -4,7 +4,8 @@ ghost use Rattle.sh_key.specs.Layout.{Layout};
 ghost use Rattle.sh_pass.specs.Passes.{Caller, GetDoes, ReadDoes, ReadIntoDoes, RemoveDoes, ReleaseDoes};
 ghost use Rattle.sh_pass.specs.Receipts.{heeded, receipt_by};
 ghost use Rattle.sh_readers.specs.Batches.{GetsEach, FetchesEach, RemainsAfter};
-ghost use Rattle.sh_readers.specs.Readers.{Remains, FetchDoes, FetchIntoDoes, WithDoes, TakeDoes, TakeIntoDoes};
+ghost use Rattle.sh_pass.specs.Remaining.{Remains};
+ghost use Rattle.sh_readers.specs.Readers.{FetchDoes, FetchIntoDoes, WithDoes, TakeDoes, TakeIntoDoes};
 ghost use Rattle.std.specs.Fn.{FnOnceReturnsAt};
 
 use crate::batches::{fetch_each, get_each};

@@ -19,50 +19,30 @@ impl<L: KeyLayout, H: KeepsHeap<L>> Reader for Shard<L, H> {
     }
 
     fn get(&mut self, key: u64) -> Result<Hold, Refusal> {
-        let _known = self.shape();
-        let answer = Shard::get(self, key);
-        let _known = self.shape();
-        answer
+        Shard::get(self, key)
     }
 
     fn read(&mut self, hold: Hold) -> Result<Value, Refusal> {
-        let _known = self.shape();
-        let answer = Shard::read(self, hold);
-        let _known = self.shape();
-        answer
+        Shard::read(self, hold)
     }
 
     fn read_into(&mut self, hold: Hold, value: &mut Value) -> Result<(), Refusal> {
-        let _known = self.shape();
-        let answer = Shard::read_into(self, hold, value);
-        let _known = self.shape();
-        answer
+        Shard::read_into(self, hold, value)
     }
 
     fn remove(&mut self, key: u64) -> Result<(), Refusal> {
-        let _known = self.shape();
-        let answer = Shard::remove(self, key);
-        let _known = self.shape();
-        answer
+        Shard::remove(self, key)
     }
 
     fn release(&mut self, hold: Hold) -> Result<(), Refusal> {
-        let _known = self.shape();
-        let answer = Shard::release(self, hold);
-        let _known = self.shape();
-        answer
+        Shard::release(self, hold)
     }
 
     fn receipt(&mut self) -> Receipt {
-        let _known = self.shape();
-        let receipt = Shard::receipt(self);
-        let _known = self.shape();
-        receipt
+        Shard::receipt(self)
     }
 
     fn heed(&mut self, receipt: Receipt) {
-        let _known = self.shape();
         Shard::heed(self, receipt);
-        let _known = self.shape();
     }
 }

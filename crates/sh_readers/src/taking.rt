@@ -1,5 +1,6 @@
 //! A get, a removal, a read and a release in one.
-ghost use Rattle.sh_readers.specs.Readers.{Remains, TakeDoes};
+ghost use Rattle.sh_pass.specs.Remaining.{Remains};
+ghost use Rattle.sh_readers.specs.Readers.{TakeDoes};
 
 use crate::reader::Reader;
 use sh_value::{Refusal, Value};

@@ -1,5 +1,6 @@
 //! A get, a read, a removal and a release in one, if the value fits.
-ghost use Rattle.sh_readers.specs.Readers.{Remains, TakeIntoDoes};
+ghost use Rattle.sh_pass.specs.Remaining.{Remains};
+ghost use Rattle.sh_readers.specs.Readers.{TakeIntoDoes};
 
 use crate::reader::Reader;
 use sh_value::{Refusal, Value};

@@ -2,7 +2,8 @@
 ghost use Rattle.std.specs.Prelude.{◌≡◌, IfOk};
 ghost use Rattle.sh_pass.specs.Receipts.{heeded, receipt_by};
 ghost use Rattle.sh_shard.specs.Shards.{InsertServes, StaysOwner, value_class};
-ghost use Rattle.sh_readers.specs.Readers.{Remains, FetchDoes};
+ghost use Rattle.sh_pass.specs.Remaining.{Remains};
+ghost use Rattle.sh_readers.specs.Readers.{FetchDoes};
 ghost use Rattle.sh_readers.specs.ToldKeys.{CoversInsert, TellsOfInsert, IsAsInserted, GoneIfRemoved, key_told};
 
 use crate::reader::Reader;

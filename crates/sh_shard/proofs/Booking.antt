@@ -8,7 +8,9 @@ use Rattle.sh_value.specs.declared.refusal.Refusal.{Refusal}
 use Rattle.sh_value.specs.declared.refusal.Refusal.TheVariants as refusal
 use Rattle.sh_table.specs.Tales.{ViewStands}
 use Rattle.sh_pass.specs.Growing.{SameTale}
-use Rattle.sh_shard.specs.Shards.{Sharded, InsertServes, PrepareServes}
+use Rattle.sh_pass.specs.Owners.{Aside}
+use Rattle.sh_pass.specs.Remaining.{Remains}
+use Rattle.sh_shard.specs.Shards.{Sharded, HoldsShard, InsertServes, PrepareServes}
 use Rattle.sh_shard.specs.Stores.{shard_book, shard_setting}
 use Rattle.sh_shard.proofs.Sides.{aside_none}
 
@@ -25,46 +27,56 @@ pub is_book : (layout : Layout) (o : Sharded) → ViewStands layout o.pages.owne
     → IsBook (shard_setting layout o) (shard_book o)
 is_book layout o s = record { history = s.history; legal = s.tale.legal; agrees = s.tale.own }
 
-same_none : (o : Sharded) → SameTale o.pages.owner.view o.pages.owner.view
-same_none o = (aside_none o.pages.owner).same
+aside_if_same : (o n : Sharded) → n ≡ o → Aside o.pages.owner n.pages.owner
+aside_if_same o n is = subst (λ (z : Sharded). Aside o.pages.owner z.pages.owner) (sym is) (aside_none o.pages.owner)
 
 -- ---- the pass whose calls follow
 
-pub insert_same : (layout : Layout) (c : ℕ) (value : List ℕ) (o n : Sharded) (r : Result ℕ Refusal)
-    → InsertServes layout c value o r n → SameTale o.pages.owner.view n.pages.owner.view
-insert_same layout c value o n (Ok key) k = k.0.aside.same
-insert_same layout c value o n (Err refusal.BadKey) k = absurd k
-insert_same layout c value o n (Err refusal.Gone) k = absurd k
-insert_same layout c value o n (Err refusal.Crowded) k = absurd k
-insert_same layout c value o n (Err refusal.HoldsFull) k = absurd k
-insert_same layout c value o n (Err refusal.NotHeld) k = absurd k
-insert_same layout c value o n (Err refusal.TooLong) k = absurd k
-insert_same layout c value o n (Err refusal.Full) k = k.left.through.aside.same
-insert_same layout c value o n (Err refusal.Memory) k = k.0.aside.same
-insert_same layout c value o n (Err refusal.Taken) k = absurd k
-insert_same layout c value o n (Err refusal.NoShard) k = absurd k
-insert_same layout c value o n (Err refusal.Waiting) k = absurd k
-insert_same layout c value o n (Err refusal.BadShape) k = absurd k
-insert_same layout c value o n (Err refusal.WrongKind) k = absurd k
+pub insert_aside : (layout : Layout) (c : ℕ) (value : List ℕ) (o n : Sharded) (r : Result ℕ Refusal)
+    → InsertServes layout c value o r n → Aside o.pages.owner n.pages.owner
+insert_aside layout c value o n (Ok key) k = k.0.aside
+insert_aside layout c value o n (Err refusal.BadKey) k = absurd k
+insert_aside layout c value o n (Err refusal.Gone) k = absurd k
+insert_aside layout c value o n (Err refusal.Crowded) k = absurd k
+insert_aside layout c value o n (Err refusal.HoldsFull) k = absurd k
+insert_aside layout c value o n (Err refusal.NotHeld) k = absurd k
+insert_aside layout c value o n (Err refusal.TooLong) k = absurd k
+insert_aside layout c value o n (Err refusal.Full) k = k.left.through.aside
+insert_aside layout c value o n (Err refusal.Memory) k = k.0.aside
+insert_aside layout c value o n (Err refusal.Taken) k = absurd k
+insert_aside layout c value o n (Err refusal.NoShard) k = absurd k
+insert_aside layout c value o n (Err refusal.Waiting) k = absurd k
+insert_aside layout c value o n (Err refusal.BadShape) k = absurd k
+insert_aside layout c value o n (Err refusal.WrongKind) k = absurd k
 
-pub prepare_same : (c : ℕ) (o n : Sharded) (r : Result ℕ Refusal) → PrepareServes c o r n
-    → SameTale o.pages.owner.view n.pages.owner.view
-prepare_same c o n (Ok p) k = k.gives.aside.same
-prepare_same c o n (Err refusal.BadKey) k = absurd k
-prepare_same c o n (Err refusal.Gone) k = absurd k
-prepare_same c o n (Err refusal.Crowded) k = absurd k
-prepare_same c o n (Err refusal.HoldsFull) k = absurd k
-prepare_same c o n (Err refusal.NotHeld) k = absurd k
-prepare_same c o n (Err refusal.TooLong) k = absurd k
-prepare_same c o n (Err refusal.Full) k = subst (λ (z : Sharded). SameTale o.pages.owner.view z.pages.owner.view)
-    (sym k.0) (same_none o)
-prepare_same c o n (Err refusal.Memory) k = subst (λ (z : Sharded). SameTale o.pages.owner.view z.pages.owner.view)
-    (sym k.0) (same_none o)
-prepare_same c o n (Err refusal.Taken) k = absurd k
-prepare_same c o n (Err refusal.NoShard) k = absurd k
-prepare_same c o n (Err refusal.Waiting) k = absurd k
-prepare_same c o n (Err refusal.BadShape) k = absurd k
-prepare_same c o n (Err refusal.WrongKind) k = absurd k
+pub prepare_aside : (c : ℕ) (o n : Sharded) (r : Result ℕ Refusal) → PrepareServes c o r n
+    → Aside o.pages.owner n.pages.owner
+prepare_aside c o n (Ok p) k = k.gives.aside
+prepare_aside c o n (Err refusal.BadKey) k = absurd k
+prepare_aside c o n (Err refusal.Gone) k = absurd k
+prepare_aside c o n (Err refusal.Crowded) k = absurd k
+prepare_aside c o n (Err refusal.HoldsFull) k = absurd k
+prepare_aside c o n (Err refusal.NotHeld) k = absurd k
+prepare_aside c o n (Err refusal.TooLong) k = absurd k
+prepare_aside c o n (Err refusal.Full) k = aside_if_same o n k.0
+prepare_aside c o n (Err refusal.Memory) k = aside_if_same o n k.0
+prepare_aside c o n (Err refusal.Taken) k = absurd k
+prepare_aside c o n (Err refusal.NoShard) k = absurd k
+prepare_aside c o n (Err refusal.Waiting) k = absurd k
+prepare_aside c o n (Err refusal.BadShape) k = absurd k
+prepare_aside c o n (Err refusal.WrongKind) k = absurd k
+
+-- what remains over work of the owner that leaves it the shard
+pub remains_aside : (layout : Layout) (o n : Sharded) → HoldsShard layout o → HoldsShard layout n
+    → Aside o.pages.owner n.pages.owner → Remains layout o.pages.owner n.pages.owner
+remains_aside layout o n before after aside = record {
+  heap = aside.heap;
+  shard = aside.owned;
+  idle = after.idle;
+  shape = before.shape;
+  stood = before.stands;
+  stands = after.stands;
+}
 
 -- ---- the owner of the shard
 

@@ -14,7 +14,8 @@ use Rattle.sh_shard.specs.Pages.{pages_heeded}
 use Rattle.sh_slots.specs.declared.hand.Hand.TheVariants.{Idle}
 use Rattle.sh_table.specs.Tales.{ViewStands}
 use Rattle.sh_pass.specs.Growing.{SameTale}
-use Rattle.sh_pass.specs.Owners.{SeenPage, Aside, NonePut, IsKeyIn, IsKeyOn, heap_page, own_body}
+use Rattle.sh_pass.specs.Remaining.{Remains}
+use Rattle.sh_pass.specs.Owners.{SeenPage, Aside, NonePut, IsKeyIn, IsKeyOn, heap_page, own_body, seen_bell}
 use Rattle.sh_shard.specs.Pages.{Paged, shard_page, page_at, seen_class, NothingMine, WhollyMine, GivesClass, PageDone}
 use Rattle.sh_shard.specs.Pages.{PageInserts, TakesSteps, AdoptsShard, AdoptRefused, ShardLeft}
 use Rattle.sh_shard.specs.Works.{WorksThroughout, BellDone, ClassDone, ReadFromBell}
@@ -43,17 +44,21 @@ pub record SortedPages (v : Paged) (q : PageQueues) : Type 0 where
   pub full : (p : ℕ) → has_number p q.full ≡ true → FullPage (page_at v p)
   pub blank : (p : ℕ) → has_number p q.blank ≡ true → (page_at v p).class ≡ Some 0
 
--- nothing is begun, the shard is the owner's, and its tale holds
+-- Nothing is begun, the shard is the owner's, and all that it knows is true in the heap's shape. The bell is that of its
+-- shard as the owner sees it.
 pub record HoldsShard (layout : Layout) (o : Sharded) : Type 0 where
   pub stands : ViewStands layout o.pages.owner.view
   pub idle : (own_body o.pages.owner).hand ≡ Idle
   pub owned : (own_body o.pages.owner).owned ≡ Some o.pages.shard
+  pub shape : o.pages.owner.view.shape ≡ o.pages.owner.heap.shape
+  pub bell : o.pages.bell ≡ seen_bell layout o.pages.owner o.pages.shard
 
 -- after a call the same pass holds the same shard
 pub record StaysOwner (layout : Layout) (o n : Sharded) : Type 0 where
   pub holds : HoldsShard layout n
   pub shard : n.pages.shard ≡ o.pages.shard
   pub same : SameTale o.pages.owner.view n.pages.owner.view
+  pub remains : Remains layout o.pages.owner n.pages.owner
 
 -- the shard, once its owner has heeded the receipt
 abbrev pub shard_heeded : Sharded → Caller → Sharded

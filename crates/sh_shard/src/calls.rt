@@ -1,6 +1,7 @@
 // The four calls of a pass, for an owner: a slot of its shard that the call frees goes to its page's lists.
 ghost use Rattle.std.specs.Prelude.{◌≡◌, ◌+◌, ◌*◌, ◌^◌, ◌≤◌, None, length};
 ghost use Rattle.sh_pass.specs.Passes.{GetDoes, ReadIntoDoes, RemoveDoes, ReleaseDoes};
+ghost use Rattle.sh_pass.specs.Remaining.{Remains};
 ghost use Rattle.sh_shard.specs.Kept.{MayGain, PushesGained};
 ghost use Rattle.sh_shard.specs.Pages.{GainsSlot};
 
@@ -31,6 +32,7 @@ impl<L: KeyLayout, H: KeepsHeap<L>> Pages<L, H> {
     pub(crate) fn get(&mut self, key: u64) -> (Result<Hold, Refusal>, Option<u64>)
         ensures does { GetDoes L.layout key self.old.owner result.0 self.new.owner }
         ensures gained { GainsSlot result.1 self.old self.new }
+        ensures remains { Remains L.layout self.old.owner self.new.owner }
     {
         let (answer, gained) = self.owner.get(key);
         let page = push_gained(&mut self.states, self.shard, gained);
@@ -42,6 +44,7 @@ impl<L: KeyLayout, H: KeepsHeap<L>> Pages<L, H> {
     pub(crate) fn get_guard(&mut self, key: u64) -> (Result<Guard<L>, Refusal>, Option<u64>)
         ensures does { GetDoes L.layout key self.old.owner result.0 self.new.owner }
         ensures gained { GainsSlot result.1 self.old self.new }
+        ensures remains { Remains L.layout self.old.owner self.new.owner }
     {
         let (answer, gained) = self.owner.get_guard(key);
         let page = push_gained(&mut self.states, self.shard, gained);
@@ -53,6 +56,7 @@ impl<L: KeyLayout, H: KeepsHeap<L>> Pages<L, H> {
     pub(crate) fn read_into(&mut self, hold: Hold, value: &mut Value) -> Result<(), Refusal>
         ensures does { ReadIntoDoes hold.key self.old.owner value.old result value.new self.new.owner }
         ensures gained { GainsSlot None self.old self.new }
+        ensures remains { Remains L.layout self.old.owner self.new.owner }
     {
         self.owner.read_into(hold, value)
     }
@@ -62,6 +66,7 @@ impl<L: KeyLayout, H: KeepsHeap<L>> Pages<L, H> {
     pub(crate) fn read_guard(&mut self, guard: &Guard<L>, value: &mut Value) -> Result<(), Refusal>
         ensures does { ReadIntoDoes guard.now.key self.old.owner value.old result value.new self.new.owner }
         ensures gained { GainsSlot None self.old self.new }
+        ensures remains { Remains L.layout self.old.owner self.new.owner }
     {
         self.owner.read_guard(guard, value)
     }
@@ -70,6 +75,7 @@ impl<L: KeyLayout, H: KeepsHeap<L>> Pages<L, H> {
     pub(crate) fn remove(&mut self, key: u64) -> (Result<(), Refusal>, Option<u64>)
         ensures does { RemoveDoes L.layout key self.old.owner result.0 self.new.owner }
         ensures gained { GainsSlot result.1 self.old self.new }
+        ensures remains { Remains L.layout self.old.owner self.new.owner }
     {
         let (answer, gained) = self.owner.remove(key);
         let page = push_gained(&mut self.states, self.shard, gained);
@@ -80,16 +86,19 @@ impl<L: KeyLayout, H: KeepsHeap<L>> Pages<L, H> {
     pub(crate) fn release(&mut self, hold: Hold) -> (Result<(), Refusal>, Option<u64>)
         ensures does { ReleaseDoes L.layout hold.key self.old.owner result.0 self.new.owner }
         ensures gained { GainsSlot result.1 self.old self.new }
+        ensures remains { Remains L.layout self.old.owner self.new.owner }
     {
         let (answer, gained) = self.owner.release(hold);
         let page = push_gained(&mut self.states, self.shard, gained);
         (answer, page)
     }
+
     /// The same as `release`, of a hold that keeps its place.
     #[inline(always)]
     pub(crate) fn release_guard(&mut self, guard: Guard<L>) -> (Result<(), Refusal>, Option<u64>)
         ensures does { ReleaseDoes L.layout guard.key self.old.owner result.0 self.new.owner }
         ensures gained { GainsSlot result.1 self.old self.new }
+        ensures remains { Remains L.layout self.old.owner self.new.owner }
     {
         let (answer, gained) = self.owner.release_guard(guard);
         let page = push_gained(&mut self.states, self.shard, gained);

@@ -24,6 +24,7 @@ impl<L: KeyLayout, H: KeepsHeap<L>> Shard<L, H> {
         ensures bounded { PrepareIsBounded self.old self.new }
         ensures stays { StaysOwner L.layout self.old self.new }
     {
+        let _known = self.standing();
         let answer = self.give_page(class);
         let _known = self.standing();
         answer

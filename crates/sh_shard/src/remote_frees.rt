@@ -51,6 +51,7 @@ impl<L: KeyLayout, H: KeepsHeap<L>> Shard<L, H> {
         ensures serves { CollectServes self.old self.new }
         ensures stays { StaysOwner L.layout self.old self.new }
     {
+        let _known = self.standing();
         let opened = self.queues.opened();
         self.pages.empty_bell();
         self.pages.collect_pages(opened as u64);

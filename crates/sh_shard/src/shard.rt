@@ -56,6 +56,7 @@ impl<L: KeyLayout, H: KeepsHeap<L>> Shard<L, H> {
         let Some(class) = classes::class_of(value.words().len()) else {
             unreachable!()
         };
+        let _known = self.standing();
         let answer = self.insert_in(class, value);
         let _known = self.standing();
         answer

@@ -2,7 +2,7 @@
 ghost use Rattle.std.specs.Prelude.{◌≡◌, Some};
 ghost use Rattle.sh_slots.specs.declared.hand.Hand.TheVariants.{Idle};
 ghost use Rattle.sh_table.specs.Tales.{ViewStands};
-ghost use Rattle.sh_pass.specs.Owners.{own_body};
+ghost use Rattle.sh_pass.specs.Owners.{own_body, seen_bell};
 ghost use Rattle.sh_shard.specs.Shards.{HoldsShard};
 
 use crate::pages::Pages;
@@ -17,8 +17,10 @@ impl<L: KeyLayout, H: KeepsHeap<L>> Pages<L, H> {
         ensures stands { ViewStands L.layout self.now.owner.view }
         ensures idle { (own_body self.now.owner).hand ≡ Idle }
         ensures owned { (own_body self.now.owner).owned ≡ Some self.now.shard }
+        ensures shape { self.now.owner.view.shape ≡ self.now.owner.heap.shape }
+        ensures bell { self.now.bell ≡ seen_bell L.layout self.now.owner self.now.shard }
     {
-        let _known = &self.owner;
+        let _known = self.owner.shape();
     }
 
     // The shape of the heap.

@@ -22,22 +22,18 @@ impl<L: KeyLayout, H: KeepsHeap<L>> Lookup for Shard<L, H> {
     ghost releases = { λ old key result new. ReleaseDoes L.layout key old.pages.owner result new.pages.owner };
 
     fn get(&mut self, key: u64) -> Result<Hold, Refusal> {
-        let _known = self.standing();
         Shard::get(self, key)
     }
 
     fn read(&mut self, hold: Hold) -> Result<Value, Refusal> {
-        let _known = self.standing();
         Shard::read(self, hold)
     }
 
     fn remove(&mut self, key: u64) -> Result<(), Refusal> {
-        let _known = self.standing();
         Shard::remove(self, key)
     }
 
     fn release(&mut self, hold: Hold) -> Result<(), Refusal> {
-        let _known = self.standing();
         Shard::release(self, hold)
     }
 }
@@ -48,7 +44,6 @@ impl<L: KeyLayout, H: KeepsHeap<L>> Store for Shard<L, H> {
     ghost inserts = { λ old value result new. InsertServes L.layout (value_class value) value old result new };
 
     fn insert(&mut self, value: &Value) -> Result<u64, Refusal> {
-        let _known = self.standing();
         Shard::insert(self, value)
     }
 }

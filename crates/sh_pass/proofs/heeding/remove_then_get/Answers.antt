@@ -19,5 +19,6 @@ returns g c =
       removes = removes;
       gets = subst (λ (v : Caller). GetDoes layout key v c.get.result c.get.new.self) heeds c.get.ensures.does;
       finds_none = finds_none layout key c.args.one.now one c.args.other.now c.heed.new.self c.get.new.self
-          c.heard_comes_first.ensures.removed removes heeds c.get.ensures.stands c.get.result c.get.ensures.does;
+          c.heard_comes_first.ensures.removed removes heeds c.get.ensures.remains.stands c.get.result
+          c.get.ensures.does;
     })

@@ -3,4 +3,4 @@ use Rattle.sh_pass.proofs.lookup.PassLookup.get.Goals as goal
 
 pub returns-clause-leaves : goal.returns-clause-leaves
 returns-clause-leaves g c = get_leaves g.L.KeyLayout.layout c.args.key c.args.self.now c.get.new.self c.get.result
-    c.get.ensures.stands c.get.ensures.does
+    c.get.ensures.remains.stands c.get.ensures.does

@@ -13,7 +13,7 @@ push_gained-page-requires-clause-may g c = may_gain c.get-answer.result.1 c.get-
 
 pub invariant_of-self : goal.invariant_of-self
 invariant_of-self g c = (kept_after c.get-answer.result.1 c.push_gained-page.result c.get-answer.new.self
-    c.push_gained-page.new.states c.self.invariant c.get-answer.ensures.leaves c.get-answer.ensures.stands
+    c.push_gained-page.new.states c.self.invariant c.get-answer.ensures.leaves c.get-answer.ensures.remains.stands
     c.push_gained-page.ensures).keeps
 
 pub returns-clause-gained : goal.returns-clause-gained
@@ -22,5 +22,5 @@ returns-clause-gained g c =
     (paged_of g.L.KeyLayout.layout c.get-answer.new.self c.self.inside.shard (length c.push_gained-page.new.states))
     in
     subst P c.self.view_is (kept_after c.get-answer.result.1 c.push_gained-page.result c.get-answer.new.self
-    c.push_gained-page.new.states c.self.invariant c.get-answer.ensures.leaves c.get-answer.ensures.stands
+    c.push_gained-page.new.states c.self.invariant c.get-answer.ensures.leaves c.get-answer.ensures.remains.stands
     c.push_gained-page.ensures).comes

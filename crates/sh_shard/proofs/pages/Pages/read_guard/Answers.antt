@@ -6,11 +6,11 @@ use Rattle.sh_shard.proofs.pages.Pages.read_guard.Goals as goal
 
 pub invariant_of-self : goal.invariant_of-self
 invariant_of-self g c = (kept_after None None c.read_guard.new.self c.self.inside.states c.self.invariant
-    c.read_guard.ensures.leaves c.read_guard.ensures.stands (refl, refl)).keeps
+    c.read_guard.ensures.leaves c.read_guard.ensures.remains.stands (refl, refl)).keeps
 
 pub returns-clause-gained : goal.returns-clause-gained
 returns-clause-gained g c =
     let P : Paged → Type 0 = λ z. GainsSlot None z (paged_of g.L.KeyLayout.layout c.read_guard.new.self
     c.self.inside.shard (length c.self.inside.states)) in
     subst P c.self.view_is (kept_after None None c.read_guard.new.self c.self.inside.states c.self.invariant
-    c.read_guard.ensures.leaves c.read_guard.ensures.stands (refl, refl)).comes
+    c.read_guard.ensures.leaves c.read_guard.ensures.remains.stands (refl, refl)).comes

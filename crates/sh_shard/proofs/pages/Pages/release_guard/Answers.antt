@@ -12,8 +12,10 @@ push_gained-page-requires-clause-may g c = may_gain c.release_guard-answer.resul
     c.self.invariant c.release_guard-answer.ensures.leaves.slot
 
 pub invariant_of-self : goal.invariant_of-self
-invariant_of-self g c = (kept_after c.release_guard-answer.result.1 c.push_gained-page.result c.release_guard-answer.new.self
-    c.push_gained-page.new.states c.self.invariant c.release_guard-answer.ensures.leaves c.release_guard-answer.ensures.stands
+invariant_of-self g c =
+    (kept_after c.release_guard-answer.result.1 c.push_gained-page.result c.release_guard-answer.new.self
+    c.push_gained-page.new.states c.self.invariant c.release_guard-answer.ensures.leaves
+    c.release_guard-answer.ensures.remains.stands
     c.push_gained-page.ensures).keeps
 
 pub returns-clause-gained : goal.returns-clause-gained
@@ -23,4 +25,4 @@ returns-clause-gained g c =
     (length c.push_gained-page.new.states)) in
     subst P c.self.view_is (kept_after c.release_guard-answer.result.1 c.push_gained-page.result
     c.release_guard-answer.new.self c.push_gained-page.new.states c.self.invariant c.release_guard-answer.ensures.leaves
-    c.release_guard-answer.ensures.stands c.push_gained-page.ensures).comes
+    c.release_guard-answer.ensures.remains.stands c.push_gained-page.ensures).comes
