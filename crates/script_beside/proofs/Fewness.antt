@@ -16,6 +16,7 @@ use Rattle.sh_step.specs.Collections.{total}
 use Rattle.sh_core.specs.Lists.{times}
 use Rattle.sh_core.specs.Worlds.{World, step, apply, run, run_from, open_world, joined}
 use Rattle.sh_core.proofs.Clauses.RunTheorem.{theorem}
+use Rattle.sh_core.proofs.Words.Steps.{run_snoc}
 
 -- no key has more holds, and none was released more often than it was got
 abbrev pub FewHolds : (guard_max : ℕ) → List Entry → Type 0
@@ -54,12 +55,6 @@ step_adds plan w e = go (slice_get w.parts e.pass)
     ]).log
     go None = inl refl
     go (Some p) = by_row plan w e.pass (row plan p e.action)
-
-run_more : (plan : Plan) (w : World) (es : List Event) (e : Event) → run_from plan w (es ++ e ∷ [])
-    ≡ step plan (run_from plan w es) e
-unfolding run_from
-run_more plan w [] e = refl
-run_more plan w (x ∷ es) e = run_more plan (step plan w x) es e
 
 -- ---- beginnings of the log
 
@@ -103,7 +98,7 @@ module _ (layout : Layout) (shape : Numbers) (lawful : IsLayout layout) (is_shap
   begun : (es : List Event) → FewAlong layout.guard_max (run plan es).log → (e : Event)
       → FewAlong layout.guard_max (run plan (es ++ e ∷ [])).log
   begun es few e = subst (λ (w : World). FewAlong layout.guard_max w.log)
-      (sym (run_more plan (open_world plan) es e)) (go (step_adds plan (run plan es) e))
+      (sym (run_snoc plan (open_world plan) es e)) (go (step_adds plan (run plan es) e))
     where
       go : AddsOne (run plan es).log (step plan (run plan es) e).log
           → FewAlong layout.guard_max (step plan (run plan es) e).log
@@ -114,7 +109,7 @@ module _ (layout : Layout) (shape : Numbers) (lawful : IsLayout layout) (is_shap
               ⊎ ((left : List Entry) × ((run plan es).log ≡ front ++ left)) → FewHolds layout.guard_max front
           by front rest (inr h) = few front h.0 h.1
           by front rest (inl h) = subst (FewHolds layout.guard_max) (sym (h ∙ (sym f.1
-              ∙ ap (λ (w : World). w.log) (sym (run_more plan (open_world plan) es e)))))
+              ∙ ap (λ (w : World). w.log) (sym (run_snoc plan (open_world plan) es e)))))
               (whole_log (es ++ e ∷ []))
 
   along : (done es : List Event) → FewAlong layout.guard_max (run plan done).log

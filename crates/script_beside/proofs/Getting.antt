@@ -25,12 +25,13 @@ use Rattle.script_calls.specs.Calls.{CallAnswers, AnswerSays, GetAnswers, Unless
 use Rattle.script_calls.specs.InOrder.{is_done_gone_or_crowded}
 use Rattle.script_beside.specs.Beside.{IsLimit, WherePlaced, IfPlaced, GetsBeside}
 use Rattle.script_beside.proofs.Fewness.{FewHolds, room_before, few_before}
-use Rattle.script_beside.proofs.Holds.{hold_count_by_log}
+use Rattle.sh_history.proofs.LogHolds.{hold_count_by_log}
+use Rattle.sh_history.proofs.Laws.{some_value}
 use Rattle.script_beside.proofs.Logs.{added_agrees}
 use Rattle.script_beside.proofs.Issued.{AreIssued}
 use Rattle.script_beside.proofs.Turns.{Turn, Ready, Stepped, plain_with, plain_before, plain_after, stays, shard_kept}
 use Rattle.script_beside.proofs.Turns.{run_kept, issued_kept, history_grown, gained, allowed_last, issued_after}
-use Rattle.script_beside.proofs.OnKeys.{present_here, present_gone, some_value, placed_is_key, key_here, number_here}
+use Rattle.script_beside.proofs.OnKeys.{present_here, present_gone, placed_is_key, key_here, number_here}
 use Rattle.script_beside.proofs.OnKeys.{heap_key, by_key, keyless, placeless}
 
 got_is : (pass key : ℕ) (x : LogEntry) (e : Entry) → IsGotBy pass key x → Agrees x e → (value : List ℕ)

@@ -1,4 +1,3 @@
-pub mod Holds
 pub mod Logs
 pub mod Names
 pub mod Issued

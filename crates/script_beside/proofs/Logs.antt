@@ -2,7 +2,6 @@
 use Rattle.std.proofs.Common.{◌≡◌, ◌≢◌, ℕ, ◌==◌, ◌⊎◌, inl, inr, Bool, true, false, cond, List, [], ◌∷◌, ◌++◌, map, refl}
 use Rattle.std.proofs.Common.{ap, sym, ◌∙◌, subst, append-nil, eq-eqb, ne_eqb, Option, Some, None}
 use Rattle.std.proofs.Common.{Result, Ok, Err}
-use Rattle.std.specs.Prelude.{ok_or}
 use Rattle.std.specs.List.{AllZip}
 use Rattle.std.proofs.lemmas.List.Elements.{filter-append}
 use Rattle.sh_value.specs.declared.hold.Hold.{Hold}
@@ -13,19 +12,18 @@ use Rattle.sh_history.specs.declared.entry.Entry.TheVariants.{Got}
 use Rattle.sh_history.specs.declared.log.LogEntry.{LogEntry}
 use Rattle.sh_history.specs.declared.log.LogEntry.TheVariants.{Known, Unread}
 use Rattle.sh_history.specs.Log.{Agrees, pass_of, entries_of, filled}
-use Rattle.sh_script.specs.declared.calls.Reference.{Reference}
 use Rattle.sh_script.specs.declared.calls.Reference.TheVariants as reference
 use Rattle.sh_script.specs.declared.calls.Call.{Call}
 use Rattle.sh_script.specs.declared.calls.Call.TheVariants as call
 use Rattle.script_output.specs.declared.answer.Answer.{Answer}
 use Rattle.script_output.specs.declared.answer.Answer.TheVariants as answer
-use Rattle.script_output.specs.Keys.{key_shown}
 use Rattle.script_output.specs.Results.{done_answer, key_answer}
 use Rattle.script_calls.specs.Parts.{RunTerms, PassPart, Becomes, with_entry}
 use Rattle.script_calls.specs.Calls.{CallAnswers, UnlessRefused, OnKey, key_meant, PartAdopted, PartLeft, ValueInserted}
 use Rattle.script_calls.specs.Calls.{HoldGot, ValueRead, HoldReleased, KeyRemoved, adopt_refusal, needs_shard}
 use Rattle.script_calls.specs.Calls.{words_refusal, get_refusal, hold_refusal, remove_refusal}
 use Rattle.script_calls.specs.InOrder.{adds_entry, is_done_gone_or_crowded, is_done_or_gone, is_done, is_key}
+use Rattle.script_calls.proofs.GrowLemmas.{get_first, remove_first, no_key}
 
 -- one entry more, or none: then values of gets may have been read
 abbrev pub Gains : Bool → List LogEntry → List LogEntry → Type 0
@@ -93,37 +91,6 @@ module _ (terms : RunTerms) (tag : Option ℕ) (pass : ℕ) (v w : PassPart) whe
   remove_gains key (Ok x) e = entry_more v w _ e
   remove_gains key (Err refusal.Gone) e = entry_more v w _ e
   remove_gains key (Err _) e = absurd e
-
--- which refusals come first
-same_refusal : (x e : Refusal) → Some x ≡ Some e → x ≡ e
-same_refusal x e h = cc
-
-get_first : (b c : Bool) (e : Refusal) → cond b (Some refusal.BadKey) (cond c (Some refusal.HoldsFull) None) ≡ Some e
-    → is_done_gone_or_crowded (answer.Refused e) ≡ false
-get_first true c e h = subst (λ z. is_done_gone_or_crowded (answer.Refused z) ≡ false)
-    (same_refusal refusal.BadKey e h) refl
-get_first false true e h = subst (λ z. is_done_gone_or_crowded (answer.Refused z) ≡ false)
-    (same_refusal refusal.HoldsFull e h) refl
-get_first false false e h = absurd (let z : None ≡ Some e = h in cc)
-
-remove_first : (b : Bool) (e : Refusal) → cond b None (Some refusal.BadKey) ≡ Some e
-    → is_done_or_gone (answer.Refused e) ≡ false
-remove_first true e h = absurd (let z : None ≡ Some e = h in cc)
-remove_first false e h = subst (λ z. is_done_or_gone (answer.Refused z) ≡ false) (same_refusal refusal.BadKey e h) refl
-
--- if there is no key, no entry is added
-pub no_key : (f : Answer → Bool) → f answer.Unbound ≡ false → f (answer.Refused refusal.BadKey) ≡ false
-    → (tag : Option ℕ) (bound : Option ℕ) (r : Reference) (b : Answer) → key_meant tag bound r ≡ Err b → f b ≡ false
-no_key f unbound bad tag bound (reference.Key n) b e = number (key_shown tag n) e where
-  number : (o : Option ℕ) → ok_or o (answer.Refused refusal.BadKey) ≡ Err b → f b ≡ false
-  number None e = let z : answer.Refused refusal.BadKey ≡ b = cc in subst (λ x. f x ≡ false) z bad
-  number (Some k) e = absurd (let z : Ok k ≡ Err b = e in cc)
-no_key f unbound bad tag None (reference.Name i) b e = let z : answer.Unbound ≡ b = cc
-    in subst (λ x. f x ≡ false) z unbound
-no_key f unbound bad tag (Some n) (reference.Name i) b e = number (key_shown tag n) e where
-  number : (o : Option ℕ) → ok_or o (answer.Refused refusal.BadKey) ≡ Err b → f b ≡ false
-  number None e = let z : answer.Refused refusal.BadKey ≡ b = cc in subst (λ x. f x ≡ false) z bad
-  number (Some k) e = absurd (let z : Ok k ≡ Err b = e in cc)
 
 key_gains : (k : Result ℕ Answer) (v w : PassPart) (a : Answer) (C : ℕ → Answer → PassPart → Type 0) (f : Answer → Bool)
     → ((b : Answer) → k ≡ Err b → f b ≡ false) → ((key : ℕ) → C key a w → More v w (f a)) → OnKey k v C a w

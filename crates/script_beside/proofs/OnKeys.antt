@@ -1,7 +1,7 @@
 -- What calls on a key share: what the history says of the key, and the answer if there is no key.
 use Rattle.std.proofs.Common.{◌≡◌, ℕ, ◌⊎◌, inl, inr, Bool, true, false, List}
 use Rattle.std.proofs.Common.{refl, ap, sym, ◌∙◌, subst, Option, Some, None, Result, Ok, Err}
-use Rattle.std.specs.Prelude.{is_some, nat_lt, IsSome}
+use Rattle.std.specs.Prelude.{is_some, nat_lt}
 use Rattle.sh_value.specs.declared.refusal.Refusal.TheVariants as refusal
 use Rattle.sh_key.specs.Layout.{Layout, unpacked}
 use Rattle.sh_key.specs.declared.parts.Parts.{Parts}
@@ -20,8 +20,8 @@ use Rattle.script_calls.specs.Calls.{OnKey, key_meant}
 use Rattle.script_calls.specs.InOrder.{adds_entry}
 use Rattle.script_calls.specs.Runs.{number_bound}
 use Rattle.script_beside.specs.Beside.{WherePlaced}
-use Rattle.script_beside.proofs.Holds.{holds_by_log}
-use Rattle.script_beside.proofs.Logs.{no_key}
+use Rattle.sh_history.proofs.LogHolds.{holds_by_log}
+use Rattle.script_calls.proofs.GrowLemmas.{no_key}
 use Rattle.script_beside.proofs.Names.{AreNames, key_by, same_meant}
 use Rattle.script_beside.proofs.Turns.{Turn, Ready, plain_before, plain_after, run_kept}
 
@@ -40,10 +40,6 @@ present_gone es key (inl e) = go (is_removed es key) refl
     go : (b : Bool) → is_removed es key ≡ b → present_value es key ≡ None
     go true f = rw f refl
     go false f = rw (f, e) refl
-
-pub some_value : (o : Option (List ℕ)) → IsSome o → (value : List ℕ) × (o ≡ Some value)
-some_value None e = absurd (let z : false ≡ true = e in cc)
-some_value (Some value) e = (value, refl)
 
 -- a key with a place is one of the layout
 pub placed_is_key : (layout : Layout) (shape : Numbers) (key : ℕ) → is_placed_key layout shape key ≡ true

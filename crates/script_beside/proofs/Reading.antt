@@ -21,7 +21,7 @@ use Rattle.script_output.specs.Results.{value_answer}
 use Rattle.script_models.specs.PlainRun.{Reads}
 use Rattle.script_calls.specs.Parts.{PassPart, Becomes}
 use Rattle.script_calls.specs.Calls.{CallAnswers, AnswerSays, ReadAnswers, UnlessRefused, ValueRead}
-use Rattle.script_beside.proofs.Holds.{own_count, got_own}
+use Rattle.sh_history.proofs.LogHolds.{own_count, got_own}
 use Rattle.script_beside.proofs.Logs.{LogIs}
 use Rattle.script_beside.proofs.Turns.{Turn, Ready, Stepped, plain_before, plain_after, stays, shard_kept, run_kept}
 use Rattle.script_beside.proofs.Turns.{issued_kept}

@@ -5,6 +5,7 @@ use Rattle.sh_value.specs.declared.refusal.Refusal.{Refusal}
 use Rattle.sh_value.specs.declared.refusal.Refusal.TheVariants as refusal
 use Rattle.sh_history.specs.declared.entry.Entry.TheVariants.{Gone, Removed}
 use Rattle.sh_history.specs.History.{value_of, present_value}
+use Rattle.sh_history.proofs.Laws.{some_value}
 use Rattle.sh_plain.specs.Plain.{with_added, remove_reply, removed_reply}
 use Rattle.sh_script.specs.declared.calls.Reference.{Reference}
 use Rattle.sh_script.specs.declared.calls.Call.TheVariants as call
@@ -19,7 +20,7 @@ use Rattle.script_beside.specs.Beside.{WherePlaced, IfPlaced}
 use Rattle.script_beside.proofs.Issued.{AreIssued}
 use Rattle.script_beside.proofs.Turns.{Turn, Ready, Stepped, plain_with, plain_before, plain_after, stays, shard_kept}
 use Rattle.script_beside.proofs.Turns.{run_kept, issued_kept, gained, allowed_last, issued_after}
-use Rattle.script_beside.proofs.OnKeys.{present_here, present_gone, some_value, placed_is_key, key_here, number_here}
+use Rattle.script_beside.proofs.OnKeys.{present_here, present_gone, placed_is_key, key_here, number_here}
 use Rattle.script_beside.proofs.OnKeys.{heap_key, by_key, keyless, placeless}
 
 module _ (t : Turn) (r : Reference) (a : Answer) (ready : Ready t (call.Remove r) a) where

@@ -94,14 +94,14 @@ module _ (f : ℕ → ℕ) (one : (i j : ℕ) → f i ≡ f j → i ≡ j) where
   abbrev all : List Entry → List Entry
   all es = map (renumbered f) es
 
-  same_value_of : (es : List Entry) (key : ℕ) → value_of (all es) (f key) ≡ value_of es key
-  same_value_of [] key = refl
-  same_value_of (Insert p k v ∷ es) key = (λ i. cond (same_test k key i) (Some v) (same_value_of es key i))
-  same_value_of (Got p k v ∷ es) key = same_value_of es key
-  same_value_of (Gone p k ∷ es) key = same_value_of es key
-  same_value_of (Crowded p k ∷ es) key = same_value_of es key
-  same_value_of (Removed p k ∷ es) key = same_value_of es key
-  same_value_of (Released p k ∷ es) key = same_value_of es key
+  pub same_value : (es : List Entry) (key : ℕ) → value_of (all es) (f key) ≡ value_of es key
+  same_value [] key = refl
+  same_value (Insert p k v ∷ es) key = (λ i. cond (same_test k key i) (Some v) (same_value es key i))
+  same_value (Got p k v ∷ es) key = same_value es key
+  same_value (Gone p k ∷ es) key = same_value es key
+  same_value (Crowded p k ∷ es) key = same_value es key
+  same_value (Removed p k ∷ es) key = same_value es key
+  same_value (Released p k ∷ es) key = same_value es key
 
   same_removed : (es : List Entry) (key : ℕ) → is_removed (all es) (f key) ≡ is_removed es key
   same_removed [] key = refl
@@ -112,11 +112,8 @@ module _ (f : ℕ → ℕ) (one : (i j : ℕ) → f i ≡ f j → i ≡ j) where
   same_removed (Crowded p k ∷ es) key = same_removed es key
   same_removed (Released p k ∷ es) key = same_removed es key
 
-  pub same_value : (es : List Entry) (key : ℕ) → value_of (all es) (f key) ≡ value_of es key
-  same_value = same_value_of
-
   pub same_present : (es : List Entry) (key : ℕ) → present_value (all es) (f key) ≡ present_value es key
-  same_present es key = (λ i. cond (same_removed es key i) None (same_value_of es key i))
+  same_present es key = (λ i. cond (same_removed es key i) None (same_value es key i))
 
   same_count : (p q : Entry → Bool) → ((e : Entry) → q (renumbered f e) ≡ p e) → (es : List Entry)
       → count_by q (all es) ≡ count_by p es

@@ -1,7 +1,7 @@
 -- Lines of the running heap beside mode plain, one after the other.
 use Rattle.std.proofs.Common.{◌≡◌, ◌≢◌, ℕ, suc, ◌<◌, ◌≤◌, ◌==◌, Bool, true, false, cond, List, [], ◌∷◌, ◌++◌}
-use Rattle.std.proofs.Common.{length, map, refl, ap, sym, ◌∙◌, subst, arith, append-nil, append_assoc, eqb-true, eq-eqb}
-use Rattle.std.proofs.Common.{ne_eqb, Option, None, slice_index_or, inl, inr}
+use Rattle.std.proofs.Common.{length, map, refl, ap, sym, ◌∙◌, subst, arith, append-nil, append_assoc, eqb-true}
+use Rattle.std.proofs.Common.{Option, None, slice_index_or, inl, inr}
 use Rattle.std.specs.Prelude.{is_some}
 use Rattle.std.proofs.lemmas.Bool.{eqb-false}
 use Rattle.std.specs.List.{All}
@@ -19,7 +19,9 @@ use Rattle.script_calls.specs.Parts.{RunTerms, PassPart}
 use Rattle.script_calls.specs.Receipts.{MayHeed}
 use Rattle.script_calls.specs.Calls.{CallAnswers}
 use Rattle.script_calls.specs.InOrder.{adds_entry, adding_passes}
-use Rattle.script_calls.specs.Runs.{CallsRun, LineAnswered, LinesAnswered, number_meant, with_part}
+use Rattle.script_calls.specs.Runs.{CallsRun, LineAnswered, LinesAnswered, number_meant}
+use Rattle.script_calls.proofs.LineLemmas.{part_here, part_there}
+use Rattle.script_calls.proofs.NameLemmas.{may_log}
 use Rattle.script_beside.specs.Beside.{CallBeside, RanBeside}
 use Rattle.script_beside.specs.Along.{RanAlong, NamesKey}
 use Rattle.script_beside.proofs.Along.{own, KeysAre}
@@ -72,16 +74,6 @@ goes true pass before (x ∷ xs) rest e =
 abbrev pub LogsAre : RunTerms → (ℕ → PassPart) → List Entry → Type 0
 LogsAre terms parts es = (q : ℕ) → q < terms.shape.passes → LogIs q (parts q).log es
 
-part_here : (parts : ℕ → PassPart) (pass q : ℕ) (u : PassPart) → q ≡ pass → with_part parts pass u q ≡ u
-part_here parts pass q u e = ap (λ (b : Bool). cond b u (parts q)) (eq-eqb q pass e)
-
-part_there : (parts : ℕ → PassPart) (pass q : ℕ) (u : PassPart) → q ≢ pass → with_part parts pass u q ≡ parts q
-part_there parts pass q u ne = ap (λ (b : Bool). cond b u (parts q)) (ne_eqb q pass ne)
-
-log_heeded : (v w : PassPart) → MayHeed v w → w.log ≡ v.log
-log_heeded v w (inl e) = ap (λ (p : PassPart). p.log) e
-log_heeded v w (inr h) = ap (λ (p : PassPart). p.log) h.1.is
-
 shard_heeded : (v w : PassPart) → MayHeed v w → w.shard ≡ v.shard
 shard_heeded v w (inl e) = ap (λ (p : PassPart). p.shard) e
 shard_heeded v w (inr h) = ap (λ (p : PassPart). p.shard) h.1.is
@@ -124,7 +116,7 @@ module _ (terms : RunTerms) (tag : Option ℕ) where
             own_before (adds_entry l.call a) l.pass h.begins.log h.part.log before after
             (gains terms tag l.pass h.begins l.call (number_meant r.numbers l.call) a h.part h.does) grown at in
             subst (λ (p : ℕ). LogIs p (r.parts p).log before) (sym is)
-            (subst (λ (x : List _). LogIs l.pass x before) (log_heeded (r.parts l.pass) h.begins h.heeds) begun)
+            (subst (λ (x : List _). LogIs l.pass x before) (may_log (r.parts l.pass) h.begins h.heeds) begun)
         go false e =
             let ne : q ≢ l.pass = eqb-false q l.pass e in
             other_before (adds_entry l.call a) l.pass q (r.parts q).log before after ne grown
@@ -273,7 +265,7 @@ module _ (terms : RunTerms) (tag : Option ℕ) where
         } in
         let ready : Ready t l.call a = record {
           grown = g.grown;
-          log = subst (λ (x : List _). LogIs l.pass x before) (sym (log_heeded (r.parts l.pass) h.begins h.heeds))
+          log = subst (λ (x : List _). LogIs l.pass x before) (sym (may_log (r.parts l.pass) h.begins h.heeds))
               (logs_now l.pass inside);
           log_after = subst (λ (p : PassPart). LogIs l.pass p.log g.after) (here r ran.0 l a h l.pass refl)
               (logs_next l.pass inside);

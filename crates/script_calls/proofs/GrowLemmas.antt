@@ -120,7 +120,8 @@ module _ (terms : RunTerms) (tag : Option ℕ) (pass : ℕ) (v w : PassPart) whe
 same_refusal : (x e : Refusal) → Some x ≡ Some e → x ≡ e
 same_refusal x e h = cc
 
-get_first : (b c : Bool) (e : Refusal) → cond b (Some refusal.BadKey) (cond c (Some refusal.HoldsFull) None) ≡ Some e
+pub get_first : (b c : Bool) (e : Refusal)
+    → cond b (Some refusal.BadKey) (cond c (Some refusal.HoldsFull) None) ≡ Some e
     → is_done_gone_or_crowded (answer.Refused e) ≡ false
 get_first true c e h = subst (λ z. is_done_gone_or_crowded (answer.Refused z) ≡ false)
     (same_refusal refusal.BadKey e h) refl
@@ -128,14 +129,14 @@ get_first false true e h = subst (λ z. is_done_gone_or_crowded (answer.Refused 
     (same_refusal refusal.HoldsFull e h) refl
 get_first false false e h = absurd (let z : None ≡ Some e = h in cc)
 
-remove_first : (b : Bool) (e : Refusal) → cond b None (Some refusal.BadKey) ≡ Some e
+pub remove_first : (b : Bool) (e : Refusal) → cond b None (Some refusal.BadKey) ≡ Some e
     → is_done_or_gone (answer.Refused e) ≡ false
 remove_first true e h = absurd (let z : None ≡ Some e = h in cc)
 remove_first false e h = subst (λ z. is_done_or_gone (answer.Refused z) ≡ false) (same_refusal refusal.BadKey e h) refl
 
 -- if there is no key, no entry is added
-no_key : (f : Answer → Bool) → f answer.Unbound ≡ false → f (answer.Refused refusal.BadKey) ≡ false → (tag : Option ℕ)
-    (bound : Option ℕ) (r : Reference) (b : Answer) → key_meant tag bound r ≡ Err b → f b ≡ false
+pub no_key : (f : Answer → Bool) → f answer.Unbound ≡ false → f (answer.Refused refusal.BadKey) ≡ false
+    → (tag : Option ℕ) (bound : Option ℕ) (r : Reference) (b : Answer) → key_meant tag bound r ≡ Err b → f b ≡ false
 no_key f unbound bad tag bound (reference.Key n) b e = number (key_shown tag n) e where
   number : (o : Option ℕ) → ok_or o (answer.Refused refusal.BadKey) ≡ Err b → f b ≡ false
   number None e = let z : answer.Refused refusal.BadKey ≡ b = cc in subst (λ x. f x ≡ false) z bad

@@ -5,7 +5,6 @@ use Rattle.std.proofs.Common.{cond, List, [], ◌∷◌, ◌++◌, refl, ap, sym
 use Rattle.std.proofs.Common.{slice_get, eq-eqb, eqb-true, ne_eqb}
 use Rattle.std.specs.Prelude.{count_by, slice_set, drop}
 use Rattle.std.proofs.lemmas.Bool.{cases_eq, false≢true}
-use Rattle.std.proofs.lemmas.Bool.Decides.{nat_tests}
 use Rattle.sh_slots.specs.declared.hand.Hand.{Hand}
 use Rattle.sh_slots.specs.declared.hand.Hand.TheVariants.{Idle, Removing, Leaving, Finishing, ToPut, Tying, Ringing}
 use Rattle.sh_slots.specs.declared.hand.Hand.TheVariants.{RingTying}
@@ -38,6 +37,7 @@ use Rattle.sh_core.proofs.Sums.ListCounts.{noted_at, a_first}
 use Rattle.sh_core.proofs.Sums.Tests.{cond_either}
 use Rattle.sh_core.proofs.Sums.Totals.{get_set, get_set_here, total_at}
 use Rattle.sh_core.proofs.Sums.Writes.{put_same, put_other}
+use Rattle.sh_gather.proofs.PageKeys.{not_0}
 
 -- the hand has no link to write, and no page to ring for
 abbrev pub TiesNone : Hand → Type 0
@@ -73,9 +73,6 @@ pub record Alone (plan : Plan) (a : ℕ) (w : World) (l : PutLists) (t t0 : List
 some_link : (xs : List ℕ) → 0 < link_to xs
 some_link [] = omega arith
 some_link (x ∷ xs) = omega arith
-
-not_0 : (n : ℕ) → 0 < n → (n == 0) ≡ false
-not_0 n some = grind (arith, nat_tests)
 
 module _ (plan : Plan) (a : ℕ) (w : World) (l : PutLists) (all : Refines plan w l) (t t0 : List Footstep)
     (old : Alone plan a w l t t0) (p : Body) (at : slice_get w.parts a ≡ Some p) where

@@ -1,6 +1,6 @@
 -- A pass goes on alone, event by event, if the trails of the others stay as they are.
-use Rattle.std.proofs.Common.{◌≡◌, ◌≢◌, ℕ, ◌+◌, ◌<◌, ◌≤◌, ◌==◌, ◌⊎◌, inl, inr, ⊎_elim, Bool, true, false}
-use Rattle.std.proofs.Common.{cond, List, [], ◌∷◌, ◌++◌, refl, ap, sym, ◌∙◌, subst, arith, Option, Some, None}
+use Rattle.std.proofs.Common.{◌≡◌, ◌≢◌, ℕ, ◌+◌, ◌<◌, ◌≤◌, ◌⊎◌, inl, inr, ⊎_elim, Bool, true, false}
+use Rattle.std.proofs.Common.{List, [], ◌∷◌, ◌++◌, refl, ap, sym, ◌∙◌, subst, arith, Option, Some, None}
 use Rattle.std.proofs.Common.{slice_get, append_assoc, append-nil}
 use Rattle.std.specs.Prelude.{length}
 use Rattle.std.proofs.lemmas.Bool.{cases_eq}
@@ -23,39 +23,20 @@ use Rattle.sh_step.specs.Plans.{Plan, plan_of}
 use Rattle.sh_step.specs.Rows.{Row, own}
 use Rattle.sh_step.proofs.ConditionLaws.{move_of_row}
 use Rattle.sh_step.proofs.FootstepLaws.{counts_grow}
-use Rattle.sh_step.proofs.PageLaws.{page_of_name, slot_of_name}
-use Rattle.sh_core.specs.Lists.{PutLists, list_step, lists_from, lists_of, no_lists, listed, pushed, taken}
-use Rattle.sh_core.specs.Lists.{chain_followed}
+use Rattle.sh_core.specs.Lists.{PutLists, list_step, lists_of, no_lists, listed}
 use Rattle.sh_core.specs.Outcomes.{row_of_event}
 use Rattle.sh_core.specs.Quiet.{Quiet}
 use Rattle.sh_core.specs.Trails.{trail_of}
 use Rattle.sh_core.specs.Words.{read}
-use Rattle.sh_core.specs.Worlds.{World, apply, run, run_from, step, open_world}
+use Rattle.sh_core.specs.Worlds.{World, apply, run, step, open_world}
 use Rattle.sh_core.proofs.Clauses.RunTheorem.{theorem}
-use Rattle.sh_core.proofs.Moves.ByMove.{lists_after}
+use Rattle.sh_core.proofs.Moves.ByMove.{lists_after, after_move}
 use Rattle.sh_core.proofs.Words.Steps.{run_snoc, step_moves, step_skips, step_past, row_of_at, trail_grows}
 use Rattle.sh_core.proofs.Words.Steps.{skips_leave_trails, others_trails_stay}
 use Rattle.sh_core.proofs.WaitFree.{skipped}
+use Rattle.sh_core.proofs.Collects.{lists_snoc}
+use Rattle.sh_core.proofs.Words.Stepping.{row_of_past}
 use Rattle.sh_quiet.proofs.Alone.{Alone, TiesNone, advance}
-
--- what a move that found n leaves of the lists of what was put, as what its action leaves
-after_move : (plan : Plan) (p : Body) (m : Move) → May plan p m → (n : ℕ) (l : PutLists)
-    → listed plan p (action_of plan m) n l ≡ lists_after plan p m n l
-unfolding listed
-after_move plan p (move.Put x) may n l = rw may refl
-after_move plan p (move.PutSlot x) may n l = ap (pushed l) (slot_of_name plan x)
-after_move plan p (move.Take q) may n l = ap (taken l) (page_of_name plan q)
-after_move plan p (move.Arm q) may n l = ap (taken l) (page_of_name plan q)
-after_move plan p (move.Follow q s) may n l = ap (λ r. cond (n == 0) l (chain_followed l r)) (page_of_name plan q)
-after_move plan p (move.Ring q) may n l = rw may refl
-after_move plan p (move.TakeBell k) may n l = rw may.1 refl
-after_move plan p _ may n l = refl
-
-lists_one_more : (plan : Plan) (w : World) (l : PutLists) (es : List Event) (e : Event)
-    → lists_from plan w l (es ++ e ∷ []) ≡ list_step plan (run_from plan w es) e (lists_from plan w l es)
-unfolding lists_from run_from
-lists_one_more plan w l [] e = refl
-lists_one_more plan w l (d ∷ es) e = lists_one_more plan (step plan w d) (list_step plan w d l) es e
 
 listed_by : (plan : Plan) (w : World) (l : PutLists) (e : Event) (p : Body) → slice_get w.parts e.pass ≡ Some p
     → list_step plan w e l
@@ -79,11 +60,6 @@ lists_past plan w l e at = ap (λ (o : Option Body). elim o as (λ _. PutLists) 
   | None ↦ l
 ]) at
 
-row_past : (plan : Plan) (w : World) (e : Event) → slice_get w.parts e.pass ≡ None → row_of_event plan w e ≡ None
-unfolding row_of_event
-row_past plan w e at = ap (λ (o : Option Body). elim o as (λ _. Option Row)
-    [ Some p ↦ row plan p e.action | None ↦ None ]) at
-
 lists_skipped : (plan : Plan) (w : World) (l : PutLists) (e : Event) → row_of_event plan w e ≡ None
     → list_step plan w e l ≡ l
 unfolding list_step row_of_event
@@ -105,7 +81,7 @@ stepped : (plan : Plan) (es : List Event) (e : Event) (r : Row) → row_of_event
 stepped plan es e r is = go (slice_get (run plan es).parts e.pass) refl where
   go : (o : Option Body) → slice_get (run plan es).parts e.pass ≡ o → (e.pass < length (run plan es).parts)
       × (length (trail_of plan (es ++ e ∷ []) e.pass) ≡ length (trail_of plan es e.pass) + 1)
-  go None at = absurd (let z : None ≡ Some r = sym (row_past plan (run plan es) e at) ∙ is in cc)
+  go None at = absurd (let z : None ≡ Some r = sym (row_of_past plan (run plan es) e at) ∙ is in cc)
   go (Some p) at =
       let its : row plan p e.action ≡ Some r = sym (row_of_at plan (run plan es) e p at) ∙ is in
       let grown = trail_grows plan es e.pass e.action p r at its in (
@@ -129,7 +105,7 @@ grows plan es e b = go (row_of_event plan (run plan es) e) refl where
         part : (o : Option Body) → slice_get (run plan es).parts e.pass ≡ o → e.pass ≡ b
             → (trail_of plan (es ++ e ∷ []) b ≡ trail_of plan es b)
             ⊎ ((s : Footstep) × (trail_of plan (es ++ e ∷ []) b ≡ trail_of plan es b ++ s ∷ []))
-        part None at own = inl (skips_leave_trails plan es e b (row_past plan (run plan es) e at))
+        part None at own = inl (skips_leave_trails plan es e b (row_of_past plan (run plan es) e at))
         part (Some p) at own =
             let its : row plan p e.action ≡ Some r = sym (row_of_at plan (run plan es) e p at) ∙ is in
             let s : Footstep = footstep_of e.action r (read (run plan es).words r.place) in
@@ -206,14 +182,14 @@ module _ (layout : Layout) (shape : Numbers) (is_layout : IsLayout layout) (is_s
         subst (λ (v : World). Kept v (lists_of plan (es ++ by x ∷ [])) (trail_of plan (es ++ by x ∷ []) a))
         (sym (run_snoc plan (open_world plan) es (by x) ∙ world))
         (subst (λ (k : PutLists). Kept (run plan es) k (trail_of plan (es ++ by x ∷ []) a))
-        (sym (lists_one_more plan (open_world plan) no_lists es (by x) ∙ kept_lists))
+        (sym (lists_snoc plan (open_world plan) no_lists es (by x) ∙ kept_lists))
         (subst (λ (t : List Footstep). Kept (run plan es) (lists_of plan es) t) (sym trail) old))
 
     by_part : (o : Option Body) → slice_get (run plan es).parts a ≡ o
         → Kept (run plan (es ++ by x ∷ [])) (lists_of plan (es ++ by x ∷ [])) (trail_of plan (es ++ by x ∷ []) a)
     by_part None at = still_kept None at (step_past plan (run plan es) (by x) at)
         (lists_past plan (run plan es) (lists_of plan es) (by x) at)
-        (skips_leave_trails plan es (by x) a (row_past plan (run plan es) (by x) at))
+        (skips_leave_trails plan es (by x) a (row_of_past plan (run plan es) (by x) at))
     by_part (Some p) at = by_row (row plan p x) refl where
       lists_are : list_step plan (run plan es) (by x) (lists_of plan es)
           ≡ (elim (row plan p x) as (λ _. PutLists) [
@@ -259,7 +235,7 @@ module _ (layout : Layout) (shape : Numbers) (is_layout : IsLayout layout) (is_s
             (sym (run_snoc plan (open_world plan) es (by (action_of plan m)) ∙ world))
             (subst (λ (k : PutLists). Kept (apply v a (row_of plan p m)) k
             (trail_of plan (es ++ by (action_of plan m) ∷ []) a))
-            (sym (lists_one_more plan (open_world plan) no_lists es (by (action_of plan m)) ∙ new_lists))
+            (sym (lists_snoc plan (open_world plan) no_lists es (by (action_of plan m)) ∙ new_lists))
             (subst (λ (t : List Footstep). Kept (apply v a (row_of plan p m)) (lists_after plan p m n l) t) (sym trail)
             new)))
 
@@ -305,7 +281,7 @@ module _ (layout : Layout) (shape : Numbers) (is_layout : IsLayout layout) (is_s
           subst (λ (v : World). Alone plan a v (lists_of plan (es ++ e ∷ [])) (trail_of plan (es ++ e ∷ []) a) t0)
           (sym (run_snoc plan (open_world plan) es e ∙ skipped plan (run plan es) e is))
           (subst (λ (k : PutLists). Alone plan a (run plan es) k (trail_of plan (es ++ e ∷ []) a) t0)
-          (sym (lists_one_more plan (open_world plan) no_lists es e
+          (sym (lists_snoc plan (open_world plan) no_lists es e
           ∙ lists_skipped plan (run plan es) (lists_of plan es) e is))
           (subst (λ (t : List Footstep). Alone plan a (run plan es) (lists_of plan es) t t0) (sym trail) now))
       go rest same (Some r) is =
