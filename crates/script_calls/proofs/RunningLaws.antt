@@ -18,6 +18,7 @@ use Rattle.sh_step.specs.Plans.{plan_of}
 use Rattle.sh_core.specs.Lists.{times}
 use Rattle.sh_core.proofs.Sums.ListCounts.{has_some, some_has}
 use Rattle.sh_table.specs.Tales.{ViewStands}
+use Rattle.sh_pass.proofs.SameTales.{same_now}
 use Rattle.sh_pass.specs.Growing.{SameTale}
 use Rattle.sh_pass.specs.Passes.{Caller, IsKeyOfHeap, GetDoes, ReadDoes, RemoveDoes, ReleaseDoes, holds}
 use Rattle.script_calls.specs.Standing.{Standing, Serves}
@@ -29,12 +30,7 @@ use Rattle.script_calls.specs.Running.{part_of_caller, seen_standing, log_told}
 use Rattle.script_calls.proofs.PlacedKeys.{placed, not_placed}
 
 pub same_tale : (v w : Caller) → w ≡ v → SameTale v.view w.view
-same_tale v w e = record {
-  shape = ap (λ (c : Caller). c.view.shape) e;
-  pass = ap (λ (c : Caller). c.view.pass) e;
-  told = ap (λ (c : Caller). c.view.told) e;
-  orders = ap (λ (c : Caller). c.view.orders) e;
-}
+same_tale v w e = subst (λ (c : Caller). SameTale v.view c.view) (sym e) (same_now v.view)
 
 -- what is seen of the pass stays the same except for its part
 pub same_of : (layout : Layout) (v w : Caller) (s t : Standing) → w.heap ≡ v.heap → SameTale v.view w.view

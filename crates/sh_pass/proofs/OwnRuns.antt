@@ -21,7 +21,7 @@ use Rattle.sh_pass.specs.Passes.{Caller}
 use Rattle.sh_pass.specs.Owners.{MayTouch, OwnerDid, OwnerActs, Aside, OnPage, SamePages, SeenPage, IsKeyIn, IsKeyOn}
 use Rattle.sh_pass.specs.Owners.{heap_page, heap_slot}
 use Rattle.sh_pass.proofs.OwnMay.{home_is}
-use Rattle.sh_pass.proofs.ReadLaws.{later_same}
+use Rattle.sh_pass.proofs.SameTales.{later_same}
 
 aside_on : {v w u : Caller} → Aside v w → Aside w u → Aside v u
 aside_on a b = record {

@@ -20,6 +20,7 @@ use Rattle.sh_table.specs.Steps.{row_by}
 use Rattle.sh_table.specs.Views.{filled_by, key_read, logged_of}
 use Rattle.sh_pass.specs.Growing.{SameTale}
 use Rattle.sh_pass.specs.Passes.{Caller}
+use Rattle.sh_pass.proofs.SameTales.{stepped_same}
 use Rattle.sh_pass.specs.Owners.{OwnerDid, OwnerActs, SamePages, SameBells, SeenPage, own_body, seen_page, seen_bell}
 
 module _ (layout : Layout) (x : Action) (m : Move) (n : ℕ) (v w : Caller) (d : OwnerDid layout x m n v w) (b : Body)
@@ -40,13 +41,7 @@ module _ (layout : Layout) (x : Action) (m : Move) (n : ℕ) (v w : Caller) (d :
   more f e = let c = counted f in let k : if1 (f t) ≡ 1 = ap if1 e in omega arith
 
   pub same_tale : SameTale v.view w.view
-  same_tale = record {
-    shape = ap (λ (u : View). u.shape) d.view;
-    pass = ap (λ (u : View). u.pass) d.view;
-    told = ap
-        (λ (u : View). u.told) d.view;
-    orders = ap (λ (u : View). u.orders) d.view;
-  }
+  same_tale = stepped_same x (row_by layout v.view m) n d.view
 
   pub log_is : (es : List LogEntry) → key_read x ≡ None → logged_of v.view.pass ((row_by layout v.view m).reply n) ≡ es
       → w.view.own.log ≡ v.view.own.log ++ es

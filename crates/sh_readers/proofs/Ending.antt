@@ -18,6 +18,7 @@ use Rattle.sh_history.specs.Log.{filled, AllHaveValue}
 use Rattle.sh_step.specs.declared.footstep.Footstep.{Footstep}
 use Rattle.sh_step.specs.Collections.{without}
 use Rattle.sh_pass.specs.Growing.{SameTale}
+use Rattle.sh_pass.proofs.SameTales.{later_same}
 use Rattle.sh_pass.specs.Deciding.{InOneStep, DropsHold, RemovalDecided}
 use Rattle.sh_pass.specs.Passes.{Caller, holds, CallAdds, CallReads, GetDoes, ReadDoes, ReleaseDoes, RemoveDoes}
 use Rattle.sh_pass.specs.Passes.{plan_for}
@@ -27,12 +28,7 @@ use Rattle.sh_readers.specs.Readers.{ReadsAndAdds, FetchDoes, TakeDoes}
 use Rattle.sh_readers.proofs.Holding.{without_first}
 
 pub same_along : (u v w : View) → SameTale u v → SameTale v w → SameTale u w
-same_along u v w s t = record {
-  shape = t.shape ∙ s.shape;
-  pass = t.pass ∙ s.pass;
-  told = t.told ∙ s.told;
-  orders = t.orders ∙ s.orders;
-}
+same_along u v w s t = later_same s t
 
 pub remains_along : (layout : Layout) (u v w : Caller) → Remains layout u v → Remains layout v w → Remains layout u w
 remains_along layout u v w before last = record {

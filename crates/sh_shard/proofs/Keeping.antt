@@ -23,6 +23,7 @@ use Rattle.sh_table.specs.Tales.{ViewStands}
 use Rattle.sh_pass.specs.Passes.{Caller}
 use Rattle.sh_pass.specs.Owners.{HasNothing, SeenPage, SeenBell, Aside, OwnerActs, OnPage, SamePages, SameBells}
 use Rattle.sh_pass.specs.Owners.{MayTouch, heap_page, own_body, seen_page, seen_bell, page_on_bell, bell_followed}
+use Rattle.sh_pass.proofs.SameTales.{later_same}
 use Rattle.sh_states.specs.declared.states.PageState.{PageState}
 use Rattle.sh_states.specs.States.{blank_state, state_at}
 use Rattle.sh_queue.proofs.Numbers.{Misses-from_has}
@@ -292,14 +293,7 @@ pub two_acts : {u v w : Caller} {h k : Hand} → OwnerActs h [] 1 u v → OwnerA
 two_acts {u} {v} g h idle = record {
   aside = record {
     heap = h.aside.heap ∙ g.aside.heap;
-    same = record {
-      shape = h.aside.same.shape ∙ g.aside.same.shape;
-      pass = h.aside.same.pass
-          ∙ g.aside.same.pass;
-      told = h.aside.same.told ∙ g.aside.same.told;
-      orders = h.aside.same.orders
-          ∙ g.aside.same.orders;
-    };
+    same = later_same g.aside.same h.aside.same;
     owned = h.aside.owned ∙ g.aside.owned;
     holds = h.aside.holds ∙ g.aside.holds;
   };

@@ -5,6 +5,7 @@ use Rattle.std.proofs.lemmas.Bool.{cases_eq, cases_lt}
 use Rattle.std.proofs.Math.Numerals.{lt_of_le_of_ne}
 use Rattle.sh_pass.specs.Passes.{Caller}
 use Rattle.sh_pass.specs.Owners.{SeenBell, Aside}
+use Rattle.sh_pass.proofs.SameTales.{later_same}
 use Rattle.sh_shard.specs.Pages.{Paged, page_at, CursorStands, ShardLeft, StepsForRings, BlankFrom, BlankHasNothing}
 use Rattle.sh_shard.specs.Steps.{StepsAtMost}
 use Rattle.sh_shard.specs.Bounds.{leave_steps}
@@ -81,13 +82,7 @@ pub left_after : (o m : Paged) (w : Caller) → Aside o.owner m.owner → m.owne
     → ShardLeft m.owner w → ShardLeft o.owner w
 left_after o m w a log h = record {
   heap = h.heap ∙ a.heap;
-  same = record {
-    shape = h.same.shape ∙ a.same.shape;
-    pass = h.same.pass ∙ a.same.pass;
-    told = h.same.told
-        ∙ a.same.told;
-    orders = h.same.orders ∙ a.same.orders;
-  };
+  same = later_same a.same h.same;
   log = h.log ∙ log;
   holds = h.holds ∙ a.holds;
   hand = h.hand;

@@ -2,11 +2,12 @@
 use Rattle.std.proofs.Common.{refl, ◌∙◌}
 use Rattle.sh_pass.specs.Passes.{Caller}
 use Rattle.sh_pass.specs.Owners.{Aside}
+use Rattle.sh_pass.proofs.SameTales.{same_now, later_same}
 
 pub aside_none : (v : Caller) → Aside v v
 aside_none v = record {
   heap = refl;
-  same = record { shape = refl; pass = refl; told = refl; orders = refl };
+  same = same_now v.view;
   owned =
       refl;
   holds = refl;
@@ -15,13 +16,7 @@ aside_none v = record {
 pub aside_then : {v w u : Caller} → Aside v w → Aside w u → Aside v u
 aside_then a b = record {
   heap = b.heap ∙ a.heap;
-  same = record {
-    shape = b.same.shape ∙ a.same.shape;
-    pass = b.same.pass ∙ a.same.pass;
-    told = b.same.told
-        ∙ a.same.told;
-    orders = b.same.orders ∙ a.same.orders;
-  };
+  same = later_same a.same b.same;
   owned = b.owned ∙ a.owned;
   holds = b.holds ∙ a.holds;
 }

@@ -1,7 +1,32 @@
-use Rattle.std.proofs.Common.{Bool, subst}
+use Rattle.std.proofs.Common.{ℕ, Bool, Option, [], ◌∷◌, ◌∙◌, ap, sym, subst, arith}
+use Rattle.std.specs.Bool.{then_some}
+use Rattle.sh_slots.specs.Slots.{slot_ref_of}
+use Rattle.sh_slots.specs.declared.hand.Hand.TheVariants.{Idle, Removing, Leaving}
+use Rattle.sh_slots.specs.declared.hand.SlotRef.{SlotRef}
+use Rattle.sh_step.specs.declared.body.Body.{Body}
+use Rattle.sh_step.specs.Rows.{hand}
 use Rattle.sh_pass.specs.Deciding.{Stepped, EntryTells}
+use Rattle.sh_pass.specs.Growing.{Grows, RemoveEnters, removal, with_slot}
 use Rattle.sh_pass.proofs.DecidedLaws.{removal_marked, removal_vain}
+use Rattle.sh_pass.proofs.GrowthLaws.{grows_on, grows_after, grows_as}
 use Rattle.sh_pass.proofs.entering.remove_at.Goals as goal
+
+pub returns-then-there-clause-grows : goal.returns-then-there-clause-grows
+returns-then-there-clause-grows g c =
+    let v = c.args.seat.now.me.0 in
+    let w = c.enter_to_remove-there.new.seat.me.0 in
+    let Q : Bool → Type 0 = λ b. RemoveEnters c.args.key c.args.name b v w in
+    let e : Grows (hand v.own.body (Removing c.args.key)) [] 1 v w
+    = subst Q c.if-there.true c.enter_to_remove-there.ensures.grows in
+    let m = c.mark_at-first.ensures.grows in
+    let all = grows_on 8 _ (grows_after 2 e m (omega arith)) c.give_back-is_own.ensures.grows (omega arith) in
+    let P : Option SlotRef → Type 0 = λ r. Grows (with_slot (hand v.own.body Idle) r)
+    (removal v.pass c.args.key c.mark_at-first.result ∷ []) 8 v c.give_back-is_own.new.seat.me.0 in
+    subst P (sym c.then_some.ensures)
+    (grows_as _ _ (ap (λ (p : Body). with_slot (hand p Idle)
+    (then_some c.give_back-is_own.result c.slot_ref-slot_ref.result))
+    (m.body ∙ ap (λ (p : Body). hand p (Leaving (slot_ref_of c.args.name))) e.body))
+    (ap (λ (n : ℕ). removal n c.args.key c.mark_at-first.result ∷ []) e.same.pass) all)
 
 pub returns-then-there-clause-first : goal.returns-then-there-clause-first
 returns-then-there-clause-first g c =

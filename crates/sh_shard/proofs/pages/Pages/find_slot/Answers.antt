@@ -1,3 +1,4 @@
+use Rattle.sh_shard.proofs.Working.{works_more}
 use Rattle.sh_shard.proofs.PageTries.{slot_found, slot_collected, slot_guarded}
 use Rattle.sh_shard.proofs.pages.Pages.find_slot.Goals as goal
 
@@ -12,3 +13,7 @@ returns-clause-found g c = slot_found c.args.page c.has_slot-3.result c.args.sel
 pub returns-clause-steps : goal.returns-clause-steps
 returns-clause-steps g c = slot_guarded c.args.page c.args.self.now c.collect.new.self c.arm_and_follow.new.self
     c.collect.ensures c.arm_and_follow.ensures
+
+pub returns-clause-works : goal.returns-clause-works
+returns-clause-works g c = works_more c.args.page c.args.self.now c.collect.new.self c.arm_and_follow.new.self
+    c.collect.ensures.works c.arm_and_follow.ensures.works
