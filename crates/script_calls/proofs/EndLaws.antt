@@ -1,13 +1,12 @@
 -- The own part with which each pass ends, once it left its shard.
-use Rattle.std.proofs.Common.{◌≡◌, ℕ, suc, zero, ◌+◌, ◌<◌, ◌==◌, List, [], ◌∷◌, ◌++◌, length, map, slice_get, Option}
-use Rattle.std.proofs.Common.{Some, None, sym, refl, ap, ◌∙◌, subst, arith, Ok, Err}
+use Rattle.std.proofs.Common.{◌≡◌, ℕ, suc, zero, ◌<◌, List, [], ◌∷◌, ◌++◌, length, map, slice_get, Option}
+use Rattle.std.proofs.Common.{Some, None, sym, refl, ap, subst, arith, Ok, Err}
 use Rattle.std.specs.List.{All, Contains}
-use Rattle.std.proofs.lemmas.List.Elements.{All-nil, All-cons, All-head, All-tail, All-push, All-weaker, All-get_or}
-use Rattle.std.proofs.lemmas.List.Elements.{Contains-append_left, Contains-append_right, Contains-get_or}
+use Rattle.std.proofs.lemmas.List.Elements.{All-head, All-tail, All-push, All-weaker}
+use Rattle.std.proofs.lemmas.List.Elements.{Contains-append_left, Contains-append_right}
 use Rattle.std.proofs.lemmas.Option.{none-some, same_Some}
 use Rattle.sh_value.specs.declared.refusal.Refusal.TheVariants as refusal
 use Rattle.sh_script.specs.declared.calls.CallLine.{CallLine}
-use Rattle.sh_table.specs.declared.view.Own.{Own}
 use Rattle.sh_table.specs.declared.view.Told.{Told}
 use Rattle.sh_table.specs.Seats.{Heap}
 use Rattle.sh_pass.specs.Passes.{Caller}
@@ -16,7 +15,7 @@ use Rattle.script_calls.specs.Standing.{own_part, taken_in}
 use Rattle.script_calls.specs.Parts.{RunTerms, PassPart, SeenPass, SamePass, Becomes}
 use Rattle.script_calls.specs.Calls.{UnlessRefused, LeaveAnswers, PartLeft, needs_shard}
 use Rattle.script_calls.specs.Meeting.{JoinsParts, EndedAmong, HasEnded, CarriesEnd, parts_carried}
-use Rattle.script_calls.specs.Alone.{AnsweredSoFar, HeedsLast, seen_with_part}
+use Rattle.script_calls.specs.Alone.{AnsweredSoFar, HeedsLast}
 use Rattle.script_calls.proofs.ListLemmas.{get_some, map_more}
 
 -- ---- leaving

@@ -9,7 +9,7 @@ use Rattle.sh_key.specs.Layout.{Layout, first_key, key_count}
 use Rattle.sh_key.proofs.Packing.{keys_are_consecutive}
 use Rattle.sh_pass.specs.Owners.{IsKeyIn}
 use Rattle.sh_shard.specs.Pages.{ShardLeft}
-use Rattle.sh_shard.specs.Shards.{Sharded, AdoptServes, LeaveServes, InsertServes}
+use Rattle.sh_shard.specs.Shards.{Sharded, StaysOwner, AdoptServes, LeaveServes, InsertServes}
 use Rattle.sh_pass.specs.Passes.{Caller}
 use Rattle.script_calls.specs.Standing.{Standing, Alone, Owning, PassAdopts, ShardLeaves, AdoptServed, LeaveServed}
 use Rattle.script_calls.specs.Parts.{PassPart, SeenPass, SamePass, Becomes, is_key_of_shard}
@@ -18,6 +18,11 @@ use Rattle.script_calls.specs.Calls.{needs_shard, ValueInserted, IsOwnKey}
 use Rattle.script_calls.specs.Running.{part_of_caller, seen_of_caller, seen_of_shard}
 use Rattle.script_calls.proofs.PlacedKeys.{unpacks, of_shard}
 use Rattle.script_calls.proofs.RunningLaws.{same_tale, same_of}
+
+-- the shard was the owner's before a call over which it stays the owner
+pub owned_before : (layout : Layout) (o n : Sharded) → StaysOwner layout o n
+    → o.pages.owner.view.own.body.owned ≡ Some o.pages.shard
+owned_before layout o n s = sym s.remains.shard ∙ (s.holds.owned ∙ ap (λ (k : ℕ). Some k) s.shard)
 
 module _ (layout : Layout) (v : Caller) where
   abbrev seen_caller : SeenPass

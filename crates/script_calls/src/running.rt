@@ -9,36 +9,23 @@ use sh_shard::Shard;
 use sh_value::{Hold, Refusal, Value};
 use std::alloc::Global;
 
-// The contract of `shape` states what a pass knows before a call, and that it owns no shard after the call.
 impl<'a, L: KeyLayout> Calls for Pass<'a, L> {
     ghost seen = { λ p. seen_of_caller L.layout p };
 
     fn get(&mut self, key: u64) -> Result<Hold, Refusal> {
-        let _known = self.shape();
-        let result = Pass::get(self, key);
-        let _known = self.shape();
-        result
+        Pass::get(self, key)
     }
 
     fn read(&mut self, hold: Hold) -> Result<Value, Refusal> {
-        let _known = self.shape();
-        let result = Pass::read(self, hold);
-        let _known = self.shape();
-        result
+        Pass::read(self, hold)
     }
 
     fn remove(&mut self, key: u64) -> Result<(), Refusal> {
-        let _known = self.shape();
-        let result = Pass::remove(self, key);
-        let _known = self.shape();
-        result
+        Pass::remove(self, key)
     }
 
     fn release(&mut self, hold: Hold) -> Result<(), Refusal> {
-        let _known = self.shape();
-        let result = Pass::release(self, hold);
-        let _known = self.shape();
-        result
+        Pass::release(self, hold)
     }
 
     fn receipt(&mut self) -> Receipt {
@@ -50,31 +37,27 @@ impl<'a, L: KeyLayout> Calls for Pass<'a, L> {
     }
 
     fn whole(&self) {
+        // (the contract of `shape` states what is known)
         let _known = self.shape();
     }
 }
 
-// The contract of `shape` states what an owner knows before a call.
 impl<'a, L: KeyLayout> Calls for Shard<'a, L> {
     ghost seen = { λ s. seen_of_shard L.layout s };
 
     fn get(&mut self, key: u64) -> Result<Hold, Refusal> {
-        let _known = self.shape();
         Shard::get(self, key)
     }
 
     fn read(&mut self, hold: Hold) -> Result<Value, Refusal> {
-        let _known = self.shape();
         Shard::read(self, hold)
     }
 
     fn remove(&mut self, key: u64) -> Result<(), Refusal> {
-        let _known = self.shape();
         Shard::remove(self, key)
     }
 
     fn release(&mut self, hold: Hold) -> Result<(), Refusal> {
-        let _known = self.shape();
         Shard::release(self, hold)
     }
 
@@ -87,6 +70,7 @@ impl<'a, L: KeyLayout> Calls for Shard<'a, L> {
     }
 
     fn whole(&self) {
+        // (the contract of `shape` states what is known)
         let _known = self.shape();
     }
 }
@@ -97,7 +81,6 @@ impl<'a, L: KeyLayout> Adopts<Shard<'a, L>> for Pass<'a, L> {
     }
 
     fn leave(shard: Shard<'a, L>) -> Result<Self, (Shard<'a, L>, Refusal)> {
-        let _known = shard.shape();
         shard.leave()
     }
 
@@ -106,7 +89,6 @@ impl<'a, L: KeyLayout> Adopts<Shard<'a, L>> for Pass<'a, L> {
     }
 
     fn insert(shard: &mut Shard<'a, L>, value: &Value) -> Result<u64, Refusal> {
-        let _known = shard.shape();
         shard.insert(value)
     }
 }

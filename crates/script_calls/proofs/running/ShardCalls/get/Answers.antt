@@ -1,4 +1,3 @@
-use Rattle.std.proofs.Common.{sym, ap, ◌∙◌, Some}
 use Rattle.script_calls.specs.Standing.{Owning}
 use Rattle.script_calls.proofs.RunningLaws.{get_answers}
 use Rattle.script_calls.proofs.running.ShardCalls.get.Goals as goal
@@ -7,8 +6,6 @@ pub returns-clause-does : goal.returns-clause-does
 returns-clause-does g c =
     let does = c.get.ensures.does in
     let stays = c.get.ensures.stays in
-    (get_answers g.L.KeyLayout.layout c.args.self.now.pages.owner c.get.new.self.pages.owner
-    c.shape-known.ensures.holds.stands c.shape-known.ensures.same
-    (stays.holds.owned ∙ (ap (λ n. Some n) stays.shard ∙ sym c.shape-known.ensures.holds.owned))
-    (Owning c.args.self.now)
-    (Owning c.get.new.self) c.args.key c.get.result does (does, stays)).0
+    (get_answers g.L.KeyLayout.layout c.args.self.now.pages.owner c.get.new.self.pages.owner stays.remains.stood
+    stays.remains.shape stays.remains.shard (Owning c.args.self.now) (Owning c.get.new.self) c.args.key
+    c.get.result does (does, stays)).0
