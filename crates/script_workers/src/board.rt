@@ -123,31 +123,36 @@ impl<B: Room> Names<B> {
 #[derive(Drop)]
 pub struct Board<B: Room> {
     names: Mutex<Names<B>>,
-    changed: Condvar,
+    // One for each name, so that a pass sleeps while other names are bound.
+    bound: Vec<Condvar>,
 }
 
 impl<B: Room> Board<B> {
     /// A board of this many names, none of which is bound.
     pub fn new(alloc: Global, count: usize) -> Result<Board<B>, AllocError> {
         let mut names = Vec::with_capacity(alloc, count)?;
+        let mut bound = Vec::with_capacity(alloc, count)?;
         for _ in 0..count {
             names.push(Name::Open)?;
+            bound.push(Condvar::new())?;
         }
         Ok(Board {
             names: Mutex::new(Names {
                 names,
                 is_closed: false,
             }),
-            changed: Condvar::new(),
+            bound,
         })
     }
 
-    /// Binds a name, and wakes the passes that wait for it.
+    /// Binds a name, and wakes the passes that wait for it, and no others.
     pub fn bind<R: Wait>(&self, rt: &R, name: usize, binding: Binding<B>) {
         let mut names = self.names.lock(rt);
         names.bind(name, binding);
         drop(names);
-        self.changed.notify_all();
+        if let Some(bound) = self.bound.get(name) {
+            bound.notify_all();
+        }
     }
 
     /// Waits for a name, heeds the receipt that comes with it, and returns the number that it is bound to. `None` if
@@ -157,9 +162,9 @@ impl<B: Room> Board<B> {
         ensures heard { MatchOption result (S.seen side.new ≡ S.seen side.old)
             (λ number. HeardName B.tag number (S.seen side.old) (S.seen side.new)) }
     {
-        let mut names = self
-            .changed
-            .wait_while(rt, self.names.lock(rt), |names| names.is_awaited(name));
+        let bound = self.bound.get(name)?;
+        let mut names =
+            bound.wait_while(rt, self.names.lock(rt), |names| names.is_awaited(name));
         names.told(name, side)
     }
 
@@ -168,6 +173,8 @@ impl<B: Room> Board<B> {
         let mut names = self.names.lock(rt);
         names.is_closed = true;
         drop(names);
-        self.changed.notify_all();
+        for bound in &self.bound {
+            bound.notify_all();
+        }
     }
 }
