@@ -18,6 +18,11 @@ columns name a row, and the head of each other column is that of the output. A c
 one whose head ends in `(aim)` keeps the aims. With `NAME, all` the block has all rows of the output's table that has
 the same head. All rows of a block come from one file. A block of which the files have no row stays as it is.
 
+Between these two lines are the ratios that are above their aims, unless no file has a ratio with an aim:
+
+    <!-- bench missed -->
+    <!-- end of bench missed -->
+
 Exit status: 0 all is written, 1 a row or a column is missing (then nothing is written), 2 the command line is wrong.
 """
 import collections
@@ -31,6 +36,7 @@ import textwrap
 BLOCK = re.compile(
     r"(<!-- bench rows(?:: (?P<name>[\w-]+)(?P<all>, all)?)? -->\n)(?P<body>.*?)(<!-- end of bench rows -->)", re.S
 )
+ABOVE = re.compile(r"(<!-- bench missed -->\n).*?(<!-- end of bench missed -->)", re.S)
 # the columns that name a row; of a heap that is opened the number of words is measured
 KEYS = ("Workload", "Threads", "Call", "Map", "Values", "Words")
 OPENING = "ns a word"
@@ -39,6 +45,8 @@ RATIO = re.compile(r"(?:[\d.]+-)?([\d.]+) / \S+ \(([\d.]+)\)")
 
 Table = collections.namedtuple("Table", "head rows")
 Output = collections.namedtuple("Output", "path about tables")
+# A ratio with an aim: of which row, to which side, and the cell with both.
+Ratio = collections.namedtuple("Ratio", "output key side cell is_missed")
 
 
 class Fault(Exception):
@@ -130,18 +138,30 @@ def filled(wanted, outputs, name, every):
     return None, None
 
 
-def caption(table, output, document):
-    about, name = output.about, output.path.stem
+def date_and_commit(output):
+    name = output.path.stem
     date = re.match(r"\d{4}-\d\d-\d\d", name)
-    commit = about.get("its tree, as it is now") or (re.findall(r"-([0-9a-f]{7,})", name) or ["unknown"])[0]
-    facts = [f"One run: {date[0] if date else 'undated'}, commit {commit}"]
+    commit = output.about.get("its tree, as it is now") or (re.findall(r"-([0-9a-f]{7,})", name) or ["unknown"])[0]
+    return f"{date[0] if date else 'undated'}, commit {commit}"
+
+
+def link(words, output, document):
+    return f"[{words}]({os.path.relpath(output.path.resolve(), document.resolve().parent)})"
+
+
+def wrapped(text):
+    return textwrap.fill(text, 120, break_long_words=False, break_on_hyphens=False)
+
+
+def caption(table, output, document):
+    about = output.about
+    facts = [f"One run: {date_and_commit(output)}"]
     if "machine" in about:
         machine, _, processors = about["machine"].replace("(R)", "").partition(", processors: ")
         facts += [machine, f"{processors} processors"]
     if "rounds" in about:
-        facts.append(f"{about['rounds']} rounds")
-    raw = os.path.relpath(output.path.resolve(), document.resolve().parent)
-    text = ", ".join(facts) + f" ([raw output]({raw}))."
+        facts.append(f"{about['rounds']} round{'' if about['rounds'] == '1' else 's'}")
+    text = ", ".join(facts) + f" ({link('raw output', output, document)})."
     if "warning" in about:
         text += f" The load at the start was {about['load at the start'].split()[0]}."
     body = [cell for row in table.rows for cell in row]
@@ -149,11 +169,13 @@ def caption(table, output, document):
         text += " The least of the rounds and the median."
     elif "rounds" in about:
         text += " The least of the rounds."
-    if any(head.startswith("to ") for head in table.head):
+    if "to inside" in table.head:
+        text += " A ratio is to the call inside."
+    elif any(head.startswith("to ") for head in table.head):
         text += " Below 1 Gearlongan is faster."
     if any(re.match(r"[\d.]+-[\d.]", cell) for cell in body):
-        text += " A range is that of three runs."
-    return textwrap.fill(text, 120, break_long_words=False, break_on_hyphens=False)
+        text += " A range is that of up to three runs."
+    return wrapped(text)
 
 
 def table_text(table):
@@ -176,18 +198,43 @@ def written(text, document, outputs):
             return found[0]
         return f"{found[1]}\n{caption(table, output, document)}\n\n{table_text(table)}\n\n{found[5]}"
 
-    return BLOCK.sub(block, text), kept
+    def above(found):
+        if not aimed(outputs):
+            kept.append("missed")
+            return found[0]
+        return f"{found[1]}\n{missed_text(outputs, document)}\n\n{found[2]}"
+
+    return ABOVE.sub(above, BLOCK.sub(block, text)), kept
 
 
-def missed(outputs):
+def aimed(outputs):
+    """Each ratio that has an aim."""
+    found = []
     for output in outputs:
         for table in output.tables:
             for row in table.rows:
                 for head, cell in zip(table.head, row):
                     ratio = RATIO.fullmatch(cell)
-                    if ratio and float(ratio[1]) > float(ratio[2]):
-                        title = " | ".join(key(row, table.head))
-                        yield f"{output.path.name}: {title} | {head.removesuffix(AIM)}: {cell}"
+                    if ratio:
+                        is_missed = float(ratio[1]) > float(ratio[2])
+                        found.append(Ratio(output, key(row, table.head), head.removesuffix(AIM), cell, is_missed))
+    return found
+
+
+def missed(outputs):
+    return [ratio for ratio in aimed(outputs) if ratio.is_missed]
+
+
+def missed_text(outputs, document):
+    """The caption and the table of the ratios that are above their aims. A row without threads has one."""
+    sources = []
+    for ratio in aimed(outputs):
+        if ratio.output not in sources:
+            sources.append(ratio.output)
+    links = [f"{date_and_commit(output)} ({link('raw output', output, document)})" for output in sources]
+    rows = [[it.key[0], (*it.key[1:], "1")[0], it.side, it.cell] for it in missed(outputs)]
+    about = f"{len(rows)} of {len(aimed(outputs))} ratios with an aim are above it, by the runs of {' and '.join(links)}."
+    return f"{wrapped(about)}\n\n{table_text(Table(['Workload', 'Threads', 'Side', 'Ratio (aim)'], rows))}"
 
 
 PRINTED = """program: a
@@ -217,6 +264,8 @@ def self_test():
     with tempfile.TemporaryDirectory() as room:
         results, document = pathlib.Path(room) / "2026-01-02-abc1234.txt", pathlib.Path(room) / "some.md"
         results.write_text(PRINTED)
+        other = pathlib.Path(room) / "2026-01-02-abc1234-room.txt"
+        other.write_text("| Removed | Room |\n|---|---|\n| 50 % | 7 |\n")
         outputs = [output_of(results)]
         text, kept = written(DOCUMENT, document, outputs)
         row = "| get | 2 | 1.00 | 40.6-84.2 / 88.7-102.7 |"
@@ -226,8 +275,13 @@ def self_test():
             wrong.append("a second time is not the same")
         if written(DOCUMENT.replace("to `dash`", "to `none`"), document, outputs)[1] != ["some"]:
             wrong.append("a column that is nowhere is not seen")
-        if len(list(missed(outputs))) != 1:
+        if [it.key for it in missed(outputs)] != [("get", "1")] or len(aimed(outputs)) != 2:
             wrong.append("the missed aim is not found alone")
+        above = "<!-- bench missed -->\n<!-- end of bench missed -->\n"
+        if "| get | 1 | to `slab` | 1.03 / 1.19 (0.9) |" not in written(above, document, outputs)[0]:
+            wrong.append("the missed aim is not written")
+        if written(above, document, [output_of(other)]) != (above, ["missed"]):
+            wrong.append("a file without aims changes the missed ones")
         try:
             written(DOCUMENT.replace("| get | 2 | 9", "| get | 1 | 9 | 1 / 2 |\n| put | 2 | 9"), document, outputs)
             wrong.append("a missing row is not found")
@@ -249,7 +303,8 @@ def main(words):
     try:
         outputs = [output_of(pathlib.Path(word)) for word in words[:at]]
         if options == ["--missed"]:
-            print(*missed(outputs), sep="\n")
+            for it in missed(outputs):
+                print(f"{it.output.path.name}: {' | '.join(it.key)} | {it.side}: {it.cell}")
             return 0
         documents = [pathlib.Path(word) for word in words[at + 1:]]
         texts = [(document, *written(document.read_text(), document, outputs)) for document in documents]

@@ -42,11 +42,20 @@ const WAYS: [(&str, &str, &str, usize); 8] = [
 // How many values there are, and how long they are. A get does not look at its key's value.
 const VALUES: [(usize, usize); 4] = [(1, 1), (10_000, 1), (1, 16), (1000, 16)];
 
+// How many values of one word a shard of layout `wide` has room for. Beside more the layout is `deep`.
+const WIDE: usize = 49_152;
+
+// Beside so many values no cache has the words of a key, and the waits for those of eight keys may overlap.
+const MANY: usize = 1_000_000;
+
 fn calls() -> Vec<Call> {
     let of = |(title, inside, through, operations)| {
         VALUES.map(|(live, words)| Call { title, inside: Some(inside), through, operations, live, words })
     };
+    let is_batched = |call: &&Call| call.live == 1 && call.words == 1 && call.through.starts_with("load-");
     let all = WAYS.map(of).concat();
+    let beside_many: Vec<Call> = all.iter().filter(is_batched).map(|call| Call { live: MANY, ..*call }).collect();
+    let all = [all, beside_many].concat();
     let walk = ("next key of a shard", "own-keys", 100_000);
     let walks = [9600, 96].map(|live| {
         let (title, through, operations) = walk;
@@ -72,10 +81,16 @@ impl Call {
         first.iter().map(|word| word.to_string()).chain(options).collect()
     }
 
+    // The words for `tool_bench`. (`through` takes the layout that has the room.)
+    fn words_inside(&self, name: &str) -> Vec<String> {
+        let layout: &[&str] = if self.live > WIDE { &["--layout", "deep"] } else { &[] };
+        self.words(&[name]).into_iter().chain(layout.iter().map(|word| word.to_string())).collect()
+    }
+
     // (Without such a workload inside the first one has none.)
     fn jobs<'a>(&self, inside: &'a Path, through: &'a Path) -> [Option<Job<'a>>; SIDES] {
         [
-            self.inside.map(|name| Job { program: inside, words: self.words(&[name]) }),
+            self.inside.map(|name| Job { program: inside, words: self.words_inside(name) }),
             Some(Job { program: through, words: self.words(&["rust", self.through]) }),
             Some(Job { program: through, words: self.words(&["c", self.through]) }),
         ]
@@ -129,10 +144,11 @@ mod tests {
         let all = titles.len();
         titles.sort();
         titles.dedup();
-        assert_eq!((titles.len(), all), (32, 32));
+        assert_eq!((titles.len(), all), (34, 34));
         assert!(titles.contains(&"next key of a shard, 9,600 keys".to_string()));
         assert!(titles.contains(&"get + release, 10,000 keys".to_string()));
         assert!(titles.contains(&"load into, 16 words, one key".to_string()));
+        assert!(titles.contains(&"load, eight a call, 1 word, 1,000,000 keys".to_string()));
     }
 
     #[test]
@@ -157,5 +173,11 @@ mod tests {
         let jobs = calls()[2].jobs(inside, through).map(|job| job.map_or(String::new(), |job| job.words.join(" ")));
         let numbers = "--operations 400000 --live 1 --words 1";
         assert_eq!(jobs, ["read", "rust read", "c read"].map(|first| format!("{first} {numbers}")));
+    }
+
+    #[test]
+    fn beside_many_values_the_layout_inside_is_deep() {
+        let deep = |call: &Call| call.words_inside("read").ends_with(&["--layout".to_string(), "deep".to_string()]);
+        assert_eq!(calls().iter().filter(|call| deep(call)).map(|call| call.live).collect::<Vec<_>>(), [MANY; 2]);
     }
 }

@@ -38,6 +38,11 @@ fn rival_bytes(side: Side, values: usize, words: usize) -> Option<isize> {
     with_rival(side, &room, Fills(room))
 }
 
+// The sides of the table. The bytes of plain stores are those of the bare atomics.
+fn sides() -> impl Iterator<Item = Side> {
+    RIVALS.into_iter().filter(|side| *side != Side::PlainStores)
+}
+
 fn a_value(bytes: f64, values: usize) -> String {
     format!("{:.1}", bytes / values as f64)
 }
@@ -48,12 +53,12 @@ fn places(values: usize, words: usize) -> Vec<String> {
         Some(bytes) => a_value(bytes as f64, values),
         None => "none".to_string(),
     };
-    [values.to_string(), words.to_string()].into_iter().chain(ours).chain(RIVALS.map(of_rival)).collect()
+    [values.to_string(), words.to_string()].into_iter().chain(ours).chain(sides().map(of_rival)).collect()
 }
 
 fn names() -> Vec<String> {
     let first = ["Values", "Words", "ours, full pages", "ours, whole segments"].map(str::to_string);
-    first.into_iter().chain(RIVALS.map(|rival| rival.name().to_string())).collect()
+    first.into_iter().chain(sides().map(|rival| rival.name().to_string())).collect()
 }
 
 /// The whole table.
@@ -74,6 +79,11 @@ mod tests {
     #[test]
     fn lines_have_as_many_places_as_the_head() {
         assert_eq!(places(10, 1).len(), names().len());
+    }
+
+    #[test]
+    fn plain_stores_have_no_column() {
+        assert_eq!(names().last().map(String::as_str), Some("bare atomics"));
     }
 
     #[test]

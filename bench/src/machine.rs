@@ -1,4 +1,5 @@
 //! The machine that is measured on, and what else it does.
+use std::env;
 use std::fs;
 use std::thread::available_parallelism;
 
@@ -34,10 +35,16 @@ fn file(path: &str) -> String {
     fs::read_to_string(path).unwrap_or_default()
 }
 
+// The load averages. If several programs of the bench run one after the other, this variable has those from before the
+// first one: what an earlier one did is no other work.
+fn loads() -> String {
+    env::var("SH_LOAD").unwrap_or_else(|_| file("/proc/loadavg"))
+}
+
 /// What the machine is, and its load, in lines.
 pub fn text() -> String {
     let usable = available_parallelism().map_or(usize::MAX, usize::from);
-    format!("{}\n{}", processors(&file("/proc/cpuinfo"), usable), load(&file("/proc/loadavg")))
+    format!("{}\n{}", processors(&file("/proc/cpuinfo"), usable), load(&loads()))
 }
 
 #[cfg(test)]

@@ -138,7 +138,7 @@ pub fn ratios(figures: &[Figure]) -> String {
         column_dots(&mut sheet, groups, left);
     }
     let words = "our time divided by theirs, least of the rounds, on a logarithmic axis: left of 1 ours is faster; a \
-                 line is the range of three runs";
+                 line is the range of up to three runs";
     sheet.words((16.0, bottom + 26.0), Anchor::Start, words);
     sheet.text()
 }

@@ -35,11 +35,13 @@ static void must(uint32_t code) {
     exit(3);
 }
 
-/* A heap with room for this many values, an owner of its shard, and another pass. */
+/* A heap with room for this many values, an owner of its shard, and another pass. Its layout is wide if that has the
+   room, and deep if not. */
 loops *loops_open(uint64_t values, uint32_t words) {
     loops *all = calloc(1, sizeof *all);
     if (!all) must(SHARDHEAP_MEMORY);
-    must(shardheap_open_for(&all->heap, SHARDHEAP_WIDE, 1, values, words, 2));
+    if (shardheap_open_for(&all->heap, SHARDHEAP_WIDE, 1, values, words, 2) != SHARDHEAP_OK)
+        must(shardheap_open_for(&all->heap, SHARDHEAP_DEEP, 1, values, words, 2));
     must(shardheap_take(&all->heap, &all->owner));
     must(shardheap_take(&all->heap, &all->user));
     must(shardheap_adopt(&all->owner, 0));

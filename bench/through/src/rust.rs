@@ -37,7 +37,8 @@ fn sum_over(keys: &[u64], mut one: impl FnMut(Key) -> Result<u64, Error>) -> u64
 
 impl Side for Rust {
     fn open(values: u64, words: u32) -> Rust {
-        let heap = must(Heap::open_for(Layout::Wide, Room { owners: 1, values, words, passes: 2 }));
+        let room = Room { owners: 1, values, words, passes: 2 };
+        let heap = must(Heap::open_for(Layout::Wide, room).or_else(|_| Heap::open_for(Layout::Deep, room)));
         let (pass, user) = (must(heap.take()), must(heap.take()));
         Rust { owner: must(pass.adopt(0)), user }
     }

@@ -1,6 +1,7 @@
 //! The picture of the table of latencies. Each call in each number of threads has a line for each map. It goes from the
 //! time that half of the calls take at most to the greatest.
 use crate::svg::{Anchor, Sheet, FAINT, INK, PALE};
+use crate::tables::NOT_AT_ONCE;
 
 /// The head of the table, as a run printed it.
 const HEAD: &str = "| Call | Threads | Map |";
@@ -8,6 +9,8 @@ const LEFT: f64 = 190.0;
 const SCALE: f64 = 520.0;
 const ROW: f64 = 18.0;
 const HEADING: f64 = 28.0;
+// How far the first row of a group is below its heading.
+const GAP: f64 = 6.0;
 const TOP: f64 = 54.0;
 // From ten nanoseconds to a hundred milliseconds, so over seven powers of ten.
 const TICKS: [(f64, &str); 8] = [
@@ -24,22 +27,26 @@ const TICKS: [(f64, &str); 8] = [
 const COLORS: [(&str, &str); 4] =
     [("half", "#0b3c6f"), ("99 %", "#0b6fb8"), ("99.9 %", "#d1660f"), ("greatest", "#999999")];
 
-/// A row of the table: what it is of, and its times in nanoseconds.
+/// A row of the table: what it is of, and its times in nanoseconds; none if in no turn all threads ran at once.
 #[derive(Clone, Debug, PartialEq)]
 struct Line {
     group: String,
     map: String,
-    times: [f64; COLORS.len()],
+    times: Option<[f64; COLORS.len()]>,
 }
 
-// The row of a line of Markdown; none if no turn was at once.
+fn times(cells: &[&str]) -> Option<[f64; COLORS.len()]> {
+    let times: Vec<f64> = cells.iter().map(|time| time.parse().ok()).collect::<Option<_>>()?;
+    times.try_into().ok()
+}
+
+// The row of a line of Markdown.
 fn line(text: &str) -> Option<Line> {
     let cells: Vec<&str> = text.trim().trim_matches('|').split('|').map(str::trim).collect();
-    let [call, threads, map, times @ ..] = &cells[..] else { return None };
-    let times: Vec<f64> = times.iter().map(|time| time.parse().ok()).collect::<Option<_>>()?;
+    let [call, threads, map, rest @ ..] = &cells[..] else { return None };
     let plural = if *threads == "1" { "" } else { "s" };
     let group = format!("{call}, {threads} thread{plural}");
-    Some(Line { group, map: map.replace('`', ""), times: times.try_into().ok()? })
+    Some(Line { group, map: map.replace('`', ""), times: times(rest) })
 }
 
 // The rows of the table in the text, those of one call and number of threads next to each other.
@@ -71,8 +78,12 @@ fn legend(sheet: &mut Sheet) {
 
 fn draw(sheet: &mut Sheet, line: &Line, y: f64) {
     sheet.words((LEFT - 12.0, y + 4.0), Anchor::End, &line.map);
-    sheet.line((place(line.times[0]), y), (place(line.times[3]), y), INK, 0.5);
-    line.times.iter().zip(COLORS).for_each(|(time, (_, color))| sheet.dot((place(*time), y), color));
+    let Some(times) = line.times else {
+        sheet.words((LEFT + 8.0, y + 4.0), Anchor::Start, NOT_AT_ONCE);
+        return;
+    };
+    sheet.line((place(times[0]), y), (place(times[3]), y), INK, 0.5);
+    times.iter().zip(COLORS).for_each(|(time, (_, color))| sheet.dot((place(*time), y), color));
 }
 
 /// The picture of the table in what a run printed; none if it has no row.
@@ -96,7 +107,7 @@ pub fn picture(text: &str) -> Option<String> {
     legend(&mut sheet);
     let mut y = TOP;
     for group in groups {
-        group.iter().enumerate().for_each(|(at, line)| draw(&mut sheet, line, y + HEADING + ROW * at as f64));
+        group.iter().enumerate().for_each(|(at, line)| draw(&mut sheet, line, y + HEADING + GAP + ROW * at as f64));
         y += HEADING + ROW * group.len() as f64;
     }
     (!lines.is_empty()).then(|| sheet.text())
@@ -122,9 +133,14 @@ rounds: 1
         let groups: Vec<String> = lines(TEXT).iter().map(|line| format!("{}: {}", line.group, line.map)).collect();
         assert_eq!(
             groups,
-            ["insert, 4 threads: DashMap", "read, 1 thread: DashMap", "read, 1 thread: the heap from Rust"]
+            [
+                "insert, 4 threads: DashMap",
+                "read, 1 thread: DashMap",
+                "read, 1 thread: the heap from Rust",
+                "read, 4 threads: DashMap"
+            ]
         );
-        assert_eq!(lines(TEXT)[0].times, [60.0, 100.0, 500.0, 2e6]);
+        assert_eq!(lines(TEXT)[0].times, Some([60.0, 100.0, 500.0, 2e6]));
     }
 
     #[test]
@@ -138,6 +154,7 @@ rounds: 1
         let picture = picture(TEXT).expect("it has rows");
         // Three rows with four times each, and the four of the legend.
         assert_eq!(picture.matches("<circle").count(), 16);
+        assert_eq!(picture.matches(">not at once</text>").count(), 1);
         assert_eq!(super::picture("nothing"), None);
     }
 }

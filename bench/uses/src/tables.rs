@@ -10,7 +10,7 @@ use crate::turning::{turn, words_of};
 /// A row with several threads does not repeat, so it has this many runs, one after all rows had theirs.
 const RUNS: usize = 3;
 /// What a cell has if in no turn all threads ran at once.
-const NOT_AT_ONCE: &str = "not at once";
+pub const NOT_AT_ONCE: &str = "not at once";
 /// The sides of the table of latencies, and its numbers of threads.
 pub const TIMED: [Side; 6] = [Side::Heap, Side::Slab, Side::Sharded, Side::Dash, Side::ParkingHash, Side::Epoch];
 pub const THREADS: [usize; 2] = [1, 4];
