@@ -1,6 +1,6 @@
 -- What holds of each state of a level holds after one was added.
-use Rattle.std.proofs.Common.{◌≡◌, ℕ, zero, suc, ◌<◌, List, [], ◌∷◌, ◌++◌, length, get_or, slice_get, None, Some, refl, sym, ap, ◌∙◌, subst, arith, inl, inr}
-use Rattle.std.proofs.Common.{set, map}
+use Rattle.std.proofs.Common.{◌≡◌, ℕ, ◌<◌, List, [], ◌∷◌, ◌++◌, length, get_or, slice_get, Some, refl, sym, ap, ◌∙◌}
+use Rattle.std.proofs.Common.{subst, arith, inl, inr, set, map}
 use Rattle.std.specs.Prelude.{vec_items}
 use Rattle.std.specs.List.{All}
 use Rattle.std.proofs.lemmas.Bool.{cases_eq}
@@ -16,7 +16,7 @@ use Rattle.script_orders.specs.Reached.{LeadsTo, lanes_of, IsReached}
 use Rattle.script_orders.specs.States.{AreAlike, WithOrders, Added}
 use Rattle.script_orders.specs.States.Added.{merged, pushed}
 use Rattle.script_orders.specs.Walks.{HasAlike, IsFollowed}
-use Rattle.script_orders.proofs.GoneOn.{get_set_same, get_set_other}
+use Rattle.script_orders.proofs.ListSteps.{get_set_same, get_set_other, get_push, get_last}
 
 pub all_set : {A : Type 0} (P : A → Type 0) (xs : List A) (i : ℕ) (y : A) → i < length xs → P y → All P xs
     → All P (set xs i y)
@@ -51,15 +51,6 @@ added_reached layout p old new s (pushed is) all reached =
 
 -- ---- which states a level has
 
-get_push : {A : Type 0} (xs : List A) (i : ℕ) (x y : A) → slice_get xs i ≡ Some x → slice_get (xs ++ y ∷ []) i ≡ Some x
-get_push [] i x y h = let z : None ≡ Some x = h in cc
-get_push (z ∷ xs) zero x y h = h
-get_push (z ∷ xs) (suc i) x y h = get_push xs i x y h
-
-get_last : {A : Type 0} (xs : List A) (y : A) → slice_get (xs ++ y ∷ []) (length xs) ≡ Some y
-get_last [] y = refl
-get_last (z ∷ xs) y = get_last xs y
-
 with_alike : (s t u x : State) → WithOrders s t u → AreAlike s x → AreAlike u x
 with_alike s t u x with' alike = record {
   lanes = ap (λ (ls : List Lane). map did ls) (ap vec_items with'.lanes) ∙ alike.lanes;
@@ -90,8 +81,13 @@ has_added old new s (merged place there both at alike with' is) = (
   ap (λ (xs : List State). slice_get xs place) is ∙ get_set_same old place there both at,
   with_alike there s both s with' alike,
 )
-has_added old new s (pushed is) =
-    (length old, s, ap (λ (xs : List State). slice_get xs (length old)) is ∙ get_last old s, record { lanes = refl; words = refl })
+has_added old new s (pushed is) = (
+  length old,
+  s,
+  ap (λ (xs : List State). slice_get xs (length old)) is
+      ∙ get_last old s,
+  record { lanes = refl; words = refl },
+)
 
 pub followed_kept : (layout : Layout) (p : Program) (old new : List State) (s : State) (pass : ℕ)
     → ((t : State) → HasAlike old t → HasAlike new t) → IsFollowed layout p old s pass → IsFollowed layout p new s pass

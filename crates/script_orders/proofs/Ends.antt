@@ -1,5 +1,5 @@
 -- An order, and then the lines that the passes have left, none of which is due.
-use Rattle.std.proofs.Common.{◌≡◌, ◌≢◌, ℕ, zero, suc, ◌+◌, ◌-◌, ◌<◌, ◌≤◌, List, [], ◌∷◌, ◌++◌, length, refl, sym, ap, ◌∙◌}
+use Rattle.std.proofs.Common.{◌≡◌, ◌≢◌, ℕ, zero, suc, ◌+◌, ◌-◌, ◌<◌, ◌≤◌, List, [], ◌++◌, length, refl, sym, ap, ◌∙◌}
 use Rattle.std.proofs.Common.{subst, arith, Option, Some, None, slice_get, get_or, append-nil, inl, inr, map}
 use Rattle.std.specs.Prelude.{option_map}
 use Rattle.std.specs.List.{All, filter, flat_map, range_with_len}
@@ -18,21 +18,19 @@ use Rattle.script_orders.specs.Orders.{is_of, lines_within, IsOfSome, IsOrder, e
 use Rattle.script_orders.specs.Reached.{plan_in, world_by, replies_by, HasNoNext, LeadsTo}
 use Rattle.script_orders.specs.States.{left_of, all_left}
 use Rattle.script_orders.proofs.GoneOn.{world_more, replies_more}
+use Rattle.script_orders.proofs.LineOptions.{left}
 use Rattle.script_orders.proofs.LineLists.{lines_join, own_lines, other_lines, lines_are_of, events_append}
 use Rattle.script_orders.proofs.Skipped.{Skips, skips_none, skips_append, skips_run, skips_reply, not_due_skips}
 
-abbrev left_option : List Event → ℕ → Option Did → List ℕ
-left_option lines a o = elim o [ Some d ↦ lines_within lines a d.behind (length lines) | None ↦ [] ]
-
 -- ---- which of them are a pass's
 
-own_left : (lines : List Event) (a : ℕ) (o : Option Did) → filter (is_of lines a) (left_option lines a o)
-    ≡ left_option lines a o
+own_left : (lines : List Event) (a : ℕ) (o : Option Did) → filter (is_of lines a) (left lines a o)
+    ≡ left lines a o
 own_left lines a (Some d) = own_lines lines a d.behind (length lines)
 own_left lines a None = refl
 
 other_left : (lines : List Event) (a b : ℕ) (o : Option Did) → a ≢ b
-    → filter (is_of lines a) (left_option lines b o) ≡ []
+    → filter (is_of lines a) (left lines b o) ≡ []
 other_left lines a b (Some d) ne = other_lines lines a b d.behind (length lines) ne
 other_left lines a b None ne = refl
 
@@ -64,7 +62,7 @@ left_own lines lanes a from (suc k) low high =
     ]
 
 one_of_some : (lines : List Event) (passes a : ℕ) (o : Option Did) → a < passes
-    → All (IsOfSome lines passes) (left_option lines a o)
+    → All (IsOfSome lines passes) (left lines a o)
 one_of_some lines passes a (Some d) less = lines_are_of lines passes a d.behind (length lines) less
 one_of_some lines passes a None less = All-nil (IsOfSome lines passes)
 
@@ -94,15 +92,18 @@ module _ (layout : Layout) (p : Program) (order words : List ℕ) (lanes : List 
   abbrev its_end : World
   its_end = world_by layout p order
 
-  abbrev left : List ℕ
-  left = all_left its_lines lanes passes
+  abbrev all_of_left : List ℕ
+  all_of_left = all_left its_lines lanes passes
 
-  one_skips : (a : ℕ) (o : Option Did) → slice_get lanes a ≡ o → Skips its_plan its_end (events_of its_lines (left_option its_lines a o))
+  one_skips : (a : ℕ) (o : Option Did) → slice_get lanes a ≡ o
+      → Skips its_plan its_end (events_of its_lines (left its_lines a o))
   one_skips a (Some d) at =
-      not_due_skips its_plan its_end its_lines a d.behind (length its_lines - d.behind) (λ n low high. rests a d at n low)
+      not_due_skips its_plan its_end its_lines a d.behind (length its_lines - d.behind)
+      (λ n low high. rests a d at n low)
   one_skips a None at = skips_none its_plan its_end
 
-  left_skips : (from k : ℕ) → Skips its_plan its_end (events_of its_lines (flat_map (left_of its_lines lanes) (range_with_len from k)))
+  left_skips : (from k : ℕ)
+      → Skips its_plan its_end (events_of its_lines (flat_map (left_of its_lines lanes) (range_with_len from k)))
   left_skips from zero = skips_none its_plan its_end
   left_skips from (suc k) =
       let rest : List ℕ = flat_map (left_of its_lines lanes) (range_with_len (from + 1) k) in
@@ -111,40 +112,41 @@ module _ (layout : Layout) (p : Program) (order words : List ℕ) (lanes : List 
       (skips_append its_plan its_end (events_of its_lines (left_of its_lines lanes from)) (events_of its_lines rest)
       (one_skips from (slice_get lanes from) refl) (left_skips (from + 1) k))
 
-  pub world_same : world_by layout p (order ++ left) ≡ its_end
-  world_same = world_more layout p order left ∙ skips_run its_plan its_end (events_of its_lines left) (left_skips 0 passes)
+  pub world_same : world_by layout p (order ++ all_of_left) ≡ its_end
+  world_same = world_more layout p order all_of_left
+      ∙ skips_run its_plan its_end (events_of its_lines all_of_left) (left_skips 0 passes)
 
-  replies_same : (a : ℕ) → replies_by layout p (order ++ left) a ≡ replies_by layout p order a
+  replies_same : (a : ℕ) → replies_by layout p (order ++ all_of_left) a ≡ replies_by layout p order a
   replies_same a =
-      replies_more layout p order left a
+      replies_more layout p order all_of_left a
       ∙ ap (λ (t : List ℕ). replies_by layout p order a ++ t)
-      (skips_reply its_plan its_end (events_of its_lines left) a (left_skips 0 passes))
+      (skips_reply its_plan its_end (events_of its_lines all_of_left) a (left_skips 0 passes))
       ∙ append-nil (replies_by layout p order a)
 
   there : (a : ℕ) → a < passes → slice_get lanes a ≡ Some (get_or lanes a nothing)
   there a less = let count = leads.count in slice_get-get_or lanes a nothing (omega arith)
 
-  pub is_order : IsOrder its_lines passes (order ++ left)
+  pub is_order : IsOrder its_lines passes (order ++ all_of_left)
   is_order = record {
     all = λ a less.
         let d : Did = get_or lanes a nothing in
         let done = leads.each a d (there a less) in
         let within = done.within in
-        filter-append (is_of its_lines a) order left
-        ∙ ap (λ (xs : List ℕ). xs ++ filter (is_of its_lines a) left) done.lines
+        filter-append (is_of its_lines a) order all_of_left
+        ∙ ap (λ (xs : List ℕ). xs ++ filter (is_of its_lines a) all_of_left) done.lines
         ∙ ap (λ (xs : List ℕ). lines_within its_lines a 0 d.behind ++ xs)
         (left_own its_lines lanes a 0 passes (omega arith) (omega arith)
-        ∙ ap (λ (o : Option Did). left_option its_lines a o) (there a less))
+        ∙ ap (λ (o : Option Did). left its_lines a o) (there a less))
         ∙ sym (lines_join its_lines a 0 d.behind (length its_lines) (omega arith) within);
-    only = All-append (IsOfSome its_lines passes) order left leads.only
+    only = All-append (IsOfSome its_lines passes) order all_of_left leads.only
         (left_of_some its_lines lanes passes 0 passes (omega arith));
   }
 
-  pub all_replies : map (λ (d : Did). d.replies) lanes ≡ map (replies_by layout p (order ++ left))
+  pub all_replies : map (λ (d : Did). d.replies) lanes ≡ map (replies_by layout p (order ++ all_of_left))
       (range_with_len 0 passes)
   all_replies =
       let f : Did → List ℕ = λ d. d.replies in
-      fill_by_all (replies_by layout p (order ++ left)) (map f lanes) passes []
+      fill_by_all (replies_by layout p (order ++ all_of_left)) (map f lanes) passes []
       (length-map lanes f ∙ leads.count) (λ a less.
       let d : Did = get_or lanes a nothing in
       get_or_from_slice_get (map f lanes) a (f d) [] (slice_get-map f lanes a ∙ ap (option_map f) (there a less))

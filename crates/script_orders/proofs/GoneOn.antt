@@ -1,19 +1,15 @@
 -- A pass does its next line: the order with it leads to what it left.
-use Rattle.std.proofs.Common.{◌≡◌, ◌≢◌, ℕ, zero, suc, ◌+◌, ◌-◌, ◌<◌, ◌≤◌, ◌==◌, ◌&&◌, Bool, true, false, cond, List, []}
-use Rattle.std.proofs.Common.{◌∷◌, ◌++◌, length, refl, sym, ap, ◌∙◌, subst, arith, Option, Some, None, slice_get, inl, inr}
-use Rattle.std.proofs.Common.{append_assoc, append-nil, eq-eqb, ne_eqb}
+use Rattle.std.proofs.Common.{◌≡◌, ◌≢◌, ℕ, ◌+◌, ◌-◌, ◌<◌, ◌==◌, Bool, cond, List, [], ◌∷◌, ◌++◌, sym, ap, ◌∙◌}
+use Rattle.std.proofs.Common.{subst, arith, Some, slice_get, inl, inr, append_assoc, append-nil, eq-eqb, ne_eqb}
 use Rattle.std.specs.Prelude.{slice_set}
-use Rattle.std.specs.List.{All, filter}
-use Rattle.std.proofs.lemmas.Bool.{cases_eq, eqb-true}
+use Rattle.std.specs.List.{filter}
+use Rattle.std.proofs.lemmas.Bool.{cases_eq}
 use Rattle.std.proofs.lemmas.List.{length-set}
 use Rattle.std.proofs.lemmas.List.Elements.{filter-append, All-append}
 use Rattle.std.proofs.lemmas.Option.{slice_get_within}
 use Rattle.sh_key.specs.Layout.{Layout}
 use Rattle.sh_step.specs.declared.action.Event.{Event}
-use Rattle.sh_step.specs.declared.body.Body.{Body}
-use Rattle.sh_step.specs.Moves.{is_enabled}
 use Rattle.sh_step.specs.Plans.{Plan}
-use Rattle.sh_step.proofs.Truths.{and2}
 use Rattle.sh_core.specs.declared.outcome.Outcome.{Outcome}
 use Rattle.sh_core.specs.Kept.{HoldsWords}
 use Rattle.sh_core.specs.Outcomes.{outcome_of}
@@ -22,25 +18,15 @@ use Rattle.sh_core.proofs.Words.Steps.{run_snoc}
 use Rattle.script_orders.specs.declared.found.Program.{Program}
 use Rattle.script_orders.specs.Lanes.{Did, and_then}
 use Rattle.script_orders.specs.Orders.{is_of, lines_within, IsOfSome, events_of, reply_line, replies_from}
-use Rattle.script_orders.specs.Reached.{plan_in, done_by, world_by, replies_by, is_due, IsNext, HasDone, LeadsTo}
-use Rattle.script_orders.proofs.LineLists.{is_of_at, lines_join, lines_own, own_lines, other_lines, lines_are_of}
-use Rattle.script_orders.proofs.LineLists.{events_append, event_one}
+use Rattle.script_orders.specs.Reached.{plan_in, done_by, world_by, replies_by, IsNext, HasDone, LeadsTo}
+use Rattle.script_orders.specs.Seen.{Sees}
+use Rattle.script_orders.proofs.ListSteps.{get_set_same, get_set_other}
+use Rattle.script_orders.proofs.Parts.{step_other, left_by, step_own, does_step}
+use Rattle.script_orders.proofs.Stories.{story_more}
+use Rattle.script_orders.proofs.LineOptions.{is_of_at, due_event}
+use Rattle.script_orders.proofs.LineLists.{lines_join, lines_own, own_lines, other_lines, lines_are_of, events_append}
+use Rattle.script_orders.proofs.LineLists.{event_one}
 use Rattle.script_orders.proofs.Skipped.{Skips, run_append, replies_append, skips_run, skips_reply, not_due_skips}
-
--- ---- one element of a list changed
-
-pub get_set_same : {A : Type 0} (xs : List A) (i : ℕ) (x y : A) → slice_get xs i ≡ Some x
-    → slice_get (slice_set xs i y) i ≡ Some y
-get_set_same [] i x y h = let z : None ≡ Some x = h in cc
-get_set_same (z ∷ xs) zero x y h = refl
-get_set_same (z ∷ xs) (suc i) x y h = get_set_same xs i x y h
-
-pub get_set_other : {A : Type 0} (xs : List A) (i j : ℕ) (y : A) → j ≢ i → slice_get (slice_set xs i y) j ≡ slice_get xs j
-get_set_other [] i j y ne = refl
-get_set_other (z ∷ xs) zero zero y ne = absurd (ne refl)
-get_set_other (z ∷ xs) zero (suc j) y ne = refl
-get_set_other (z ∷ xs) (suc i) zero y ne = refl
-get_set_other (z ∷ xs) (suc i) (suc j) y ne = get_set_other xs i j y (λ h. ne (ap (λ (n : ℕ). suc n) h))
 
 -- ---- an order, and then more lines
 
@@ -67,27 +53,10 @@ replies_more layout p order xs a =
 
 -- ---- the lines of a pass up to the next one
 
-reply_one : (plan : Plan) (w : World) (e : Event) (a : ℕ) → replies_from plan w (e ∷ []) a
+pub reply_one : (plan : Plan) (w : World) (e : Event) (a : ℕ) → replies_from plan w (e ∷ []) a
     ≡ cond (e.pass == a) (reply_line e (outcome_of plan w e)) []
 unfolding replies_from
 reply_one plan w e a = append-nil (cond (e.pass == a) (reply_line e (outcome_of plan w e)) [])
-
-due_event : (plan : Plan) (parts : List Body) (lines : List Event) (pass n : ℕ) (e : Event) → slice_get lines n ≡ Some e
-    → is_due plan parts lines pass n ≡ true → e.pass ≡ pass
-due_event plan parts lines pass n e at due = go (slice_get lines n) at due where
-  go : (o : Option Event) → o ≡ Some e → (elim o as (λ _. Bool) [
-    | Some e ↦ (e.pass == pass) && (elim (slice_get parts pass) as (λ _. Bool) [
-      | Some part ↦ is_enabled plan part e.action
-      | None ↦ false
-    ])
-    | None ↦ false
-  ]) ≡ true → e.pass ≡ pass
-  go (Some d) is h =
-      let same : d ≡ e = cc in
-      let own = and2 (d.pass == pass) (elim (slice_get parts pass) as (λ _. Bool)
-      [ Some part ↦ is_enabled plan part d.action | None ↦ false ]) h in
-      ap (λ (x : Event). x.pass) (sym same) ∙ eqb-true d.pass pass own.0
-  go None is h = let z : None ≡ Some e = is in cc
 
 module _ (plan : Plan) (w : World) (lines : List Event) (pass behind n : ℕ) (e : Event)
     (next : IsNext plan w.parts lines pass behind n) (at : slice_get lines n ≡ Some e) where
@@ -98,11 +67,11 @@ module _ (plan : Plan) (w : World) (lines : List Event) (pass behind n : ℕ) (e
   all = lines_within lines pass behind (n + 1)
 
   pub is_own : e.pass ≡ pass
-  is_own = due_event plan w.parts lines pass n e at next.due
+  is_own = (due_event plan w.parts lines pass n e at next.due).0
 
   events_are : events_of lines all ≡ events_of lines passed ++ e ∷ []
   events_are =
-      ap (events_of lines) (lines_own lines pass behind n next.after (is_of_at lines pass n e at
+      ap (events_of lines) (lines_own lines pass behind n next.after (is_of_at lines pass n (Some e) at
       ∙ eq-eqb e.pass pass is_own))
       ∙ events_append lines passed (n ∷ [])
       ∙ ap (λ (es : List Event). events_of lines passed ++ es) (event_one lines n e at)
@@ -124,7 +93,8 @@ module _ (plan : Plan) (w : World) (lines : List Event) (pass behind n : ℕ) (e
       let es : List Event = events_of lines passed in
       ap (λ (ds : List Event). replies_from plan w ds a) events_are
       ∙ replies_append plan w es (e ∷ []) a
-      ∙ ap (λ (t : List ℕ). t ++ replies_from plan (run_from plan w es) (e ∷ []) a) (skips_reply plan w es a passed_skips)
+      ∙ ap (λ (t : List ℕ). t ++ replies_from plan (run_from plan w es) (e ∷ []) a)
+      (skips_reply plan w es a passed_skips)
       ∙ ap (λ (v : World). replies_from plan v (e ∷ []) a) (skips_run plan w es passed_skips)
       ∙ reply_one plan w e a
 
@@ -134,7 +104,8 @@ module _ (layout : Layout) (p : Program) (order words : List ℕ) (lanes : List 
     (leads : LeadsTo layout p order words lanes) (pass n seen : ℕ) (d : Did) (at : slice_get lanes pass ≡ Some d)
     (next : IsNext (plan_in layout p) (world_by layout p order).parts p.lines.now pass d.behind n) (e : Event)
     (there : slice_get p.lines.now n ≡ Some e) (o : Outcome)
-    (came : o ≡ outcome_of (plan_in layout p) (world_by layout p order) e) where
+    (came : o ≡ outcome_of (plan_in layout p) (world_by layout p order) e)
+    (sees : Sees (plan_in layout p) (world_by layout p order) e seen) where
   abbrev lines : List Event
   lines = p.lines.now
 
@@ -180,6 +151,15 @@ module _ (layout : Layout) (p : Program) (order words : List ℕ) (lanes : List 
             ∙ ap (λ (b : Bool). replies_by layout p order pass ++ cond b (reply_line e o) [])
             (sym (eq-eqb e.pass pass own))
             ∙ sym (replies_are pass);
+        part = λ start at.
+            let was = old.part start at in
+            let here : slice_get w.parts e.pass ≡ Some was.0 = ap (λ (a : ℕ). slice_get w.parts a) own ∙ was.1 in (
+              left_by plan w e seen sees,
+              ap (λ (v : World). slice_get v.parts pass) world_is
+                  ∙ ap (λ (a : ℕ). slice_get (step plan w e).parts a) (sym own) ∙ step_own plan w e seen sees,
+              story_more plan lines d.story (record { line = n; seen = seen }) start was.0 (left_by plan w e seen sees)
+                  was.2 (does_step plan w lines n e seen was.0 sees there here),
+            );
       }
 
   done_other : (a : ℕ) (d' : Did) → a ≢ pass → slice_get lanes a ≡ Some d' → HasDone layout p (order ++ more) a d'
@@ -198,6 +178,13 @@ module _ (layout : Layout) (p : Program) (order words : List ℕ) (lanes : List 
             ∙ ap (λ (b : Bool). replies_by layout p order a ++ cond b (reply_line e o) [])
             (ne_eqb e.pass a (λ h. ne (sym h ∙ own)))
             ∙ append-nil (replies_by layout p order a));
+        part = λ start at.
+            let was = old.part start at in (
+              was.0,
+              ap (λ (v : World). slice_get v.parts a) world_is
+                  ∙ step_other plan w e a (λ h. ne (h ∙ own)) ∙ was.1,
+              was.2,
+            );
       }
 
   done_each : (a : ℕ) (d' : Did) → slice_get (slice_set lanes pass new) a ≡ Some d'

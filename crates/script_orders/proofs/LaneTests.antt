@@ -1,5 +1,5 @@
 -- Lanes are compared by what the passes did.
-use Rattle.std.proofs.Common.{◌≡◌, ◌==◌, ◌&&◌, Bool, true, false, List, [], ◌∷◌, map, refl, sym, ap, ◌∙◌, eq-eqb}
+use Rattle.std.proofs.Common.{◌≡◌, ◌==◌, ◌&&◌, Bool, true, List, [], ◌∷◌, map, refl, ap, ◌∙◌, eq-eqb}
 use lib.Dec.{eqb}
 use Rattle.std.specs.Bool.{Decides}
 use Rattle.std.specs.Cmp.Lexicographic.{pointwise}
@@ -15,8 +15,8 @@ use Rattle.script_orders.specs.Lanes.{Did, did}
 both : (a b : Bool) → a ≡ true → b ≡ true → (a && b) ≡ true
 both a b h k = ap (λ (x : Bool). x && b) h ∙ k
 
-step_decides : (x y : Step) → Decides (step_eq.eq-value.it x y) (x ≡ y)
-step_decides x y = (
+steps_decide : (x y : Step) → Decides (step_eq.eq-value.it x y) (x ≡ y)
+steps_decide x y = (
   λ h.
       let k = and2 (x.line == y.line) (x.seen == y.seen) h in
       λ i. record { line = eqb-true x.line y.line k.0 i; seen = eqb-true x.seen y.seen k.1 i },
@@ -24,12 +24,12 @@ step_decides x y = (
       (eq-eqb x.seen y.seen (ap (λ (s : Step). s.seen) h)),
 )
 
-story_decides : (xs ys : List Step) → Decides (pointwise step_eq.eq-value.it xs ys) (xs ≡ ys)
-story_decides xs ys = slice_eq-Decides step_decides xs ys (pointwise step_eq.eq-value.it xs ys) refl
+stories_decide : (xs ys : List Step) → Decides (pointwise step_eq.eq-value.it xs ys) (xs ≡ ys)
+stories_decide xs ys = slice_eq-Decides steps_decide xs ys (pointwise step_eq.eq-value.it xs ys) refl
 
 lane_decides : (x y : Lane) → Decides (lane_eq.eq-value.it x y) (did x ≡ did y)
 lane_decides x y =
-    let story = story_decides x.story.items y.story.items in
+    let story = stories_decide x.story.items y.story.items in
     let replies = bytes_eq-Decides x.replies.items y.replies.items in
     let rest : Bool = pointwise step_eq.eq-value.it x.story.items y.story.items
     && pointwise eqb x.replies.items y.replies.items in (

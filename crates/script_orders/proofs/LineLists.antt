@@ -1,21 +1,12 @@
 -- Lists of the lines of a pass.
-use Rattle.std.proofs.Common.{◌≡◌, ◌≢◌, ℕ, zero, suc, ◌+◌, ◌-◌, ◌<◌, ◌≤◌, ◌==◌, Bool, true, false, cond, List, [], ◌∷◌}
-use Rattle.std.proofs.Common.{◌++◌, length, refl, sym, ap, ◌∙◌, arith, Option, Some, None, slice_get, add-zero, eq-eqb}
-use Rattle.std.proofs.Common.{ne_eqb, append_assoc, append-nil}
-use Rattle.std.specs.List.{All, filter, filter_map, range_with_len, flat_map}
+use Rattle.std.proofs.Common.{◌≡◌, ◌≢◌, ℕ, zero, suc, ◌+◌, ◌-◌, ◌<◌, ◌≤◌, Bool, true, false, cond, List, [], ◌∷◌, ◌++◌}
+use Rattle.std.proofs.Common.{refl, sym, ap, ◌∙◌, arith, Option, Some, None, slice_get, ne_eqb, append-nil}
+use Rattle.std.specs.List.{All, filter, range_with_len}
 use Rattle.std.proofs.lemmas.Bool.{eqb-true}
-use Rattle.std.proofs.lemmas.List.Elements.{filter-append, filter_map-append, All-nil, All-cons, All-append}
+use Rattle.std.proofs.lemmas.List.Elements.{filter-append, filter_map-append, All-nil, All-cons}
 use Rattle.sh_step.specs.declared.action.Event.{Event}
 use Rattle.script_orders.specs.Orders.{is_of, lines_within, IsOfSome, events_of}
-
--- ---- a line
-
-of_option : ℕ → Option Event → Bool
-of_option a o = elim o [ Some e ↦ e.pass == a | None ↦ false ]
-
-pub is_of_at : (lines : List Event) (a n : ℕ) (e : Event) → slice_get lines n ≡ Some e → is_of lines a n ≡ (e.pass == a)
-unfolding of_option
-is_of_at lines a n e at = ap (of_option a) at
+use Rattle.script_orders.proofs.LineOptions.{pass_is}
 
 -- ---- the lines from one number on and before another
 
@@ -48,7 +39,8 @@ lines_more : (lines : List Event) (a from n : ℕ) (b : Bool) → from ≤ n →
     → lines_within lines a from (n + 1) ≡ lines_within lines a from n ++ cond b (n ∷ []) []
 lines_more lines a from n b low is =
     lines_join lines a from n (n + 1) low (omega arith)
-    ∙ ap (λ (xs : List ℕ). lines_within lines a from n ++ xs) (lines_one lines a n ∙ ap (λ (c : Bool). cond c (n ∷ []) []) is)
+    ∙ ap (λ (xs : List ℕ). lines_within lines a from n ++ xs)
+    (lines_one lines a n ∙ ap (λ (c : Bool). cond c (n ∷ []) []) is)
 
 pub lines_own : (lines : List Event) (a from n : ℕ) → from ≤ n → is_of lines a n ≡ true
     → lines_within lines a from (n + 1) ≡ lines_within lines a from n ++ n ∷ []
@@ -60,10 +52,9 @@ lines_other lines a from n low is = lines_more lines a from n false low is ∙ a
 
 -- ---- which of them are another pass's
 
-both : (o : Option Event) (a b : ℕ) → a ≢ b → of_option b o ≡ true → of_option a o ≡ false
-unfolding of_option
-both (Some e) a b ne h = ne_eqb e.pass a (λ (k : e.pass ≡ a). ne (sym k ∙ eqb-true e.pass b h))
-both None a b ne h = refl
+pub not_both : (o : Option Event) (a b : ℕ) → a ≢ b → pass_is b o ≡ true → pass_is a o ≡ false
+not_both (Some e) a b ne h = ne_eqb e.pass a (λ (k : e.pass ≡ a). ne (sym k ∙ eqb-true e.pass b h))
+not_both None a b ne h = refl
 
 filter_same : (p : ℕ → Bool) (xs : List ℕ) → filter p (filter p xs) ≡ filter p xs
 filter_same p [] = refl
@@ -87,9 +78,8 @@ own_lines lines a from to = filter_same (is_of lines a) (range_with_len from (to
 
 pub other_lines : (lines : List Event) (a b from to : ℕ) → a ≢ b → filter (is_of lines a) (lines_within lines b from to)
     ≡ []
-unfolding of_option
 other_lines lines a b from to ne =
-    filter_apart (is_of lines a) (is_of lines b) (λ n h. both (slice_get lines n) a b ne h)
+    filter_apart (is_of lines a) (is_of lines b) (λ n h. not_both (slice_get lines n) a b ne h)
     (range_with_len from (to - from))
 
 of_some : (lines : List Event) (passes a x : ℕ) (xs : List ℕ) (b : Bool) → a < passes → is_of lines a x ≡ b
@@ -114,7 +104,8 @@ pub events_append : (lines : List Event) (xs ys : List ℕ) → events_of lines 
     ++ events_of lines ys
 events_append lines xs ys = filter_map-append (slice_get lines) xs ys
 
-pub event_one : (lines : List Event) (n : ℕ) (e : Event) → slice_get lines n ≡ Some e → events_of lines (n ∷ []) ≡ e ∷ []
+pub event_one : (lines : List Event) (n : ℕ) (e : Event) → slice_get lines n ≡ Some e
+    → events_of lines (n ∷ []) ≡ e ∷ []
 event_one lines n e at = rw at refl
 
 pub event_none : (lines : List Event) (n : ℕ) → slice_get lines n ≡ None → events_of lines (n ∷ []) ≡ []

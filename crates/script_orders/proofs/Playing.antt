@@ -1,6 +1,6 @@
 -- The world after some lines, one line more, and the state in which the lines begin.
-use Rattle.std.proofs.Common.{◌≡◌, ℕ, zero, suc, ◌+◌, ◌<◌, ◌≤◌, List, [], ◌∷◌, ◌++◌, length, take, get_or, refl, sym, ap, ◌∙◌}
-use Rattle.std.proofs.Common.{subst, arith, Option, Some, None, slice_get, append_assoc, append-nil}
+use Rattle.std.proofs.Common.{◌≡◌, ℕ, zero, suc, ◌+◌, ◌<◌, List, [], ◌∷◌, ◌++◌, length, take, get_or, refl, sym, ap}
+use Rattle.std.proofs.Common.{◌∙◌, subst, arith, Some, None, slice_get, append_assoc, append-nil}
 use Rattle.std.specs.Prelude.{Ok, replicate}
 use Rattle.std.specs.List.{flat_map, range_with_len}
 use Rattle.std.proofs.lemmas.List.{take_more}
@@ -19,6 +19,8 @@ use Rattle.script_orders.specs.Lanes.{Did, nothing}
 use Rattle.script_orders.specs.Orders.{lines_within, IsOfSome, events_of, replies_from}
 use Rattle.script_orders.specs.Reached.{plan_in, done_by, world_by, HasDone, LeadsTo}
 use Rattle.script_orders.specs.States.{left_of, all_left}
+use Rattle.script_orders.proofs.Stories.{story_none}
+use Rattle.script_orders.proofs.LineOptions.{left}
 use Rattle.script_orders.proofs.LineLists.{lines_none, range_split, events_append, event_one, event_none}
 
 -- ---- one more event
@@ -35,7 +37,8 @@ runs_step layout shape es e o k k' (fits, is, stands) steps =
     )
 
 done_more : (p : Program) (order : List ℕ) (i : ℕ) (xs : List Event) → i < length order
-    → events_of p.lines.now (get_or order i 0 ∷ []) ≡ xs → done_by p (take (i + 1) order) ≡ done_by p (take i order) ++ xs
+    → events_of p.lines.now (get_or order i 0 ∷ []) ≡ xs
+    → done_by p (take (i + 1) order) ≡ done_by p (take i order) ++ xs
 done_more p order i xs less is =
     ap (λ (o : List ℕ). done_by p o) (take_more order i 0 less)
     ∙ ap (λ (es : List Event). p.before.now ++ es) (events_append p.lines.now (take i order) (get_or order i 0 ∷ [])
@@ -82,6 +85,13 @@ nothing_done layout p a = record {
   lines = sym (lines_none p.lines.now a 0 0 (omega arith));
   within = omega arith;
   replies = refl;
+  part = λ start at.
+      let same : run (plan_in layout p) p.before.now ≡ world_by layout p [] =
+      ap (λ (es : List Event). run (plan_in layout p) es) (sym (append-nil p.before.now)) in (
+        start,
+        sym (ap (λ (w : World). slice_get w.parts a) same) ∙ at,
+        story_none (plan_in layout p) p.lines.now start,
+      );
 }
 
 pub first_leads : (layout : Layout) (p : Program) (k : KeptWorld) (words : List ℕ) (lanes : List Did)
@@ -96,16 +106,13 @@ first_leads layout p k words lanes runs same none =
       holds = subst Q (sym same) (subst P all.1 (all.2).words);
       count = ap (λ (ls : List Did). length ls) none ∙ length_nothing p.shape.passes;
       each = λ a d at.
-          let is : d ≡ nothing = only_nothing p.shape.passes a d (sym (ap (λ (ls : List Did). slice_get ls a) none) ∙ at)
-          in
+          let is : d ≡ nothing =
+          only_nothing p.shape.passes a d (sym (ap (λ (ls : List Did). slice_get ls a) none) ∙ at) in
           let R : Did → Type 0 = λ x. HasDone layout p [] a x in
           subst R (sym is) (nothing_done layout p a);
     }
 
 -- ---- what the passes have left
-
-abbrev left_there : List Event → ℕ → Option Did → List ℕ
-left_there lines a o = elim o [ Some d ↦ lines_within lines a d.behind (length lines) | None ↦ [] ]
 
 pub left_more : (lines : List Event) (lanes : List Did) (n : ℕ) → all_left lines lanes (n + 1)
     ≡ all_left lines lanes n ++ left_of lines lanes n
@@ -121,7 +128,7 @@ pub left_lines : (lines : List Event) (lanes : List Did) (n : ℕ) (d : Did) (st
     → new ≡ old ++ lines_within lines n d.behind (length lines) → new ≡ start ++ all_left lines lanes (n + 1)
 left_lines lines lanes n d start old new at so more =
     let these : List ℕ = lines_within lines n d.behind (length lines) in
-    let is : left_of lines lanes n ≡ these = ap (left_there lines n) at in
+    let is : left_of lines lanes n ≡ these = ap (left lines n) at in
     more ∙ ap (λ (xs : List ℕ). xs ++ these) so ∙ append_assoc start (all_left lines lanes n) these
     ∙ ap (λ (xs : List ℕ). start ++ xs) (sym (left_more lines lanes n
     ∙ ap (λ (xs : List ℕ). all_left lines lanes n ++ xs) is))
@@ -129,6 +136,6 @@ left_lines lines lanes n d start old new at so more =
 pub left_past : (lines : List Event) (lanes : List Did) (n : ℕ) (start old : List ℕ) → slice_get lanes n ≡ None
     → old ≡ start ++ all_left lines lanes n → old ≡ start ++ all_left lines lanes (n + 1)
 left_past lines lanes n start old at so =
-    let is : left_of lines lanes n ≡ [] = ap (left_there lines n) at in
+    let is : left_of lines lanes n ≡ [] = ap (left lines n) at in
     so ∙ ap (λ (xs : List ℕ). start ++ xs) (sym (left_more lines lanes n
     ∙ ap (λ (xs : List ℕ). all_left lines lanes n ++ xs) is ∙ append-nil (all_left lines lanes n)))

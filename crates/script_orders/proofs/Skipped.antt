@@ -1,7 +1,6 @@
 -- Lines that are not due are skipped: they leave the world as it is, and nothing is replied.
-use Rattle.std.proofs.Common.{◌≡◌, ℕ, zero, suc, ◌+◌, ◌-◌, ◌<◌, ◌≤◌, ◌==◌, ◌&&◌, Bool, true, false, cond, List, [], ◌∷◌}
+use Rattle.std.proofs.Common.{◌≡◌, ℕ, zero, suc, ◌+◌, ◌<◌, ◌≤◌, ◌==◌, ◌&&◌, Bool, true, false, cond, List, [], ◌∷◌}
 use Rattle.std.proofs.Common.{◌++◌, refl, sym, ap, ◌∙◌, subst, arith, Option, Some, None, slice_get, append_assoc}
-use Rattle.std.proofs.Common.{append-nil}
 use Rattle.std.specs.Prelude.{is_some, option_map}
 use Rattle.std.specs.List.{cons_option, filter, range_with_len}
 use Rattle.std.proofs.lemmas.Bool.{eqb-true}
@@ -11,13 +10,12 @@ use Rattle.sh_step.specs.declared.moves.Move.{Move}
 use Rattle.sh_step.specs.Moves.{row, row_of, move_of, is_enabled}
 use Rattle.sh_step.specs.Plans.{Plan}
 use Rattle.sh_step.specs.Rows.{Row}
-use Rattle.sh_core.specs.declared.outcome.Outcome.{Outcome}
-use Rattle.sh_core.specs.declared.outcome.Outcome.TheVariants.{Skipped}
 use Rattle.sh_core.specs.Outcomes.{row_of_event, outcome_of}
 use Rattle.sh_core.specs.Worlds.{World, step, apply, run_from}
 use Rattle.sh_core.proofs.Words.Stepping.{outcome_skipped}
-use Rattle.script_orders.specs.Orders.{is_of, lines_within, events_of, reply_line, replies_from}
-use Rattle.script_orders.specs.Reached.{is_due, HasNoNext}
+use Rattle.script_orders.specs.Orders.{is_of, events_of, reply_line, replies_from}
+use Rattle.script_orders.specs.Reached.{is_due}
+use Rattle.script_orders.proofs.LineOptions.{pass_is, may_do, due, due_event}
 
 -- ---- one run after another
 
@@ -43,11 +41,11 @@ pub Skips : Plan → World → List Event → Type 0
 Skips plan w [] = Unit {0}
 Skips plan w (e ∷ es) = (row_of_event plan w e ≡ None) × Skips plan w es
 
-step_option : Plan → World → Event → Option Row → World
+abbrev pub step_option : Plan → World → Event → Option Row → World
 step_option plan w e o = elim o [ Some m ↦ apply w e.pass m | None ↦ w ]
 
-step_is : (plan : Plan) (w : World) (e : Event) → step plan w e ≡ step_option plan w e (row_of_event plan w e)
-unfolding step row_of_event step_option
+pub step_is : (plan : Plan) (w : World) (e : Event) → step plan w e ≡ step_option plan w e (row_of_event plan w e)
+unfolding step row_of_event
 step_is plan w e = go (slice_get w.parts e.pass) where
   go : (o : Option Body) → (elim o as (λ _. World) [
     | Some p ↦ elim (row plan p e.action) [ Some m ↦ apply w e.pass m | None ↦ w ]
@@ -57,7 +55,6 @@ step_is plan w e = go (slice_get w.parts e.pass) where
   go None = refl
 
 pub step_skipped : (plan : Plan) (w : World) (e : Event) → row_of_event plan w e ≡ None → step plan w e ≡ w
-unfolding step_option
 step_skipped plan w e none = step_is plan w e ∙ ap (step_option plan w e) none
 
 pub skips_run : (plan : Plan) (w : World) (es : List Event) → Skips plan w es → run_from plan w es ≡ w
@@ -106,24 +103,12 @@ no_row plan parts e h = go (slice_get parts e.pass) h where
   go None k = refl
 
 -- the pass's line that is not due
-skipped_at : (plan : Plan) (w : World) (e : Event) (a : ℕ) → e.pass ≡ a → (elim (slice_get w.parts a) as (λ _. Bool) [
-  | Some part ↦ is_enabled plan part e.action
-  | None ↦ false
-]) ≡ false → row_of_event plan w e ≡ None
+pub skipped_at : (plan : Plan) (w : World) (e : Event) (a : ℕ) → e.pass ≡ a
+    → may_do plan w.parts a e ≡ false → row_of_event plan w e ≡ None
 unfolding row_of_event
 skipped_at plan w e a same h =
-    let P : ℕ → Type 0 = λ n. (elim (slice_get w.parts n) as (λ _. Bool)
-    [ Some part ↦ is_enabled plan part e.action | None ↦ false ]) ≡ false in
+    let P : ℕ → Type 0 = λ n. may_do plan w.parts n e ≡ false in
     no_row plan w.parts e (subst P (sym same) h)
-
-abbrev event_is_of : ℕ → Option Event → Bool
-event_is_of a o = elim o [ Some e ↦ e.pass == a | None ↦ false ]
-
-abbrev may_do : Plan → List Body → ℕ → Event → Bool
-may_do plan parts a e = elim (slice_get parts a) [ Some part ↦ is_enabled plan part e.action | None ↦ false ]
-
-abbrev due_option : Plan → List Body → ℕ → Option Event → Bool
-due_option plan parts a o = elim o [ Some e ↦ (e.pass == a) && may_do plan parts a e | None ↦ false ]
 
 skips_event : (plan : Plan) (w : World) (lines : List Event) (a from : ℕ) (rest : List ℕ) (e : Event)
     → slice_get lines from ≡ Some e → (b : Bool) → (e.pass == a) ≡ b → (b && may_do plan w.parts a e) ≡ false
@@ -136,11 +121,11 @@ skips_event plan w lines a from rest e at true is h more =
 skips_event plan w lines a from rest e at false is h more = more
 
 skips_more : (plan : Plan) (w : World) (lines : List Event) (a from : ℕ) (rest : List ℕ) (o : Option Event)
-    → slice_get lines from ≡ o → due_option plan w.parts a o ≡ false → Skips plan w (events_of lines rest)
-    → Skips plan w (events_of lines (cond (event_is_of a o) (from ∷ rest) rest))
-skips_more plan w lines a from rest (Some e) at due more =
-    skips_event plan w lines a from rest e at (e.pass == a) refl due more
-skips_more plan w lines a from rest None at due more = more
+    → slice_get lines from ≡ o → due plan w.parts a o ≡ false → Skips plan w (events_of lines rest)
+    → Skips plan w (events_of lines (cond (pass_is a o) (from ∷ rest) rest))
+skips_more plan w lines a from rest (Some e) at not_due more =
+    skips_event plan w lines a from rest e at (e.pass == a) refl not_due more
+skips_more plan w lines a from rest None at not_due more = more
 
 pub not_due_skips : (plan : Plan) (w : World) (lines : List Event) (a from k : ℕ)
     → ((n : ℕ) → from ≤ n → n < from + k → is_due plan w.parts lines a n ≡ false)
@@ -151,3 +136,20 @@ not_due_skips plan w lines a from (suc k) h =
     skips_more plan w lines a from (filter (is_of lines a) (range_with_len (from + 1) k)) (slice_get lines from) refl
     (h from (omega arith) (omega arith))
     (not_due_skips plan w lines a (from + 1) k (λ n low high. h n (omega arith) (omega arith)))
+
+-- a line that is due is not skipped
+pub due_row : {P : Type 0} (plan : Plan) (w : World) (lines : List Event) (a n : ℕ) (e : Event)
+    → slice_get lines n ≡ Some e → is_due plan w.parts lines a n ≡ true → row_of_event plan w e ≡ None → P
+unfolding row row_of_event
+due_row {P} plan w lines a n e at h none =
+    let own = due_event plan w.parts lines a n e at h in
+    let D : ℕ → Type 0 = λ b. may_do plan w.parts b e ≡ true in
+    go (slice_get w.parts e.pass) (subst D (sym own.0) own.1) none where
+      moved : (o : Option Move) (p : Body) → is_some o ≡ true → option_map (row_of plan p) o ≡ None → P
+      moved (Some m) p k l = absurd (let z : Some (row_of plan p m) ≡ None = l in cc)
+      moved None p k l = absurd (let z : false ≡ true = k in cc)
+
+      go : (o : Option Body) → (elim o as (λ _. Bool) [ Some p ↦ is_enabled plan p e.action | None ↦ false ]) ≡ true
+          → (elim o as (λ _. Option Row) [ Some p ↦ row plan p e.action | None ↦ None ]) ≡ None → P
+      go (Some p) k l = moved (move_of plan p e.action) p k l
+      go None k l = absurd (let z : false ≡ true = k in cc)

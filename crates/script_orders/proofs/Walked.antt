@@ -1,13 +1,12 @@
 -- What a pass does next in a state, or that it rests.
-use Rattle.std.proofs.Common.{◌≡◌, ℕ, ◌+◌, ◌<◌, ◌≤◌, false, true, List, ◌++◌, length, refl, sym, ap, ◌∙◌, subst, arith, Option, Some}
-use Rattle.std.proofs.Common.{None, slice_get, map, get_or, Bool, ◌==◌, ◌&&◌}
+use Rattle.std.proofs.Common.{◌≡◌, ℕ, ◌+◌, ◌<◌, ◌≤◌, false, true, List, ◌++◌, length, refl, sym, ap, ◌∙◌, subst, arith}
+use Rattle.std.proofs.Common.{Some, None, slice_get, get_or}
 use Rattle.std.specs.Prelude.{Ok, option_map, slice_set}
 use Rattle.std.proofs.lemmas.Option.{slice_get-map, slice_get_within, slice_get_read, slice_get_past}
 use Rattle.sh_key.specs.Layout.{Layout}
 use Rattle.sh_shape.specs.Shape.{Numbers}
 use Rattle.sh_step.specs.declared.action.Event.{Event}
 use Rattle.sh_step.specs.declared.body.Body.{Body}
-use Rattle.sh_step.specs.Moves.{is_enabled}
 use Rattle.sh_step.specs.Plans.{Plan, plan_of}
 use Rattle.sh_core.specs.declared.outcome.Outcome.{Outcome}
 use Rattle.sh_core.specs.Kept.{KeptWorld, HoldsWords, StepsWorld, RunsWorld}
@@ -18,10 +17,14 @@ use Rattle.script_orders.specs.declared.lane.Lane.{Lane}
 use Rattle.script_orders.specs.declared.state.State.{State}
 use Rattle.script_orders.specs.Lanes.{Did, did, and_then}
 use Rattle.script_orders.specs.Orders.{lines_within, reply_line}
-use Rattle.script_orders.specs.Reached.{plan_in, done_by, world_by, is_due, IsNext, HasNoNext, LeadsTo, lanes_of, IsReached, Rests}
+use Rattle.script_orders.specs.Reached.{plan_in, done_by, world_by, is_due, IsNext, HasNoNext, LeadsTo, lanes_of}
+use Rattle.script_orders.specs.Reached.{IsReached, Rests}
 use Rattle.script_orders.specs.States.{Follows}
 use Rattle.script_orders.specs.Walks.{GoesTo}
-use Rattle.script_orders.proofs.GoneOn.{goes_on}
+use Rattle.script_orders.specs.Seen.{Sees}
+use Rattle.script_orders.proofs.LineOptions.{past_not_due}
+use Rattle.script_orders.proofs.GoneOn.{goes_on, world_is}
+use Rattle.script_orders.proofs.Parts.{outcome_alike, world_alike}
 
 pub lane_at : (s : State) (pass : ℕ) (lane : Lane) → slice_get s.lanes.items pass ≡ Some lane
     → slice_get (lanes_of s) pass ≡ Some (did lane)
@@ -44,11 +47,12 @@ module _ (layout : Layout) (p : Program) (s : State) (pass : ℕ) (lane : Lane) 
       HasNoNext (plan_in layout p) (world_by layout p s.order.items).parts p.lines.now pass x.behind in
       subst R same (subst Q (runs.2).parts (subst P runs.1 none))
 
-  pub goes : (t : State) (new : Did) (n seen : ℕ) (e : Event) (o : Outcome) (k' : KeptWorld) → IsReached layout p s
+  goes : (t : State) (new : Did) (n seen : ℕ) (e : Event) (o : Outcome) (k' : KeptWorld) → IsReached layout p s
+      → Sees (plan_of layout k.shape) (world_by layout p s.order.items) e seen
       → IsNext (plan_of layout k.shape) k.parts p.lines.now pass lane.behind n → slice_get p.lines.now n ≡ Some e
       → StepsWorld layout k e o k' → new ≡ and_then (did lane) n seen (reply_line e o)
       → Follows p.lines.now pass new k'.words s t → IsReached layout p t
-  goes t new n seen e o k' reached next there steps is follows =
+  goes t new n seen e o k' reached sees next there steps is follows =
       let P : Numbers → Type 0 = λ m. IsNext (plan_of layout m) k.parts p.lines.now pass lane.behind n in
       let Q : List Body → Type 0 = λ bs. IsNext (plan_in layout p) bs p.lines.now pass lane.behind n in
       let next' : IsNext (plan_in layout p) (world_by layout p s.order.items).parts p.lines.now pass lane.behind n =
@@ -56,6 +60,8 @@ module _ (layout : Layout) (p : Program) (s : State) (pass : ℕ) (lane : Lane) 
       let came : o ≡ outcome_of (plan_in layout p) (world_by layout p s.order.items) e =
       steps.outcome_is (world_by layout p s.order.items) (runs.2)
       ∙ ap (λ (m : Numbers). outcome_of (plan_of layout m) (world_by layout p s.order.items) e) runs.1 in
+      let sees' = subst (λ (m : Numbers). Sees (plan_of layout m) (world_by layout p s.order.items) e seen) runs.1 sees
+      in
       let stepped = steps.world (world_by layout p s.order.items) (runs.2) in
       let H : Numbers → Numbers → Type 0 = λ a b.
       HoldsWords a k'.words (step (plan_of layout b) (world_by layout p s.order.items) e).words in
@@ -64,7 +70,7 @@ module _ (layout : Layout) (p : Program) (s : State) (pass : ℕ) (lane : Lane) 
       let count = reached.count in
       let within = slice_get_within (lanes_of s) pass (did lane) (lane_at s pass lane at) in
       let led = goes_on layout p s.order.items s.words.items (lanes_of s) reached pass n seen (did lane)
-      (lane_at s pass lane at) next' e there o came k'.words holds (omega arith) in
+      (lane_at s pass lane at) next' e there o came sees' k'.words holds (omega arith) in
       let behind : n + 1 ≡ new.behind = sym (ap (λ (d : Did). d.behind) is) in
       let order : s.order.items ++ lines_within p.lines.now pass lane.behind (n + 1) ≡ t.order.items =
       ap (λ (b : ℕ). s.order.items ++ lines_within p.lines.now pass lane.behind b) behind
@@ -77,29 +83,42 @@ module _ (layout : Layout) (p : Program) (s : State) (pass : ℕ) (lane : Lane) 
       (slice_set (lanes_of s) pass (and_then (did lane) n seen (reply_line e o)))) order led))
 
   pub goes_to : (t : State) (new : Did) (n seen : ℕ) (e : Event) (o : Outcome) (k' : KeptWorld) → IsReached layout p s
+      → Sees (plan_of layout k.shape) (world_by layout p s.order.items) e seen
       → IsNext (plan_of layout k.shape) k.parts p.lines.now pass lane.behind n → slice_get p.lines.now n ≡ Some e
       → StepsWorld layout k e o k' → new ≡ and_then (did lane) n seen (reply_line e o)
       → Follows p.lines.now pass new k'.words s t → GoesTo layout p pass s t
-  goes_to t new n seen e o k' reached next there steps is follows =
+  goes_to t new n seen e o k' reached sees next there steps is follows =
       let P : Numbers → Type 0 = λ m. IsNext (plan_of layout m) k.parts p.lines.now pass lane.behind n in
       let Q : List Body → Type 0 = λ bs. IsNext (plan_in layout p) bs p.lines.now pass lane.behind n in
       let came : o ≡ outcome_of (plan_in layout p) (world_by layout p s.order.items) e =
       steps.outcome_is (world_by layout p s.order.items) (runs.2)
       ∙ ap (λ (m : Numbers). outcome_of (plan_of layout m) (world_by layout p s.order.items) e) runs.1 in
+      let next' = subst Q (runs.2).parts (subst P runs.1 next) in
+      let sees' = subst (λ (m : Numbers). Sees (plan_of layout m) (world_by layout p s.order.items) e seen) runs.1 sees
+      in
+      let order = follows.order (did lane) (lane_at s pass lane at)
+      ∙ ap (λ (d : Did). s.order.items ++ lines_within p.lines.now pass lane.behind d.behind) is in
+      let led : world_by layout p t.order.items ≡ step (plan_in layout p) (world_by layout p s.order.items) e =
+      ap (λ (xs : List ℕ). world_by layout p xs) order
+      ∙ world_is layout p s.order.items s.words.items (lanes_of s) reached pass n seen (did lane)
+      (lane_at s pass lane at) next' e there o came sees' in
       record {
         lane = did lane;
         number = n;
         seen = seen;
         event = e;
         at = lane_at s pass lane at;
-        next = subst Q (runs.2).parts (subst P runs.1 next);
+        next = next';
         there = there;
-        reached = goes t new n seen e o k' reached next there steps is follows;
-        order = follows.order (did lane) (lane_at s pass lane at)
-            ∙ ap (λ (d : Did). s.order.items ++ lines_within p.lines.now pass lane.behind d.behind) is;
+        reached = goes t new n seen e o k' reached sees next there steps is follows;
+        order = order;
         lanes = follows.lanes ∙ ap (λ (d : Did). slice_set (lanes_of s) pass d) (is
             ∙ ap (λ (x : Outcome). and_then (did lane) n seen (reply_line e x)) came);
         orders = follows.orders;
+        alike = λ v is_world. (
+          outcome_alike layout p s t k k' e o runs.1 (runs.2) steps reached.holds v is_world,
+          world_alike layout p s t k k' e o runs.1 (runs.2) steps reached.holds v is_world follows.words_are led,
+        );
       }
 
 -- ---- what a look-up in a list says
@@ -115,18 +134,8 @@ lane_past s pass xs same le =
     slice_get-map did s.lanes.items pass ∙ ap (option_map did)
     (subst (λ (zs : List Lane). slice_get zs pass ≡ None) same (slice_get_past xs pass le))
 
-abbrev due_there : Plan → List Body → ℕ → Option Event → Bool
-due_there plan parts pass o = elim o [
-  | Some e ↦ (e.pass == pass) && (elim (slice_get parts pass) [
-    | Some part ↦ is_enabled plan part e.action
-    | None ↦ false
-  ])
-  | None ↦ false
-]
-
 pub due_within : {P : Type 0} (plan : Plan) (parts : List Body) (lines : List Event) (pass n : ℕ)
     → is_due plan parts lines pass n ≡ true → length lines ≤ n → P
 due_within plan parts lines pass n due past =
-    let none : is_due plan parts lines pass n ≡ false =
-    ap (due_there plan parts pass) (slice_get_past lines n past) in
+    let none : is_due plan parts lines pass n ≡ false = past_not_due plan parts lines pass n past in
     absurd (let z : false ≡ true = sym none ∙ due in cc)

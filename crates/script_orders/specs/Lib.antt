@@ -1,5 +1,6 @@
 pub mod Orders
 pub mod Lanes
+pub mod Seen
 pub mod Reached
 pub mod States
 pub mod Counts

@@ -1,8 +1,10 @@
 -- What the lines of a program lead to, in an order of them.
-use Rattle.std.specs.Prelude.{ℕ, ◌≡◌, ◌≤◌, ◌<◌, ◌==◌, ◌&&◌, cond, Bool, true, false, List, [], ◌++◌, Some, None, length, map}
+use Rattle.std.specs.Prelude.{ℕ, ◌≡◌, ◌≤◌, ◌<◌, ◌==◌, ◌&&◌, cond, Bool, true, false, List, [], ◌++◌, Some, None}
+use Rattle.std.specs.Prelude.{length, map}
 use Rattle.std.specs.Prelude.{slice_get, vec_items}
 use Rattle.std.specs.List.{All, filter, range_with_len}
-use Rattle.sh_key.specs.Layout.{Layout}
+use Rattle.sh_key.specs.Layout.{Layout, IsLayout}
+use Rattle.sh_shape.specs.Shape.{IsShape, Fits}
 use Rattle.sh_step.specs.declared.action.Event.{Event}
 use Rattle.sh_step.specs.declared.body.Body.{Body}
 use Rattle.sh_step.specs.Moves.{is_enabled}
@@ -17,6 +19,7 @@ use Rattle.script_orders.specs.declared.found.Explored.TheVariants.{Whole, Cut}
 use Rattle.script_orders.specs.declared.state.State.{State}
 use Rattle.script_orders.specs.Lanes.{Did, did}
 use Rattle.script_orders.specs.Orders.{is_of, lines_within, IsOfSome, IsOrder, events_of, replies_from}
+use Rattle.script_orders.specs.Seen.{DoesSteps}
 
 -- ---- a program: what is done first, and lines that are done in some order
 
@@ -39,6 +42,12 @@ replies_by layout p order pass =
 -- what the pages have after it
 abbrev pub pages_by : Layout → Program → List ℕ → List ℕ
 pages_by layout p order = accounts_text p.shape (accounts_after (plan_in layout p) (done_by p order))
+
+-- the shape fits the layout, so that there is such a heap
+pub record IsHeap (layout : Layout) (p : Program) : Type 0 where
+  pub is_layout : IsLayout layout
+  pub is_shape : IsShape p.shape
+  pub fits : Fits layout p.shape
 
 -- ---- the next line of a pass
 
@@ -64,11 +73,14 @@ HasNoNext plan parts lines pass behind = (n : ℕ) → behind ≤ n → is_due p
 
 -- ---- states
 
--- in this order the pass did its lines before `behind`, and was replied this
+-- in this order the pass did its lines before `behind`, was replied this, and its story led to the part that it has
 pub record HasDone (layout : Layout) (p : Program) (order : List ℕ) (pass : ℕ) (d : Did) : Type 0 where
   pub lines : filter (is_of p.lines.now pass) order ≡ lines_within p.lines.now pass 0 d.behind
   pub within : d.behind ≤ length p.lines.now
   pub replies : d.replies ≡ replies_by layout p order pass
+  pub part : (start : Body) → slice_get (run (plan_in layout p) p.before.now).parts pass ≡ Some start → (now : Body)
+      × (slice_get (world_by layout p order).parts pass ≡ Some now)
+      × DoesSteps (plan_in layout p) p.lines.now d.story start now
 
 -- the order leads to these words, and each pass did this in it
 pub record LeadsTo (layout : Layout) (p : Program) (order words : List ℕ) (lanes : List Did) : Type 0 where
@@ -89,15 +101,44 @@ abbrev pub Rests : Layout → Program → State → (pass : ℕ) → Type 0
 Rests layout p s pass = (d : Did) → slice_get (lanes_of s) pass ≡ Some d
     → HasNoNext (plan_in layout p) (world_by layout p s.order.items).parts p.lines.now pass d.behind
 
+-- a world of the state: it has the state's words and parts
+pub record IsWorldOf (layout : Layout) (p : Program) (s : State) (w : World) : Type 0 where
+  pub words : HoldsWords p.shape s.words.items w.words
+  pub parts : w.parts ≡ (world_by layout p s.order.items).parts
+
 -- ---- outcomes
+
+-- what the passes are replied in an order
+abbrev pub all_replies_by : Layout → Program → List ℕ → List (List ℕ)
+all_replies_by layout p order = map (replies_by layout p order) (range_with_len 0 p.shape.passes)
+
+-- what the pages have after it, if that belongs to an outcome
+abbrev pub pages_asked : Layout → Program → List ℕ → List ℕ
+pages_asked layout p order = cond p.accounts (pages_by layout p order) []
 
 -- the witness is an order of all lines, and leads to the outcome
 pub record IsOutcome (layout : Layout) (p : Program) (f : Found) : Type 0 where
   pub order : IsOrder p.lines.now p.shape.passes f.witness.items
-  pub replies : map vec_items f.replies.items
-      ≡ map (replies_by layout p f.witness.items) (range_with_len 0 p.shape.passes)
-  pub pages : f.pages.items ≡ cond p.accounts (pages_by layout p f.witness.items) []
+  pub replies : map vec_items f.replies.items ≡ all_replies_by layout p f.witness.items
+  pub pages : f.pages.items ≡ pages_asked layout p f.witness.items
 
 abbrev pub AreOutcomes : Layout → Program → Explored → Type 0
 AreOutcomes layout p (Whole whole) = All (IsOutcome layout p) whole.found.items
 AreOutcomes layout p (Cut cut) = Unit {0}
+
+-- ---- no outcome is missing
+
+-- one of the outcomes has these replies and pages
+abbrev pub Has : List Found → (replies : List (List ℕ)) → (pages : List ℕ) → Type 0
+Has found replies pages = (place : ℕ) × (f : Found) × (slice_get found place ≡ Some f)
+    × (map vec_items f.replies.items ≡ replies) × (f.pages.items ≡ pages)
+
+-- one of the outcomes is that of the order
+abbrev pub HasOutcome : Layout → Program → List Found → (order : List ℕ) → Type 0
+HasOutcome layout p found order = Has found (all_replies_by layout p order) (pages_asked layout p order)
+
+-- every order of all lines, done to its end, has one of the outcomes
+abbrev pub IsComplete : Layout → Program → Explored → Type 0
+IsComplete layout p (Whole whole) =
+    (order : List ℕ) → IsOrder p.lines.now p.shape.passes order → HasOutcome layout p whole.found.items order
+IsComplete layout p (Cut cut) = Unit {0}

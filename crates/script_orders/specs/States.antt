@@ -2,9 +2,8 @@
 use Rattle.std.specs.Prelude.{ℕ, ◌≡◌, ◌+◌, ◌-◌, ◌^◌, min, ◌++◌, List, [], ◌∷◌, Some, None, length, slice_get, slice_set}
 use Rattle.std.specs.List.{flat_map, range_with_len}
 use Rattle.sh_step.specs.declared.action.Event.{Event}
-use Rattle.script_orders.specs.declared.lane.Lane.{Lane}
 use Rattle.script_orders.specs.declared.state.State.{State}
-use Rattle.script_orders.specs.Lanes.{Did, did}
+use Rattle.script_orders.specs.Lanes.{Did}
 use Rattle.script_orders.specs.Orders.{lines_within}
 use Rattle.script_orders.specs.Reached.{lanes_of}
 

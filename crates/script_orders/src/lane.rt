@@ -71,7 +71,8 @@ impl Lane {
         outcome: &Outcome,
     ) -> Result<Lane, AllocError>
         requires { line < usize.MAX }
-        ensures { IfOk result (λ lane. did lane ≡ and_then (did self.now) line seen (reply_line event.now outcome.now)) }
+        ensures { IfOk result (λ lane.
+            did lane ≡ and_then (did self.now) line seen (reply_line event.now outcome.now)) }
     {
         let mut lane = self.copy(alloc)?;
         lane.behind = line + 1;

@@ -1,10 +1,14 @@
 //! Doing lines on a heap.
-ghost use Rattle.std.specs.Prelude.{◌≡◌, IfOk, OnErr, Ok};
-ghost use Rattle.sh_core.specs.Kept.{StepsWorld, RunsWorld};
+ghost use Rattle.std.specs.Prelude.{◌≡◌, None, MatchOption, IfOk, OnErr, Ok};
+ghost use Rattle.sh_step.specs.Plans.{plan_of};
+ghost use Rattle.sh_core.specs.Kept.{StandsFor, StepsWorld, RunsWorld};
+ghost use Rattle.sh_core.specs.Outcomes.{row_of_event};
+ghost use Rattle.sh_core.specs.Worlds.{World as Core};
 ghost use Rattle.script_orders.specs.Reached.{done_by};
+ghost use Rattle.script_orders.specs.Seen.{Sees};
 
 use crate::found::Program;
-use crate::seen::{found_at, seen};
+use crate::seen::seen;
 use sh_core::{Outcome, World};
 use sh_key::KeyLayout;
 use sh_step::{Event, Move};
@@ -49,12 +53,15 @@ pub fn played<L: KeyLayout>(
 }
 
 /// What the event's step finds, as far as it matters to its pass; none if its condition does not hold.
-pub fn seen_by<L: KeyLayout>(world: &World<L>, event: &Event) -> Option<u64> {
+pub fn seen_by<L: KeyLayout>(world: &World<L>, event: &Event) -> Option<u64>
+    ensures { MatchOption result
+        ((w : Core) → StandsFor world.now w → row_of_event (plan_of L.layout world.now.shape) w event.now ≡ None)
+        (λ seen. (w : Core) → StandsFor world.now w → Sees (plan_of L.layout world.now.shape) w event.now seen) }
+{
     let shape = world.shape();
     let part = world.parts().get(event.pass as usize)?;
     let the_move = Move::of::<L>(&shape, part, &event.action)?;
-    match found_at(&shape, &the_move) {
-        Some(number) => Some(seen::<L>(&the_move, *world.words().get(number as usize)?)),
-        None => Some(0),
-    }
+    let place = the_move.step::<L>(&shape).place;
+    let found = world.words()[shape.index(place)];
+    Some(seen::<L>(&the_move, found))
 }

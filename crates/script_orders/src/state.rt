@@ -1,9 +1,9 @@
 //! States, each by one order that leads to it.
-ghost use Rattle.std.specs.Prelude.{◌≡◌, ◌++◌, ◌<◌, OnOk, IfOk, length, map, vec_items};
+ghost use Rattle.std.specs.Prelude.{◌≡◌, ◌++◌, ◌<◌, [], OnOk, IfOk, length, map, vec_items};
 ghost use Rattle.sh_key.specs.Layout.{Layout};
 ghost use Rattle.script_orders.specs.Lanes.{did};
 ghost use Rattle.script_orders.specs.Orders.{is_of, lines_within};
-ghost use Rattle.script_orders.specs.Reached.{IsReached, lanes_of};
+ghost use Rattle.script_orders.specs.Reached.{IsHeap, IsReached, lanes_of};
 ghost use Rattle.script_orders.specs.States.{Follows, all_left};
 
 use crate::found::{Orders, Program};
@@ -61,6 +61,8 @@ impl State {
     pub fn first<L: KeyLayout>(alloc: Global, program: &Program<'_>) -> Result<State, AllocError>
         ensures reached { IfOk result (IsReached L.layout program.now) }
         ensures orders { IfOk result (λ state. state.orders ≡ Orders.ONE) }
+        ensures heap { OnOk result (IsHeap L.layout program.now) }
+        ensures begins { IfOk result (λ state. state.order.items ≡ []) }
     {
         let world = opened::<L>(alloc, program)?;
         Ok(State {

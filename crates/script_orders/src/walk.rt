@@ -1,12 +1,15 @@
 //! Going through all orders.
-ghost use Rattle.std.specs.Prelude.{◌≡◌, ℕ, ◌<◌, false, cond, [], List, IfSome, IfOk, OnOk, MatchOption, Some, length, slice_get};
+ghost use Rattle.std.specs.Prelude.{◌≡◌, ℕ, ◌<◌, false, cond, [], List, IfSome, IfOk, OnOk, MatchOption, Some};
+ghost use Rattle.std.specs.Prelude.{length, slice_get, map, vec_items};
 ghost use Rattle.std.specs.List.{All};
 ghost use Rattle.sh_key.specs.Layout.{Layout};
+ghost use Rattle.script_orders.specs.declared.found.Found.{Found};
 ghost use Rattle.script_orders.specs.declared.found.Program.{Program};
 ghost use Rattle.script_orders.specs.declared.state.State.{State};
 ghost use Rattle.script_orders.specs.Counts.{CountsEnd};
-ghost use Rattle.script_orders.specs.Walks.{GoesTo, HasAlike, IsFollowed};
-ghost use Rattle.script_orders.specs.Reached.{world_by, pages_by, IsReached, Rests, IsOutcome, AreOutcomes};
+ghost use Rattle.script_orders.specs.Walks.{GoesTo, HasAlike, IsFollowed, GoesOn, HasEnd, IsSame, KeepsFound, AllRest};
+ghost use Rattle.script_orders.specs.Reached.{world_by, pages_by, pages_asked, lanes_of, IsHeap, IsReached, Rests};
+ghost use Rattle.script_orders.specs.Reached.{IsOutcome, AreOutcomes, Has, IsComplete};
 
 use crate::found::{Cut, Explored, Found, Orders, Program, Whole};
 use crate::level::Level;
@@ -39,7 +42,9 @@ fn gone_on<L: KeyLayout>(
     let Some(event) = program.lines.get(line) else {
         return Ok(None);
     };
-    let seen = seen_by(&world, event).unwrap_or(0);
+    let Some(seen) = seen_by(&world, event) else {
+        return Ok(None);
+    };
     let outcome = step(&mut world, event)?;
     let lane = lane.after(alloc, line, seen, event, &outcome)?;
     let next = state.after(alloc, program.lines, pass, lane, world.words())?;
@@ -61,6 +66,7 @@ fn go_on<L: KeyLayout>(
     ensures keeps { OnOk result ((t : State) → HasAlike next.old.states.items t → HasAlike next.new.states.items t) }
     ensures followed { OnOk result ((pass : ℕ) → pass < program.now.shape.passes
         → IsFollowed L.layout program.now next.new.states.items state.now pass) }
+    ensures ends { IfOk result (λ goes_on. AllRest L.layout program.now state.now → goes_on ≡ false) }
 {
     let mut goes_on = false;
     for pass in 0..program.shape.passes() {
@@ -100,6 +106,9 @@ fn outcome<L: KeyLayout>(
     requires rests { (pass : ℕ) → pass < program.now.shape.passes → Rests L.layout program.now state.now pass }
     ensures is { IfOk result (IsOutcome L.layout program.now) }
     ensures orders { IfOk result (λ found. found.orders ≡ state.now.orders) }
+    ensures replies { IfOk result (λ found.
+        map vec_items found.replies.items ≡ map (λ d. d.replies) (lanes_of state.now)) }
+    ensures pages { IfOk result (λ found. found.pages.items ≡ pages_asked L.layout program.now state.now.order.items) }
 {
     Ok(Found {
         replies: state.replies(alloc)?,
@@ -112,7 +121,8 @@ fn outcome<L: KeyLayout>(
 
 // The place of the outcome with the same replies and pages.
 fn place_of(found: &[Found], new: &Found) -> Option<usize>
-    ensures { IfSome result (λ place. place < length found.now) }
+    ensures { IfSome result (λ place. (there : Found) × (slice_get found.now place ≡ Some there)
+        × IsSame there new.now) }
 {
     for (place, other) in found.iter().enumerate() {
         if other.replies == new.replies && other.pages == new.pages {
@@ -124,8 +134,10 @@ fn place_of(found: &[Found], new: &Found) -> Option<usize>
 
 // Adds an outcome: its orders to those of the same outcome, if there is one.
 fn add(found: &mut Vec<Found>, new: Found) -> Result<(), AllocError>
-    ensures { (layout : Layout) (program : Program) → All (IsOutcome layout program) found.old.items
+    ensures all { (layout : Layout) (program : Program) → All (IsOutcome layout program) found.old.items
         → IsOutcome layout program new → OnOk result (All (IsOutcome layout program) found.new.items) }
+    ensures keeps { OnOk result (KeepsFound found.old.items found.new.items) }
+    ensures has { OnOk result (Has found.new.items (map vec_items new.replies.items) new.pages.items) }
 {
     if let Some(place) = place_of(found.as_slice(), &new) {
         let there = &mut found[place];
@@ -148,6 +160,8 @@ fn add_end<L: KeyLayout>(
     requires found { All (IsOutcome L.layout program.now) whole.old.found.items }
     ensures found { OnOk result (All (IsOutcome L.layout program.now) whole.new.found.items) }
     ensures counts { OnOk result (CountsEnd state.now.orders whole.old whole.new) }
+    ensures keeps { OnOk result (KeepsFound whole.old.found.items whole.new.found.items) }
+    ensures has { OnOk result (HasEnd L.layout program.now whole.new.found.items state.now) }
 {
     let new = outcome::<L>(alloc, program, state)?;
     whole.ends = whole.ends.saturating_add(1);
@@ -171,6 +185,10 @@ fn next_level<L: KeyLayout>(
     ensures followed { IfOk result (λ next. IfSome next (λ after. (place : ℕ) (state : State)
         → slice_get level.now.states.items place ≡ Some state → (pass : ℕ) → pass < program.now.shape.passes
         → IsFollowed L.layout program.now after.states.items state pass)) }
+    ensures keeps { OnOk result (KeepsFound whole.old.found.items whole.new.found.items) }
+    ensures ends { IfOk result (λ next. IfSome next (λ after. (place : ℕ) (state : State)
+        → slice_get level.now.states.items place ≡ Some state → AllRest L.layout program.now state
+        → HasEnd L.layout program.now whole.new.found.items state)) }
 {
     let mut next = Level::new(alloc);
     for state in &level.states {
@@ -186,7 +204,9 @@ fn next_level<L: KeyLayout>(
 
 // The first level.
 fn first_level<L: KeyLayout>(alloc: Global, program: &Program<'_>) -> Result<Level, AllocError>
-    ensures { IfOk result (λ level. All (IsReached L.layout program.now) level.states.items) }
+    ensures reached { IfOk result (λ level. All (IsReached L.layout program.now) level.states.items) }
+    ensures heap { OnOk result (IsHeap L.layout program.now) }
+    ensures begins { IfOk result (λ level. (order : List ℕ) → GoesOn L.layout program.now level.states.items order) }
 {
     let mut level = Level::new(alloc);
     level.add(State::first::<L>(alloc, program)?)?;
@@ -195,8 +215,11 @@ fn first_level<L: KeyLayout>(alloc: Global, program: &Program<'_>) -> Result<Lev
 
 /// Does the lines in every order that keeps the order of each pass, and returns each outcome. A line whose condition
 /// does not hold is skipped. `AllocError` is returned if memory was refused, or if the shape does not fit the layout.
+///
+/// Each outcome is one of the script's, and if the walk is whole, each order of the script has one of the outcomes.
 pub fn explore<L: KeyLayout>(alloc: Global, program: &Program<'_>) -> Result<Explored, AllocError>
-    ensures { IfOk result (AreOutcomes L.layout program.now) }
+    ensures are { IfOk result (AreOutcomes L.layout program.now) }
+    ensures complete { IfOk result (IsComplete L.layout program.now) }
 {
     let mut whole = Whole {
         states: 0,

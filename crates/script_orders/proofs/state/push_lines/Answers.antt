@@ -21,7 +21,8 @@ loop-number-preserved c = elim c.if-is_of.branch [
       let more = lines_own c.args.lines.now c.args.pass c.args.from c.loop-number.number (omega arith) is in
       record { added = rw more (grind (arith, common_steps)); stays = λ le. absurd (omega arith) }
   | else-is_of w ↦
-      let is : is_of c.args.lines.now c.args.pass c.loop-number.number ≡ false = sym c.is_of.ensures ∙ w.if-is_of.false in
+      let is : is_of c.args.lines.now c.args.pass c.loop-number.number ≡ false =
+      sym c.is_of.ensures ∙ w.if-is_of.false in
       let more = lines_other c.args.lines.now c.args.pass c.args.from c.loop-number.number (omega arith) is in
       record { added = rw more (grind (arith, common_steps)); stays = λ le. absurd (omega arith) }
 ]

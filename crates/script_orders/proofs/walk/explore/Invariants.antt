@@ -1,5 +1,8 @@
+use Rattle.std.proofs.Common.{ℕ, List}
 use Rattle.std.specs.List.{All}
+use Rattle.script_orders.specs.Orders.{IsOrder}
 use Rattle.script_orders.specs.Reached.{IsReached, IsOutcome}
+use Rattle.script_orders.specs.Walks.{IsCovered}
 use Rattle.script_orders.proofs.walk.explore.Given as goal
 
 abbrev pub decreases-loop-alloc : goal.decreases-loop-alloc
@@ -9,4 +12,6 @@ abbrev pub invariant-loop-alloc : goal.invariant-loop-alloc
 invariant-loop-alloc g l = record {
   reached : All (IsReached g.L.KeyLayout.layout l.program) l.level.states.items;
   found : All (IsOutcome g.L.KeyLayout.layout l.program) l.whole.found.items;
+  covered : (order : List ℕ) → IsOrder l.program.lines.now l.program.shape.passes order
+      → IsCovered g.L.KeyLayout.layout l.program l.level.states.items l.whole.found.items order;
 }

@@ -1,4 +1,4 @@
-use Rattle.std.proofs.Common.{◌≡◌, ℕ, ◌+◌, ◌<◌, true, false, Option, sym, subst, ◌∙◌, below_more, arith, inl, inr}
+use Rattle.std.proofs.Common.{◌≡◌, ℕ, ◌+◌, ◌<◌, true, false, Option, refl, sym, subst, ◌∙◌, below_more, arith, inl, inr}
 use Rattle.std.specs.Prelude.{MatchOption}
 use Rattle.std.specs.List.{All}
 use Rattle.script_orders.specs.declared.level.Level.{Level}
@@ -15,6 +15,7 @@ loop-pass-init g c = record {
   rests = λ h a less. absurd (omega arith);
   keeps = λ t h. h;
   followed = λ a less. absurd (omega arith);
+  ends = λ h. refl;
 }
 
 pub loop-pass-preserved : goal.loop-pass-preserved
@@ -30,8 +31,8 @@ loop-pass-preserved g c =
           let after = w.in-Some.after in
           let new = w.add.new.self.states.items in
           let added = w.in_ok-add.ensures in
-          let goes = subst (λ (o : Option State). MatchOption o (Rests layout p s pass) (GoesTo layout p pass s)) w.in-Some.is
-          c.in_ok-after.ensures in
+          let goes = subst (λ (o : Option State). MatchOption o (Rests layout p s pass) (GoesTo layout p pass s))
+          w.in-Some.is c.in_ok-after.ensures in
           let keeps = keeps_alike old new after added in
           record {
             all = subst (λ (l : Level). All (IsReached layout p) l.states.items) (sym w.next-is)
@@ -42,6 +43,11 @@ loop-pass-preserved g c =
                 (sym w.next-is) (below_more (λ (a : ℕ). IsFollowed layout p new s a) pass
                 (λ a less. followed_kept layout p old new s a keeps (held.followed a less))
                 (inr (after, goes, has_added old new after added)));
+            ends = λ h.
+                let count = c.passes-pass-end.ensures.passes in
+                let less = c.loop-pass-test.true in
+                let rests = h pass (omega arith) goes.lane goes.at goes.number goes.next.after in
+                absurd (let z : false ≡ true = sym rests ∙ goes.next.due in cc);
           }
       | in_default w ↦
           let rests = subst (λ (o : Option State). MatchOption o (Rests layout p s pass) (GoesTo layout p pass s))
@@ -52,6 +58,7 @@ loop-pass-preserved g c =
             keeps = λ t h. subst (λ (l : Level). HasAlike l.states.items t) (sym w.next-is) (held.keeps t h);
             followed = subst (λ (l : Level). (a : ℕ) → a < pass + 1 → IsFollowed layout p l.states.items s a)
                 (sym w.next-is) (below_more (λ (a : ℕ). IsFollowed layout p old s a) pass held.followed (inl rests));
+            ends = λ h. w.goes_on-is ∙ held.ends h;
           }
     ]
 

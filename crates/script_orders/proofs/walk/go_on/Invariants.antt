@@ -2,7 +2,7 @@ use Rattle.std.proofs.Common.{◌≡◌, ℕ, ◌<◌, false}
 use Rattle.std.specs.List.{All}
 use Rattle.script_orders.specs.declared.state.State.{State}
 use Rattle.script_orders.specs.Reached.{IsReached, Rests}
-use Rattle.script_orders.specs.Walks.{HasAlike, IsFollowed}
+use Rattle.script_orders.specs.Walks.{HasAlike, IsFollowed, AllRest}
 use Rattle.script_orders.proofs.walk.go_on.Given as goal
 
 abbrev pub invariant-loop-pass : goal.invariant-loop-pass
@@ -11,4 +11,5 @@ invariant-loop-pass g l = record {
   rests : l.goes_on ≡ false → (a : ℕ) → a < l.pass → Rests g.L.KeyLayout.layout l.program l.state a;
   keeps : (t : State) → HasAlike l.initial.next.states.items t → HasAlike l.next.states.items t;
   followed : (a : ℕ) → a < l.pass → IsFollowed g.L.KeyLayout.layout l.program l.next.states.items l.state a;
+  ends : AllRest g.L.KeyLayout.layout l.program l.state → l.goes_on ≡ false;
 }

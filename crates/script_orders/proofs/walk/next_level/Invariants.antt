@@ -2,7 +2,7 @@ use Rattle.std.proofs.Common.{◌≡◌, ℕ, ◌<◌, Some, slice_get}
 use Rattle.std.specs.List.{All}
 use Rattle.script_orders.specs.declared.state.State.{State}
 use Rattle.script_orders.specs.Reached.{IsReached, IsOutcome}
-use Rattle.script_orders.specs.Walks.{IsFollowed}
+use Rattle.script_orders.specs.Walks.{IsFollowed, HasEnd, KeepsFound, AllRest}
 use Rattle.script_orders.proofs.walk.next_level.Given as goal
 
 abbrev pub invariant-loop-state : goal.invariant-loop-state
@@ -12,4 +12,7 @@ invariant-loop-state g l = record {
   followed : (place : ℕ) (s : State) → place < l.state-index → slice_get l.level.states.items place ≡ Some s
       → (pass : ℕ) → pass < l.program.shape.passes
       → IsFollowed g.L.KeyLayout.layout l.program l.next.states.items s pass;
+  keeps : KeepsFound l.initial.whole.found.items l.whole.found.items;
+  ends : (place : ℕ) (s : State) → place < l.state-index → slice_get l.level.states.items place ≡ Some s
+      → AllRest g.L.KeyLayout.layout l.program s → HasEnd g.L.KeyLayout.layout l.program l.whole.found.items s;
 }

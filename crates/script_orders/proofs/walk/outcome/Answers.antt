@@ -1,4 +1,4 @@
-use Rattle.std.proofs.Common.{◌≡◌, List, ℕ, ◌++◌, sym, ap, subst, ◌∙◌, arith, map, Some, slice_get}
+use Rattle.std.proofs.Common.{◌≡◌, List, ℕ, ◌++◌, refl, sym, ap, subst, ◌∙◌, arith, map, Some, slice_get}
 use Rattle.std.specs.List.{range_with_len}
 use Rattle.std.proofs.lemmas.Option.{slice_get_within}
 use Rattle.script_orders.specs.Lanes.{Did}
@@ -36,3 +36,6 @@ returns-clause-is g c =
       pages = c.in_ok-pages.ensures witness (ap (world_by layout p) is
           ∙ world_same layout p order words lanes leads rests);
     }
+
+pub returns-clause-pages : goal.returns-clause-pages
+returns-clause-pages g c = c.in_ok-pages.ensures c.args.state.now.order.items refl

@@ -1,4 +1,4 @@
-use Rattle.std.proofs.Common.{ap, ◌∙◌, List, ℕ, Vec}
+use Rattle.std.proofs.Common.{ap, ◌∙◌}
 use Rattle.std.specs.Prelude.{vec_items}
 use Rattle.script_orders.specs.Lanes.{did}
 use Rattle.script_orders.specs.Reached.{lanes_of}
@@ -17,8 +17,8 @@ loop-pass-preserved c =
       | in-Some+in_ok-push_lines w ↦
           let lane = w.in-Some.lane.now in
           let look = w.in-Some.ensures.lookup in
-          let at = lane_at s pass lane (found_at c.deref.result.now s.lanes.items pass lane c.deref.ensures.value look.3.0
-          look.1) in
+          let at = lane_at s pass lane
+          (found_at c.deref.result.now s.lanes.items pass lane c.deref.ensures.value look.3.0 look.1) in
           ap vec_items w.order-is
           ∙ left_lines lines (lanes_of s) pass (did lane) s.order.items old w.push_lines.new.order.items at
           c.loop-pass.invariant w.in_ok-push_lines.ensures
