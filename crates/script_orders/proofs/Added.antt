@@ -13,9 +13,9 @@ use Rattle.script_orders.specs.declared.lane.Lane.{Lane}
 use Rattle.script_orders.specs.declared.state.State.{State}
 use Rattle.script_orders.specs.Lanes.{did}
 use Rattle.script_orders.specs.Reached.{LeadsTo, lanes_of, IsReached}
-use Rattle.script_orders.specs.States.{AreAlike, WithOrders, Added}
+use Rattle.script_orders.specs.States.{AreAlike, HasAlike, WithOrders, Added}
 use Rattle.script_orders.specs.States.Added.{merged, pushed}
-use Rattle.script_orders.specs.Walks.{HasAlike, IsFollowed}
+use Rattle.script_orders.specs.Walks.{IsFollowed}
 use Rattle.script_orders.proofs.ListSteps.{get_set_same, get_set_other, get_push, get_last}
 
 pub all_set : {A : Type 0} (P : A → Type 0) (xs : List A) (i : ℕ) (y : A) → i < length xs → P y → All P xs
@@ -46,7 +46,7 @@ added_reached layout p old new s (merged place there both at alike with' is) all
     subst (IsReached layout p) (get_or_from_slice_get old place there there at) (all place there less) in
     subst (All (IsReached layout p)) (sym is)
     (all_set (IsReached layout p) old place both less (with_orders layout p there s both with' here) all)
-added_reached layout p old new s (pushed is) all reached =
+added_reached layout p old new s (pushed none is) all reached =
     subst (All (IsReached layout p)) (sym is) (all_push (IsReached layout p) old s reached all)
 
 -- ---- which states a level has
@@ -71,7 +71,7 @@ keeps_alike old new s (merged place there both at alike with' is) t (k, u, got, 
           )
       | inr ne ↦ (k, u, here ∙ get_set_other old place k both ne ∙ got, same)
     ]
-keeps_alike old new s (pushed is) t (k, u, got, same) =
+keeps_alike old new s (pushed none is) t (k, u, got, same) =
     (k, u, ap (λ (xs : List State). slice_get xs k) is ∙ get_push old k u s got, same)
 
 pub has_added : (old new : List State) (s : State) → Added old s new → HasAlike new s
@@ -81,7 +81,7 @@ has_added old new s (merged place there both at alike with' is) = (
   ap (λ (xs : List State). slice_get xs place) is ∙ get_set_same old place there both at,
   with_alike there s both s with' alike,
 )
-has_added old new s (pushed is) = (
+has_added old new s (pushed none is) = (
   length old,
   s,
   ap (λ (xs : List State). slice_get xs (length old)) is

@@ -10,6 +10,7 @@ mod GoneOn
 mod Ends
 mod Walked
 mod Added
+mod Marked
 mod FirstLines
 mod Coming
 mod SamePages

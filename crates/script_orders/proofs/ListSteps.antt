@@ -1,5 +1,6 @@
 -- One element of a list changed, or one more.
-use Rattle.std.proofs.Common.{◌≡◌, ◌≢◌, ℕ, zero, suc, List, [], ◌∷◌, ◌++◌, length, refl, ap, Some, None, slice_get}
+use Rattle.std.proofs.Common.{◌≡◌, ◌≢◌, ◌⊎◌, ℕ, zero, suc, List, [], ◌∷◌, ◌++◌, length, refl, ap, Some, None, slice_get}
+use Rattle.std.proofs.Common.{inl, inr}
 use Rattle.std.specs.Prelude.{slice_set}
 
 pub get_set_same : {A : Type 0} (xs : List A) (i : ℕ) (x y : A) → slice_get xs i ≡ Some x
@@ -25,3 +26,14 @@ get_push (z ∷ xs) (suc i) x y h = get_push xs i x y h
 pub get_last : {A : Type 0} (xs : List A) (y : A) → slice_get (xs ++ y ∷ []) (length xs) ≡ Some y
 get_last [] y = refl
 get_last (z ∷ xs) y = get_last xs y
+
+-- an element of a list with one more
+pub get_pushed : {A : Type 0} (xs : List A) (i : ℕ) (x y : A) → slice_get (xs ++ y ∷ []) i ≡ Some x
+    → (slice_get xs i ≡ Some x) ⊎ ((i ≡ length xs) × (y ≡ x))
+get_pushed [] zero x y h = inr (refl, let z : Some y ≡ Some x = h in cc)
+get_pushed [] (suc i) x y h = let z : None ≡ Some x = h in cc
+get_pushed (z ∷ xs) zero x y h = inl h
+get_pushed (z ∷ xs) (suc i) x y h = elim (get_pushed xs i x y h) [
+  | inl at ↦ inl at
+  | inr (e, is) ↦ inr (ap (λ (n : ℕ). suc n) e, is)
+]

@@ -31,6 +31,15 @@ left_of lines lanes pass =
 abbrev pub all_left : List Event → List Did → (passes : ℕ) → List ℕ
 all_left lines lanes passes = flat_map (left_of lines lanes) (range_with_len 0 passes)
 
+-- a state of these is alike
+abbrev pub HasAlike : List State → State → Type 0
+HasAlike level t = (place : ℕ) × (u : State) × (slice_get level place ≡ Some u) × AreAlike u t
+
+-- no two of them are alike
+abbrev pub AllDiffer : List State → Type 0
+AllDiffer level =
+    (i j : ℕ) (s t : State) → slice_get level i ≡ Some s → slice_get level j ≡ Some t → AreAlike s t → i ≡ j
+
 -- a state with the orders of another too
 pub record WithOrders (s t u : State) : Type 0 where
   pub order : u.order ≡ s.order
@@ -39,8 +48,8 @@ pub record WithOrders (s t u : State) : Type 0 where
   pub words : u.words ≡ s.words
   pub orders : u.orders.count ≡ min (s.orders.count + t.orders.count) (2 ^ 128 - 1)
 
--- a state is added to others: its orders to those of a state that is alike, or else the state itself
+-- a state is added to others: its orders to those of a state that is alike, or else, if none is, the state itself
 pub data Added (old : List State) (s : State) (new : List State) : Type 0 where
   merged : (place : ℕ) (there both : State) → slice_get old place ≡ Some there → AreAlike there s
       → WithOrders there s both → new ≡ slice_set old place both → Added old s new
-  pushed : new ≡ old ++ s ∷ [] → Added old s new
+  pushed : ¬ HasAlike old s → new ≡ old ++ s ∷ [] → Added old s new

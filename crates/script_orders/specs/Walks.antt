@@ -13,7 +13,7 @@ use Rattle.script_orders.specs.Lanes.{Did, and_then}
 use Rattle.script_orders.specs.Orders.{is_of, lines_within, reply_line}
 use Rattle.script_orders.specs.Reached.{plan_in, world_by, replies_by, is_due, IsNext, lanes_of, IsReached, IsWorldOf}
 use Rattle.script_orders.specs.Reached.{Rests, pages_asked, Has, HasOutcome}
-use Rattle.script_orders.specs.States.{AreAlike}
+use Rattle.script_orders.specs.States.{HasAlike}
 
 -- The pass does its next line in the first state, and then the second one is reached. In each world of the first state
 -- the line is replied the same, and leads to a world of the second
@@ -33,10 +33,6 @@ pub record GoesTo (layout : Layout) (p : Program) (pass : ℕ) (s t : State) : T
   pub alike : (v : World) → IsWorldOf layout p s v → (outcome_of (plan_in layout p) v event
       ≡ outcome_of (plan_in layout p) (world_by layout p s.order.items) event)
       × IsWorldOf layout p t (step (plan_in layout p) v event)
-
--- a state of the level is alike
-abbrev pub HasAlike : List State → State → Type 0
-HasAlike level t = (place : ℕ) × (u : State) × (slice_get level place ≡ Some u) × AreAlike u t
 
 -- the pass rests in the state, or the next level has what it goes to
 abbrev pub IsFollowed : Layout → Program → List State → State → (pass : ℕ) → Type 0

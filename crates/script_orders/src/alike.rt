@@ -1,5 +1,7 @@
 //! Which states are alike.
-ghost use Rattle.std.specs.Prelude.{◌↔◌, IsTrue};
+ghost use Rattle.std.specs.Prelude.{◌≡◌, ◌↔◌, IsTrue};
+ghost use Rattle.script_orders.specs.Lanes.{did};
+ghost use Rattle.script_orders.specs.Marks.{mixed, with_lane, mark_of};
 ghost use Rattle.script_orders.specs.States.{AreAlike};
 
 use crate::lane::Lane;
@@ -10,11 +12,18 @@ const PRIME: u64 = 0x0100_0000_01b3;
 
 const BASIS: u64 = 0xcbf2_9ce4_8422_2325;
 
-fn mixed(mark: u64, number: u64) -> u64 {
+// The mark with this number mixed into it.
+#[tactic(auto, unfolding(crate::specs::Marks::mixed))]
+fn mixed(mark: u64, number: u64) -> u64
+    ensures { result ≡ mixed mark number }
+{
     (mark ^ number).wrapping_mul(PRIME)
 }
 
-fn mark_of_lane(mut mark: u64, lane: &Lane) -> u64 {
+// The mark with the steps of a lane mixed into it.
+fn mark_of_lane(mut mark: u64, lane: &Lane) -> u64
+    ensures { result ≡ with_lane mark (did lane.now) }
+{
     for step in &lane.story {
         mark = mixed(mixed(mark, step.line as u64), step.seen);
     }
@@ -22,7 +31,9 @@ fn mark_of_lane(mut mark: u64, lane: &Lane) -> u64 {
 }
 
 /// A number that states which are alike share. Few others share it.
-pub fn mark_of(state: &State) -> u64 {
+pub fn mark_of(state: &State) -> u64
+    ensures { result ≡ mark_of state.now }
+{
     let mut mark = BASIS;
     for lane in &state.lanes {
         mark = mark_of_lane(mark, lane);

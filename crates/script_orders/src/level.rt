@@ -1,7 +1,8 @@
 //! The states after one number of steps.
-ghost use Rattle.std.specs.Prelude.{◌≡◌, ◌<◌, [], Some, IfSome, OnOk, slice_get};
+ghost use Rattle.std.specs.Prelude.{◌≡◌, [], Some, MatchOption, OnOk, map, slice_get};
 ghost use Rattle.script_orders.specs.declared.state.State.{State};
-ghost use Rattle.script_orders.specs.States.{AreAlike, Added};
+ghost use Rattle.script_orders.specs.Marks.{mark_of};
+ghost use Rattle.script_orders.specs.States.{AreAlike, HasAlike, AllDiffer, Added};
 
 use crate::alike::{are_alike, mark_of};
 use crate::state::State;
@@ -14,6 +15,8 @@ pub struct Level {
     pub states: Vec<State>,
     // The mark of each.
     marks: Vec<u64>,
+    ghost marks_are: { marks.items ≡ map mark_of states.items },
+    ghost differ: { AllDiffer states.items },
 }
 
 impl Level {
@@ -29,14 +32,12 @@ impl Level {
 
     // The place of the state that is alike.
     fn place_of(&self, mark: u64, state: &State) -> Option<usize>
-        ensures { IfSome result (λ place. (there : State)
+        requires { mark ≡ mark_of state.now }
+        ensures { MatchOption result (¬ HasAlike self.now.states.items state.now) (λ place. (there : State)
             × (slice_get self.now.states.items place ≡ Some there) × AreAlike there state.now) }
     {
-        for (place, other) in self.marks.iter().enumerate() {
-            if *other == mark
-                && let Some(there) = self.states.get(place)
-                && are_alike(there, state)
-            {
+        for (place, there) in self.states.iter().enumerate() {
+            if self.marks[place] == mark && are_alike(there, state) {
                 return Some(place);
             }
         }
@@ -53,8 +54,10 @@ impl Level {
             there.orders = there.orders.plus(state.orders);
             return Ok(());
         }
-        self.marks.push(mark)?;
+        // Room for the mark comes first, so that both lists grow or neither does.
+        self.marks.reserve(1)?;
         self.states.push(state)?;
+        self.marks.push(mark)?;
         Ok(())
     }
 }

@@ -7,7 +7,8 @@ ghost use Rattle.script_orders.specs.declared.found.Found.{Found};
 ghost use Rattle.script_orders.specs.declared.found.Program.{Program};
 ghost use Rattle.script_orders.specs.declared.state.State.{State};
 ghost use Rattle.script_orders.specs.Counts.{CountsEnd};
-ghost use Rattle.script_orders.specs.Walks.{GoesTo, HasAlike, IsFollowed, GoesOn, HasEnd, IsSame, KeepsFound, AllRest};
+ghost use Rattle.script_orders.specs.States.{HasAlike};
+ghost use Rattle.script_orders.specs.Walks.{GoesTo, IsFollowed, GoesOn, HasEnd, IsSame, KeepsFound, AllRest};
 ghost use Rattle.script_orders.specs.Reached.{world_by, pages_by, pages_asked, lanes_of, IsHeap, IsReached, Rests};
 ghost use Rattle.script_orders.specs.Reached.{IsOutcome, AreOutcomes, Has, IsComplete};
 

@@ -4,7 +4,8 @@ use Rattle.std.specs.List.{All}
 use Rattle.script_orders.specs.declared.level.Level.{Level}
 use Rattle.script_orders.specs.declared.state.State.{State}
 use Rattle.script_orders.specs.Reached.{IsReached, Rests}
-use Rattle.script_orders.specs.Walks.{GoesTo, HasAlike, IsFollowed}
+use Rattle.script_orders.specs.States.{HasAlike}
+use Rattle.script_orders.specs.Walks.{GoesTo, IsFollowed}
 use Rattle.script_orders.proofs.Added.{added_reached, keeps_alike, has_added, followed_kept}
 use Rattle.script_orders.proofs.walk.go_on.Goals as goal
 use Rattle.script_orders.proofs.walk.go_on.Goals.{in-Some+in_ok-add, in_default}

@@ -2,7 +2,8 @@ use Rattle.std.proofs.Common.{◌≡◌, ℕ, ◌<◌, false}
 use Rattle.std.specs.List.{All}
 use Rattle.script_orders.specs.declared.state.State.{State}
 use Rattle.script_orders.specs.Reached.{IsReached, Rests}
-use Rattle.script_orders.specs.Walks.{HasAlike, IsFollowed, AllRest}
+use Rattle.script_orders.specs.States.{HasAlike}
+use Rattle.script_orders.specs.Walks.{IsFollowed, AllRest}
 use Rattle.script_orders.proofs.walk.go_on.Given as goal
 
 abbrev pub invariant-loop-pass : goal.invariant-loop-pass
