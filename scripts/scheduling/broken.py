@@ -9,7 +9,7 @@ since no proof looks at how the steps are compiled, nor the last two. Those with
 judges how many holds a key has. A search that passes over an armed page loses a slot only while its freer is in the
 middle of the free, when Full is right too. A page is in the queue of its class still when JUDGE frees a slot of it.
 
-The copy's tool_stress judges one thing more (JUDGE): while nothing else runs, a full shard has room again once another
+The copy's tool_rounds judges one thing more (JUDGE): while nothing else runs, a full shard has room again once another
 pass has removed one of its values, and once its owner has.
 """
 import collections
@@ -259,10 +259,10 @@ HEAPS = [
     ),
 ]
 
-# File, old text and new text of the copy's tool_stress.
+# File, old text and new text of the copy's tool_rounds.
 JUDGE = [
     (
-        "tool_stress/src/ending.rt",
+        "tool_rounds/src/ending.rt",
         """    if let Some(worker) = workers.first_mut() {
         worker.fill(moments, len);
 """,
@@ -274,23 +274,23 @@ JUDGE = [
 """,
     ),
     (
-        "tool_stress/src/worker.rt",
+        "tool_rounds/src/worker.rt",
         """    /// Fills each shard with values of `len` words. Nobody owns a shard.
 """,
         """    // Fills the first shard, and again after another pass and after the owner removed a value. A slot of the
     // layout with few holds has few generations, so it may be retired.
     pub fn refill(&mut self, other: &mut Self, moments: &Moments, len: usize) {
-        if L::GUARD_MAX < 5 {
+        if owning::has_few_holds::<P::Layout>() {
             return;
         }
         let actor = match self.moving() {
-            Actor::Lone(lone) => owning::adopt(self.alloc, lone, &mut self.record, 0),
+            Actor::Lone(lone) => owning::adopt::<P>(self.alloc, lone, &mut self.record, 0),
             actor => actor,
         };
         let actor = match actor {
             Actor::Owner(mut owner) => {
-                owning::refill(&mut owner, &mut self.record, other, moments, len);
-                owning::leave(owner, &mut self.record)
+                owning::refill::<C, P>(&mut owner, &mut self.record, other, moments, len);
+                owning::leave::<P>(owner, &mut self.record)
             }
             actor => actor,
         };
@@ -309,20 +309,25 @@ JUDGE = [
 """,
     ),
     (
-        "tool_stress/src/owning.rt",
+        "tool_rounds/src/owning.rt",
         """/// Adopts a shard that nobody owns, inserts values of `len` words until it is full, and leaves it.
 """,
-        """// Fills the shard, and again after another pass and after the owner removed a value.
-pub fn refill<L: KeyLayout, H: Home>(
-    owner: &mut Owner<'_, L, H>,
+        """// Whether the layout is the one with few holds.
+pub fn has_few_holds<L: sh_key::KeyLayout>() -> bool {
+    L::GUARD_MAX < 5
+}
+
+// Fills the shard, and again after another pass and after the owner removed a value.
+pub fn refill<C: Drop, P: LonePass<Receipt = C>>(
+    owner: &mut P::Owner,
     record: &mut Record,
-    other: &mut crate::worker::Worker<'_, L, H>,
+    other: &mut crate::worker::Worker<P>,
     moments: &Moments,
     len: usize,
 ) {
     let mut last = None;
     for _ in 0..MOST_SLOTS {
-        let Some(key) = put(owner, record, moments, len) else {
+        let Some(key) = put::<P>(owner, record, moments, len) else {
             break;
         };
         last = Some(key);
@@ -331,12 +336,12 @@ pub fn refill<L: KeyLayout, H: Home>(
         return;
     };
     other.remove_key(moments, key);
-    let Some(key) = put(owner, record, moments, len) else {
+    let Some(key) = put::<P>(owner, record, moments, len) else {
         record.refused(Call::Insert, Refusal::Full);
         return;
     };
     using::remove(owner, record, moments, key);
-    if put(owner, record, moments, len).is_none() {
+    if put::<P>(owner, record, moments, len).is_none() {
         record.refused(Call::Insert, Refusal::Full);
     }
 }

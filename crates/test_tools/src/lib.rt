@@ -1,4 +1,4 @@
-//! Tests of the judge of the stress program, of recorded histories, and of the load of the bench.
+//! Tests of the judge and of the rounds of the stress program, of recorded histories, and of the load of the bench.
 #![tactic(auto)]
 
 #[cfg(test)]
@@ -9,3 +9,5 @@ mod judge;
 mod load;
 #[cfg(test)]
 mod recorded;
+#[cfg(test)]
+mod rounds;

@@ -45,10 +45,3 @@ impl<H: Home> HomeReceipt<H> {
         receipt
     }
 }
-
-/// A key, with a receipt of the thread that inserted it, or of one that heeded that thread's receipt.
-#[derive(Drop)]
-pub struct Letter<H: Home> {
-    pub key: u64,
-    pub told: HomeReceipt<H>,
-}

@@ -1,18 +1,20 @@
 //! A pass that owns no shard.
 ghost use Rattle.std.specs.Prelude.{◌≡◌, Some};
 
-use crate::board::Board;
-use crate::home::{Home, HomeReceipt, Letter};
+use crate::home::{Home, HomeReceipt};
 use crate::owner::Owner;
 use crate::stopped::Stopped;
-use crate::user::User;
+use sh_core::Accounts;
+use sh_gather::{Whole, whole};
 use sh_key::KeyLayout;
 use sh_pass::Pass;
 use sh_shard::Shard;
+use sh_step::Action;
 use sh_value::{Hold, Refusal, Value};
 use std::alloc::Global;
 use std::marker::PhantomData;
-use std::sync::Wait;
+use tool_rounds::pass::LonePass;
+use tool_rounds::user::User;
 
 /// A pass of the heap that `H` names.
 #[derive(Drop)]
@@ -40,50 +42,11 @@ impl<'a, L: KeyLayout, H: Home> Lone<'a, L, H> {
         let Lone { pass, home: _ } = self;
         pass
     }
-
-    /// Adopts a shard. A refusal returns the pass.
-    pub fn adopt(self, alloc: Global, shard: u64) -> Result<Owner<'a, L, H>, (Self, Refusal)> {
-        match Shard::adopt(alloc, self.into_pass(), shard) {
-            Ok(shard) => Ok(Owner::new(shard)),
-            Err((pass, refusal)) => Err((Lone::new(pass), refusal)),
-        }
-    }
-
-    /// Lets the pass run step by step, by hand.
-    pub fn begin(self) -> Stopped<'a, L, H> {
-        Stopped::new(self.into_pass().begin())
-    }
-
-    /// Joins two passes. The first one then carries both tales.
-    pub fn join(self, other: Self) -> Self {
-        Lone::new(sh_gather::join(self.into_pass(), other.into_pass()))
-    }
-
-    /// A receipt of all that its calls returned, and of all receipts that it heeded.
-    pub fn receipt(&mut self) -> HomeReceipt<H> {
-        HomeReceipt::new(self.pass.receipt())
-    }
-
-    /// Everything that the receipt covers happens before each later reply to this pass.
-    pub fn heed(&mut self, told: HomeReceipt<H>) {
-        self.pass.heed(told.into_receipt());
-    }
-
-    /// Heeds the receipt at a place of the board, and returns the key there. It replaces the receipt by one of its own,
-    /// which covers all that the former one covers.
-    pub fn look<R: Wait>(&mut self, board: &Board<'_, R, H>, number: u64) -> Option<u64> {
-        let mut place = board.look(number)?;
-        let Letter { key, told } = place.take()?;
-        self.heed(told);
-        *place = Some(Letter {
-            key,
-            told: self.receipt(),
-        });
-        Some(key)
-    }
 }
 
-impl<L: KeyLayout, H: Home> User for Lone<'_, L, H> {
+impl<L: KeyLayout, H: Home + Send> User for Lone<'_, L, H> {
+    type Receipt = HomeReceipt<H>;
+
     fn get(&mut self, key: u64) -> Result<Hold, Refusal> {
         self.pass.get(key)
     }
@@ -104,5 +67,62 @@ impl<L: KeyLayout, H: Home> User for Lone<'_, L, H> {
 
     fn release(&mut self, hold: Hold) -> Result<(), Refusal> {
         self.pass.release(hold)
+    }
+
+    fn receipt(&mut self) -> HomeReceipt<H> {
+        HomeReceipt::new(self.pass.receipt())
+    }
+
+    fn heed(&mut self, told: HomeReceipt<H>) {
+        self.pass.heed(told.into_receipt());
+    }
+}
+
+impl<'a, L: KeyLayout + Send, H: Home + Send + Sync> LonePass for Lone<'a, L, H> {
+    type Layout = L;
+
+    type Owner = Owner<'a, L, H>;
+
+    type Stopped = Stopped<'a, L, H>;
+
+    type Whole = Whole<'a, L>;
+
+    fn adopt(self, alloc: Global, shard: u64) -> Result<Owner<'a, L, H>, (Self, Refusal)> {
+        match Shard::adopt(alloc, self.into_pass(), shard) {
+            Ok(shard) => Ok(Owner::new(shard)),
+            Err((pass, refusal)) => Err((Lone::new(pass), refusal)),
+        }
+    }
+
+    fn insert(owner: &mut Owner<'a, L, H>, value: &Value) -> Result<u64, Refusal> {
+        owner.insert(value)
+    }
+
+    fn leave(owner: Owner<'a, L, H>) -> Result<Self, (Owner<'a, L, H>, Refusal)> {
+        owner.leave()
+    }
+
+    fn begin(self) -> Stopped<'a, L, H> {
+        Stopped::new(self.into_pass().begin())
+    }
+
+    fn act(stopped: &mut Stopped<'a, L, H>, action: &Action) -> bool {
+        stopped.act(action)
+    }
+
+    fn end(stopped: Stopped<'a, L, H>) -> Result<Self, Stopped<'a, L, H>> {
+        stopped.end()
+    }
+
+    fn join(self, other: Self) -> Self {
+        Lone::new(sh_gather::join(self.into_pass(), other.into_pass()))
+    }
+
+    fn whole(self) -> Option<Whole<'a, L>> {
+        whole(self.into_pass()).ok()
+    }
+
+    fn accounts(whole: &mut Whole<'a, L>, shard: u32, page: u32) -> Option<Accounts> {
+        whole.accounts(shard, page)
     }
 }

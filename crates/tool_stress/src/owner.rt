@@ -1,15 +1,13 @@
 //! A pass that owns a shard.
 ghost use Rattle.std.specs.Prelude.{◌≡◌, Some};
 
-use crate::board::Board;
-use crate::home::{Home, HomeReceipt, Letter};
+use crate::home::{Home, HomeReceipt};
 use crate::lone::Lone;
-use crate::user::User;
 use sh_key::KeyLayout;
 use sh_shard::Shard;
 use sh_value::{Hold, Refusal, Value};
 use std::marker::PhantomData;
-use std::sync::Wait;
+use tool_rounds::user::User;
 
 /// A shard of the heap that `H` names.
 #[derive(Drop)]
@@ -43,32 +41,11 @@ impl<'a, L: KeyLayout, H: Home> Owner<'a, L, H> {
             Err((shard, refusal)) => Err((Owner::new(shard), refusal)),
         }
     }
-
-    /// A receipt of all that its calls returned, and of all receipts that it heeded.
-    pub fn receipt(&mut self) -> HomeReceipt<H> {
-        HomeReceipt::new(self.shard.receipt())
-    }
-
-    /// Everything that the receipt covers happens before each later reply to this owner.
-    pub fn heed(&mut self, told: HomeReceipt<H>) {
-        self.shard.heed(told.into_receipt());
-    }
-
-    /// Heeds the receipt at a place of the board, and returns the key there. It replaces the receipt by one of its own,
-    /// which covers all that the former one covers.
-    pub fn look<R: Wait>(&mut self, board: &Board<'_, R, H>, number: u64) -> Option<u64> {
-        let mut place = board.look(number)?;
-        let Letter { key, told } = place.take()?;
-        self.heed(told);
-        *place = Some(Letter {
-            key,
-            told: self.receipt(),
-        });
-        Some(key)
-    }
 }
 
-impl<L: KeyLayout, H: Home> User for Owner<'_, L, H> {
+impl<L: KeyLayout, H: Home + Send> User for Owner<'_, L, H> {
+    type Receipt = HomeReceipt<H>;
+
     fn get(&mut self, key: u64) -> Result<Hold, Refusal> {
         self.shard.get(key)
     }
@@ -89,5 +66,13 @@ impl<L: KeyLayout, H: Home> User for Owner<'_, L, H> {
 
     fn release(&mut self, hold: Hold) -> Result<(), Refusal> {
         self.shard.release(hold)
+    }
+
+    fn receipt(&mut self) -> HomeReceipt<H> {
+        HomeReceipt::new(self.shard.receipt())
+    }
+
+    fn heed(&mut self, told: HomeReceipt<H>) {
+        self.shard.heed(told.into_receipt());
     }
 }

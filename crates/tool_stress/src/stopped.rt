@@ -32,24 +32,6 @@ impl<'a, L: KeyLayout, H: Home> Stopped<'a, L, H> {
         self.busy.act(action)
     }
 
-    /// Does the next step that ends a removal, a release or a refused get. False if nothing is left to do.
-    pub fn go_on(&mut self) -> bool {
-        let steps = [
-            Action::Drop,
-            Action::Finish,
-            Action::Put,
-            Action::Tie,
-            Action::Ring,
-            Action::RingTie,
-        ];
-        for action in &steps {
-            if self.act(action) {
-                return true;
-            }
-        }
-        false
-    }
-
     /// Returns the plain pass, if it has ended all that it began. Otherwise returns itself.
     pub fn end(self) -> Result<Lone<'a, L, H>, Self> {
         let Stopped { busy, home: _ } = self;

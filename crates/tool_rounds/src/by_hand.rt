@@ -1,11 +1,8 @@
 //! Turns by hand: each step of a removal, get or release is a turn of its own, so that others can act between steps.
 use crate::actor::{Actor, Task};
 use crate::board::Board;
-use crate::home::Home;
-use crate::lone::Lone;
 use crate::moments::Moments;
-use crate::stopped::Stopped;
-use sh_key::KeyLayout;
+use crate::pass::LonePass;
 use sh_step::Action;
 use sh_value::Hold;
 use std::sync::Wait;
@@ -16,33 +13,33 @@ use tool_judge::line::{Span, Told};
 use tool_judge::record::Record;
 
 /// Begins a get, a release or a removal by hand.
-pub fn begin<'a, R: Wait, L: KeyLayout, H: Home>(
-    mut lone: Lone<'a, L, H>,
+pub fn begin<R: Wait, C: Drop, P: LonePass<Receipt = C>>(
+    mut lone: P,
     record: &mut Record,
-    board: &Board<'_, R, H>,
+    board: &Board<'_, R, C>,
     dice: &mut Dice,
-) -> Actor<'a, L, H> {
+) -> Actor<P> {
     record.counts.one(Count::Begun);
-    let key = lone.look(board, dice.word());
+    let key = board.look(&mut lone, dice.word());
     let stopped = lone.begin();
     let moments = &board.moments;
     match (dice.below(8), key) {
-        (0, Some(key)) => get(stopped, record, moments, key),
-        (1..4, _) => release(stopped, record, moments),
-        (_, Some(key)) => remove(stopped, record, moments, key),
-        _ => end(stopped, record),
+        (0, Some(key)) => get::<P>(stopped, record, moments, key),
+        (1..4, _) => release::<P>(stopped, record, moments),
+        (_, Some(key)) => remove::<P>(stopped, record, moments, key),
+        _ => end::<P>(stopped, record),
     }
 }
 
 // Does a step, and returns the span of time that it took, or `None` if its condition did not hold.
-fn act<L: KeyLayout, H: Home>(
-    stopped: &mut Stopped<'_, L, H>,
+fn act<P: LonePass>(
+    stopped: &mut P::Stopped,
     record: &mut Record,
     moments: &Moments,
     action: &Action,
 ) -> Option<Span> {
     let begin = moments.next();
-    if !stopped.act(action) {
+    if !P::act(stopped, action) {
         return None;
     }
     record.counts.one(Count::Acts);
@@ -51,19 +48,19 @@ fn act<L: KeyLayout, H: Home>(
 
 // Enters the slot of a key, to get it. If the pass has nothing left to do after that step, it has a hold. Otherwise the
 // get was refused as gone or as crowded, and the step does not return which.
-fn get<'a, L: KeyLayout, H: Home>(
-    mut stopped: Stopped<'a, L, H>,
+fn get<P: LonePass>(
+    mut stopped: P::Stopped,
     record: &mut Record,
     moments: &Moments,
     key: u64,
-) -> Actor<'a, L, H> {
-    let Some(span) = act(&mut stopped, record, moments, &Action::EnterGet(key)) else {
+) -> Actor<P> {
+    let Some(span) = act::<P>(&mut stopped, record, moments, &Action::EnterGet(key)) else {
         if !record.is_full() {
             record.unbegun(Call::Get);
         }
-        return end(stopped, record);
+        return end::<P>(stopped, record);
     };
-    match stopped.end() {
+    match P::end(stopped) {
         Ok(lone) => {
             record.got(Hold { key }, span);
             Actor::Lone(lone)
@@ -73,16 +70,16 @@ fn get<'a, L: KeyLayout, H: Home>(
 }
 
 // Releases the first of the pass's holds.
-fn release<'a, L: KeyLayout, H: Home>(
-    mut stopped: Stopped<'a, L, H>,
+fn release<P: LonePass>(
+    mut stopped: P::Stopped,
     record: &mut Record,
     moments: &Moments,
-) -> Actor<'a, L, H> {
+) -> Actor<P> {
     let Some(held) = record.hold(0) else {
-        return end(stopped, record);
+        return end::<P>(stopped, record);
     };
     let key = held.hold.key;
-    match act(&mut stopped, record, moments, &Action::DropHold(key)) {
+    match act::<P>(&mut stopped, record, moments, &Action::DropHold(key)) {
         Some(span) => {
             record.counts.one(Count::Releases);
             record.tell(key, span, Told::Released);
@@ -94,30 +91,30 @@ fn release<'a, L: KeyLayout, H: Home>(
 }
 
 // Enters the slot of a key, to remove it.
-fn remove<'a, L: KeyLayout, H: Home>(
-    mut stopped: Stopped<'a, L, H>,
+fn remove<P: LonePass>(
+    mut stopped: P::Stopped,
     record: &mut Record,
     moments: &Moments,
     key: u64,
-) -> Actor<'a, L, H> {
-    match act(&mut stopped, record, moments, &Action::EnterRemove(key)) {
+) -> Actor<P> {
+    match act::<P>(&mut stopped, record, moments, &Action::EnterRemove(key)) {
         Some(span) => Actor::Stopped(stopped, Task::Removing(key, span)),
         None => {
             record.unbegun(Call::Remove);
-            end(stopped, record)
+            end::<P>(stopped, record)
         }
     }
 }
 
 // Marks the slot that the pass entered to remove its key. If there is nothing to mark, the key was gone at the entry.
-fn mark<L: KeyLayout, H: Home>(
-    stopped: &mut Stopped<'_, L, H>,
+fn mark<P: LonePass>(
+    stopped: &mut P::Stopped,
     record: &mut Record,
     moments: &Moments,
     key: u64,
     entered: Span,
 ) {
-    match act(stopped, record, moments, &Action::Mark) {
+    match act::<P>(stopped, record, moments, &Action::Mark) {
         Some(span) => {
             record.counts.one(Count::Marks);
             record.tell(key, span, Told::Marked);
@@ -130,11 +127,8 @@ fn mark<L: KeyLayout, H: Home>(
 }
 
 // Returns the pass to its plain state, if nothing is left to do.
-fn end<'a, L: KeyLayout, H: Home>(
-    stopped: Stopped<'a, L, H>,
-    record: &mut Record,
-) -> Actor<'a, L, H> {
-    match stopped.end() {
+fn end<P: LonePass>(stopped: P::Stopped, record: &mut Record) -> Actor<P> {
+    match P::end(stopped) {
         Ok(lone) => Actor::Lone(lone),
         Err(stopped) => {
             record.endless();
@@ -143,20 +137,38 @@ fn end<'a, L: KeyLayout, H: Home>(
     }
 }
 
+// Does the next step that ends a removal, a release or a refused get. False if nothing is left to do.
+fn goes_on<P: LonePass>(stopped: &mut P::Stopped) -> bool {
+    let steps = [
+        Action::Drop,
+        Action::Finish,
+        Action::Put,
+        Action::Tie,
+        Action::Ring,
+        Action::RingTie,
+    ];
+    for action in &steps {
+        if P::act(stopped, action) {
+            return true;
+        }
+    }
+    false
+}
+
 /// Does the next step of what the pass began.
-pub fn go_on<'a, L: KeyLayout, H: Home>(
-    mut stopped: Stopped<'a, L, H>,
+pub fn go_on<P: LonePass>(
+    mut stopped: P::Stopped,
     task: Task,
     record: &mut Record,
     moments: &Moments,
-) -> Actor<'a, L, H> {
+) -> Actor<P> {
     if let Task::Removing(key, entered) = task {
-        mark(&mut stopped, record, moments, key, entered);
+        mark::<P>(&mut stopped, record, moments, key, entered);
         return Actor::Stopped(stopped, Task::Ending);
     }
-    if stopped.go_on() {
+    if goes_on::<P>(&mut stopped) {
         record.counts.one(Count::Acts);
         return Actor::Stopped(stopped, Task::Ending);
     }
-    end(stopped, record)
+    end::<P>(stopped, record)
 }

@@ -3,6 +3,9 @@ use sh_value::{Hold, Refusal, Value};
 
 /// A pass or an owner, which gets, reads, removes and releases.
 pub trait User {
+    /// What one pass gives to another, so that what the one was answered happens before the other's later calls.
+    type Receipt: Drop + Send;
+
     /// Takes a hold on a key.
     fn get(&mut self, key: u64) -> Result<Hold, Refusal>;
 
@@ -17,4 +20,10 @@ pub trait User {
 
     /// Releases a hold.
     fn release(&mut self, hold: Hold) -> Result<(), Refusal>;
+
+    /// A receipt of all that its calls returned, and of all receipts that it heeded.
+    fn receipt(&mut self) -> Self::Receipt;
+
+    /// Everything that the receipt covers happens before each later reply to this pass.
+    fn heed(&mut self, told: Self::Receipt);
 }

@@ -2,7 +2,7 @@ use Rattle.std.proofs.Common.{◌≡◌, Some, sym, subst, rules}
 use Rattle.std.specs.List.{All}
 use Rattle.sh_pass.specs.Passes.{Caller}
 use Rattle.tool_stress.proofs.Newcomers.{newcomers_at_home}
-use Rattle.tool_stress.proofs.round.at_home.Goals as goal
+use Rattle.tool_stress.proofs.opened.at_home.Goals as goal
 
 pub named-requires : goal.named-requires
 named-requires g c =

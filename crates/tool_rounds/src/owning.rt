@@ -2,13 +2,11 @@
 ghost use Rattle.std.specs.Prelude.{◌≤◌};
 
 use crate::actor::Actor;
-use crate::board::Board;
-use crate::home::{Home, Letter};
-use crate::lone::Lone;
+use crate::board::{Board, Letter};
 use crate::moments::Moments;
-use crate::owner::Owner;
+use crate::pass::LonePass;
+use crate::user::User;
 use crate::using;
-use sh_key::KeyLayout;
 use sh_value::Refusal;
 use std::alloc::Global;
 use std::sync::Wait;
@@ -23,12 +21,7 @@ use tool_judge::record::Record;
 const MOST_SLOTS: u32 = 768;
 
 /// Tries to adopt a shard.
-pub fn adopt<'a, L: KeyLayout, H: Home>(
-    alloc: Global,
-    lone: Lone<'a, L, H>,
-    record: &mut Record,
-    shard: u64,
-) -> Actor<'a, L, H> {
+pub fn adopt<P: LonePass>(alloc: Global, lone: P, record: &mut Record, shard: u64) -> Actor<P> {
     match lone.adopt(alloc, shard) {
         Ok(owner) => {
             record.counts.one(Count::Adoptions);
@@ -45,11 +38,8 @@ pub fn adopt<'a, L: KeyLayout, H: Home>(
 }
 
 /// Tries to leave the shard.
-pub fn leave<'a, L: KeyLayout, H: Home>(
-    owner: Owner<'a, L, H>,
-    record: &mut Record,
-) -> Actor<'a, L, H> {
-    match owner.leave() {
+pub fn leave<P: LonePass>(owner: P::Owner, record: &mut Record) -> Actor<P> {
+    match P::leave(owner) {
         Ok(lone) => {
             record.counts.one(Count::Leaves);
             Actor::Lone(lone)
@@ -65,8 +55,8 @@ pub fn leave<'a, L: KeyLayout, H: Home>(
 }
 
 // Inserts a value of `len` words, and returns its key, or `None` if the insert was refused.
-fn put<L: KeyLayout, H: Home>(
-    owner: &mut Owner<'_, L, H>,
+fn put<P: LonePass>(
+    owner: &mut P::Owner,
     record: &mut Record,
     moments: &Moments,
     len: usize,
@@ -75,7 +65,7 @@ fn put<L: KeyLayout, H: Home>(
 {
     let begin = moments.next();
     let value = pattern::value(begin, len);
-    let answer = owner.insert(&value);
+    let answer = P::insert(owner, &value);
     let span = moments.since(begin);
     match answer {
         Ok(key) => {
@@ -95,14 +85,14 @@ fn put<L: KeyLayout, H: Home>(
 }
 
 /// Inserts a value of any length and leaves its key on the board, with a receipt. Removes the key that was there.
-pub fn insert<R: Wait, L: KeyLayout, H: Home>(
-    owner: &mut Owner<'_, L, H>,
+pub fn insert<R: Wait, C: Drop, P: LonePass<Receipt = C>>(
+    owner: &mut P::Owner,
     record: &mut Record,
-    board: &Board<'_, R, H>,
+    board: &Board<'_, R, C>,
     dice: &mut Dice,
 ) {
     let len = dice.below(17) as usize;
-    let Some(key) = put(owner, record, &board.moments, len) else {
+    let Some(key) = put::<P>(owner, record, &board.moments, len) else {
         return;
     };
     let letter = Letter {
@@ -116,14 +106,14 @@ pub fn insert<R: Wait, L: KeyLayout, H: Home>(
 }
 
 /// Adopts a shard that nobody owns, inserts values of `len` words until it is full, and leaves it.
-pub fn fill<'a, L: KeyLayout, H: Home>(
+pub fn fill<P: LonePass>(
     alloc: Global,
-    lone: Lone<'a, L, H>,
+    lone: P,
     record: &mut Record,
     moments: &Moments,
     shard: u64,
     len: usize,
-) -> Actor<'a, L, H>
+) -> Actor<P>
     requires { len ≤ 16 }
 {
     let Actor::Owner(mut owner) = adopt(alloc, lone, record, shard) else {
@@ -131,9 +121,9 @@ pub fn fill<'a, L: KeyLayout, H: Home>(
         return Actor::Moving;
     };
     for _ in 0..MOST_SLOTS {
-        if put(&mut owner, record, moments, len).is_none() {
+        if put::<P>(&mut owner, record, moments, len).is_none() {
             break;
         }
     }
-    leave(owner, record)
+    leave::<P>(owner, record)
 }

@@ -5,7 +5,7 @@ use std::alloc::{AllocError, Global};
 
 /// What the command line asks for.
 #[derive(Clone, Copy, Debug, PartialEq, Eq)]
-pub struct Options {
+pub struct Options<'a> {
     /// The number of threads.
     pub threads: u32,
     /// The number of passes of each thread.
@@ -16,11 +16,17 @@ pub struct Options {
     pub rounds: u64,
     /// The seed of all choices.
     pub seed: u64,
+    /// The file for the history of the last round, or of the key on which a fault was found.
+    pub record: Option<&'a str>,
 }
 
 /// The end of the help.
 const AFTER_HELP: &str = "Example:
   tool_stress --threads 4 --rounds 1000 --seed 7
+  tool_stress --rounds 1 --record round.history && tool_history < round.history
+
+If a fault is found, the history of its key is written to the standard output, or into
+the file of --record.
 
 Exit status:
   0  nothing was found, or help or the version was asked for
@@ -97,12 +103,18 @@ fn program<'a>(alloc: Global) -> Command<'a> {
         .after_help(AFTER_HELP)
 }
 
+fn record_option<'a>(alloc: Global) -> Arg<'a> {
+    valued(alloc, "record").value_name("FILE").help(
+        "Writes the history of the last round into FILE, for tool_history",
+    )
+}
+
 fn command<'a>(alloc: Global) -> Result<Command<'a>, AllocError> {
     let mut command = program(alloc);
     for number in NUMBERS {
         command = command.arg(number_option(alloc, number))?;
     }
-    Ok(command)
+    command.arg(record_option(alloc))
 }
 
 fn few(matches: &ArgMatches<'_>, name: &str, usual: u32) -> u32 {
@@ -113,18 +125,19 @@ fn many(matches: &ArgMatches<'_>, name: &str, usual: u64) -> u64 {
     matches.get_one::<u64>(name).unwrap_or(usual)
 }
 
-fn options_of(matches: &ArgMatches<'_>) -> Options {
+fn options_of<'a>(matches: &ArgMatches<'a>) -> Options<'a> {
     Options {
         threads: few(matches, "threads", 4),
         passes: few(matches, "passes", 2),
         steps: many(matches, "steps", 2000),
         rounds: many(matches, "rounds", 100),
         seed: many(matches, "seed", 1),
+        record: matches.get_str("record"),
     }
 }
 
 /// Reads the options of a command line, whose first word is the program's name. An error is clap's.
-pub fn read_options<'a>(alloc: Global, words: &'a [&'a str]) -> Result<Options, Error> {
+pub fn read_options<'a>(alloc: Global, words: &'a [&'a str]) -> Result<Options<'a>, Error> {
     let matches = command(alloc)?.try_get_matches_from(words)?;
     Ok(options_of(&matches))
 }

@@ -1,13 +1,9 @@
 //! What a pass is between its turns.
 ghost use Rattle.std.specs.Prelude.{◌≤◌};
 
-use crate::home::Home;
-use crate::lone::Lone;
 use crate::moments::Moments;
-use crate::owner::Owner;
-use crate::stopped::Stopped;
+use crate::pass::LonePass;
 use crate::{by_hand, owning};
-use sh_key::KeyLayout;
 use std::alloc::Global;
 use tool_judge::line::Span;
 use tool_judge::record::Record;
@@ -23,18 +19,18 @@ pub enum Task {
 
 /// A pass: one that owns no shard, one that owns a shard, or one that stopped in the middle of a call.
 #[derive(Drop)]
-pub enum Actor<'a, L: KeyLayout, H: Home> {
+pub enum Actor<P: LonePass> {
     /// It owns no shard.
-    Lone(Lone<'a, L, H>),
+    Lone(P),
     /// It owns a shard.
-    Owner(Owner<'a, L, H>),
+    Owner(P::Owner),
     /// It runs step by step, by hand.
-    Stopped(Stopped<'a, L, H>, Task),
+    Stopped(P::Stopped, Task),
     /// It takes its turn. No actor is in this state between turns.
     Moving,
 }
 
-impl<'a, L: KeyLayout, H: Home> Actor<'a, L, H> {
+impl<P: LonePass> Actor<P> {
     /// Whether it runs step by step, by hand.
     pub fn is_stopped(&self) -> bool {
         match self {
@@ -52,7 +48,7 @@ impl<'a, L: KeyLayout, H: Home> Actor<'a, L, H> {
     }
 
     /// The pass, if it owns no shard and has begun nothing.
-    pub fn into_lone(self) -> Option<Lone<'a, L, H>> {
+    pub fn into_lone(self) -> Option<P> {
         match self {
             Actor::Lone(lone) => Some(lone),
             _ => None,
@@ -62,7 +58,7 @@ impl<'a, L: KeyLayout, H: Home> Actor<'a, L, H> {
     /// Does the next step of what it began by hand, and returns the actor after it.
     pub fn gone_on(self, record: &mut Record, moments: &Moments) -> Self {
         match self {
-            Actor::Stopped(stopped, task) => by_hand::go_on(stopped, task, record, moments),
+            Actor::Stopped(stopped, task) => by_hand::go_on::<P>(stopped, task, record, moments),
             actor => actor,
         }
     }
@@ -70,7 +66,7 @@ impl<'a, L: KeyLayout, H: Home> Actor<'a, L, H> {
     /// Tries to leave its shard, and returns the actor after that.
     pub fn left(self, record: &mut Record) -> Self {
         match self {
-            Actor::Owner(owner) => owning::leave(owner, record),
+            Actor::Owner(owner) => owning::leave::<P>(owner, record),
             actor => actor,
         }
     }

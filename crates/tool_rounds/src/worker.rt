@@ -3,14 +3,10 @@ ghost use Rattle.std.specs.Prelude.{◌≤◌};
 
 use crate::actor::{Actor, Task};
 use crate::board::Board;
-use crate::home::Home;
-use crate::lone::Lone;
 use crate::moments::Moments;
-use crate::owner::Owner;
-use crate::stopped::Stopped;
+use crate::pass::LonePass;
 use crate::turn::Turn;
 use crate::{by_hand, keys, owning, turn, using};
-use sh_key::KeyLayout;
 use std::alloc::Global;
 use std::mem;
 use std::sync::Wait;
@@ -23,16 +19,16 @@ const STEPS_BY_HAND: u32 = 9;
 
 /// A pass that takes turns.
 #[derive(Drop)]
-pub struct Worker<'a, L: KeyLayout, H: Home> {
-    actor: Actor<'a, L, H>,
+pub struct Worker<P: LonePass> {
+    actor: Actor<P>,
     record: Record,
     shards: u64,
     alloc: Global,
 }
 
-impl<'a, L: KeyLayout, H: Home> Worker<'a, L, H> {
+impl<C: Drop, P: LonePass<Receipt = C>> Worker<P> {
     /// A pass that has done nothing, in a heap with this number of shards.
-    pub fn new(alloc: Global, lone: Lone<'a, L, H>, number: u32, shards: u64) -> Self {
+    pub fn new(alloc: Global, lone: P, number: u32, shards: u64) -> Self {
         Worker {
             actor: Actor::Lone(lone),
             record: Record::new(alloc, number),
@@ -49,10 +45,10 @@ impl<'a, L: KeyLayout, H: Home> Worker<'a, L, H> {
     // The turn of a pass that owns no shard.
     fn lone_turn<R: Wait>(
         &mut self,
-        mut lone: Lone<'a, L, H>,
-        board: &Board<'_, R, H>,
+        mut lone: P,
+        board: &Board<'_, R, C>,
         dice: &mut Dice,
-    ) -> Actor<'a, L, H> {
+    ) -> Actor<P> {
         match turn::of_lone(dice) {
             Turn::Adopt => {
                 let shard = dice.below(self.shards.max(1));
@@ -60,9 +56,9 @@ impl<'a, L: KeyLayout, H: Home> Worker<'a, L, H> {
             }
             Turn::Begin => by_hand::begin(lone, &mut self.record, board, dice),
             turn => {
-                let key = lone.look(board, dice.word());
+                let key = board.look(&mut lone, dice.word());
                 let record = &mut self.record;
-                keys::take_turn::<L, _>(&mut lone, record, &board.moments, dice, turn, key);
+                keys::take_turn::<P::Layout, _>(&mut lone, record, &board.moments, dice, turn, key);
                 Actor::Lone(lone)
             }
         }
@@ -71,57 +67,64 @@ impl<'a, L: KeyLayout, H: Home> Worker<'a, L, H> {
     // The turn of an owner.
     fn owner_turn<R: Wait>(
         &mut self,
-        mut owner: Owner<'a, L, H>,
-        board: &Board<'_, R, H>,
+        mut owner: P::Owner,
+        board: &Board<'_, R, C>,
         dice: &mut Dice,
-    ) -> Actor<'a, L, H> {
+    ) -> Actor<P> {
         match turn::of_owner(dice) {
-            Turn::Leave => owning::leave(owner, &mut self.record),
+            Turn::Leave => owning::leave::<P>(owner, &mut self.record),
             Turn::Insert => {
-                owning::insert(&mut owner, &mut self.record, board, dice);
+                owning::insert::<R, C, P>(&mut owner, &mut self.record, board, dice);
                 Actor::Owner(owner)
             }
             turn => {
-                let key = owner.look(board, dice.word());
+                let key = board.look(&mut owner, dice.word());
                 let record = &mut self.record;
-                keys::take_turn::<L, _>(&mut owner, record, &board.moments, dice, turn, key);
+                keys::take_turn::<P::Layout, _>(
+                    &mut owner,
+                    record,
+                    &board.moments,
+                    dice,
+                    turn,
+                    key,
+                );
                 Actor::Owner(owner)
             }
         }
     }
 
     // Takes the actor out. It is `Moving` until another one is put there.
-    fn moving(&mut self) -> Actor<'a, L, H> {
+    fn moving(&mut self) -> Actor<P> {
         mem::replace(&mut self.actor, Actor::Moving)
     }
 
     // Puts the actor back.
-    fn put(&mut self, actor: Actor<'a, L, H>) {
+    fn put(&mut self, actor: Actor<P>) {
         self.actor = actor;
     }
 
     // The turn of a pass that stopped in the middle: it does nothing, or does its next step.
     fn stopped_turn(
         &mut self,
-        stopped: Stopped<'a, L, H>,
+        stopped: P::Stopped,
         task: Task,
         moments: &Moments,
         dice: &mut Dice,
-    ) -> Actor<'a, L, H> {
+    ) -> Actor<P> {
         if dice.once_in(2) {
             self.record.counts.one(Count::Stands);
             return Actor::Stopped(stopped, task);
         }
-        by_hand::go_on(stopped, task, &mut self.record, moments)
+        by_hand::go_on::<P>(stopped, task, &mut self.record, moments)
     }
 
     // The actor after its turn.
     fn turned<R: Wait>(
         &mut self,
-        actor: Actor<'a, L, H>,
-        board: &Board<'_, R, H>,
+        actor: Actor<P>,
+        board: &Board<'_, R, C>,
         dice: &mut Dice,
-    ) -> Actor<'a, L, H> {
+    ) -> Actor<P> {
         match actor {
             Actor::Lone(lone) => self.lone_turn(lone, board, dice),
             Actor::Owner(owner) => self.owner_turn(owner, board, dice),
@@ -131,7 +134,7 @@ impl<'a, L: KeyLayout, H: Home> Worker<'a, L, H> {
     }
 
     /// Takes a turn.
-    pub fn turn<R: Wait>(&mut self, board: &Board<'_, R, H>, dice: &mut Dice) {
+    pub fn turn<R: Wait>(&mut self, board: &Board<'_, R, C>, dice: &mut Dice) {
         let actor = self.moving();
         let turned = self.turned(actor, board, dice);
         self.put(turned);
@@ -199,7 +202,7 @@ impl<'a, L: KeyLayout, H: Home> Worker<'a, L, H> {
     }
 
     /// The pass, if it owns nothing and has begun nothing, with its record.
-    pub fn finish(self) -> (Option<Lone<'a, L, H>>, Record) {
+    pub fn finish(self) -> (Option<P>, Record) {
         let Worker {
             actor,
             record,

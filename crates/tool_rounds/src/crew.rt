@@ -1,15 +1,14 @@
 //! The passes of one thread.
 use crate::board::Board;
-use crate::home::Home;
+use crate::pass::LonePass;
 use crate::worker::Worker;
-use sh_key::KeyLayout;
 use std::sync::Wait;
 use tool_judge::dice::Dice;
 
 // Takes one turn of one of the passes. False if the pass found a fault.
-fn turn<R: Wait, L: KeyLayout, H: Home>(
-    workers: &mut [Worker<'_, L, H>],
-    board: &Board<'_, R, H>,
+fn turn<R: Wait, C: Drop, P: LonePass<Receipt = C>>(
+    workers: &mut [Worker<P>],
+    board: &Board<'_, R, C>,
     dice: &mut Dice,
 ) -> bool {
     let count = workers.len() as u64;
@@ -26,9 +25,9 @@ fn turn<R: Wait, L: KeyLayout, H: Home>(
 
 /// The passes of one thread take `steps` turns, in an order that the dice give. They stop early if any thread finds a
 /// fault.
-pub fn run<R: Wait, L: KeyLayout, H: Home>(
-    workers: &mut [Worker<'_, L, H>],
-    board: &Board<'_, R, H>,
+pub fn run<R: Wait, C: Drop, P: LonePass<Receipt = C>>(
+    workers: &mut [Worker<P>],
+    board: &Board<'_, R, C>,
     dice: &mut Dice,
     steps: u64,
 ) {

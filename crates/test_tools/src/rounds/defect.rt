@@ -1,0 +1,40 @@
+//! What may be wrong with a heap.
+
+/// What is wrong with a heap of these tests.
+#[derive(Clone, Copy, Debug, PartialEq, Eq)]
+pub enum Defect {
+    /// Nothing is.
+    Sound,
+    /// A read returns words of two values.
+    Torn,
+    /// A get drops the value that it looks for.
+    Lost,
+    /// A get of a new key does not find its value yet.
+    LateGone,
+    /// A slot that is filled again keeps its key.
+    KeyUsedAgain,
+    /// Each removal of a key returns that it removed it.
+    TwoRemovers,
+    /// Each read of a value returns another one.
+    Changing,
+    /// A get finds a value that was removed just before.
+    GotAfterRemoval,
+    /// The accounts of a page have a value too many.
+    WrongSums,
+    /// A get is refused as crowded, though nobody holds the key.
+    Crowded,
+    /// An insert is refused as full, though a page is blank.
+    FullEarly,
+    /// A read is refused, though the pass holds the key.
+    NotHeld,
+    /// A get of a key is refused as one of a number that is no key.
+    BadKey,
+    /// An owner cannot leave.
+    Waiting,
+    /// The first step of a get is not done.
+    Unbegun,
+    /// A call by hand has always a step left.
+    Endless,
+    /// The passes cannot be joined.
+    Apart,
+}

@@ -1,0 +1,198 @@
+//! Passes of a model: they lock it for each call.
+use crate::rounds::defect::Defect;
+use crate::rounds::model::Model;
+use sh_core::Accounts;
+use sh_key::Tiny;
+use sh_step::Action;
+use sh_value::{Hold, Refusal, Value};
+use std::alloc::Global;
+use std::sync::{Mutex, Wait};
+use tool_rounds::pass::LonePass;
+use tool_rounds::user::User;
+
+// What a pass has begun by hand.
+#[derive(Clone, Copy, Debug, PartialEq, Eq)]
+enum Begun {
+    Nothing,
+    // It entered the slot of this key, to remove it.
+    Entered(u64),
+    // It has one more step to do.
+    LastStep,
+    // The same, and it has yet to leave the slot of this key.
+    Leaving(u64),
+}
+
+/// A pass, in any of its three states.
+#[derive(Drop)]
+pub struct ModelPass<'a, R: Wait> {
+    rt: &'a R,
+    model: &'a Mutex<Model>,
+    defect: Defect,
+    begun: Begun,
+}
+
+impl<'a, R: Wait> ModelPass<'a, R> {
+    /// A pass of this model.
+    pub fn new(rt: &'a R, model: &'a Mutex<Model>, defect: Defect) -> Self {
+        ModelPass {
+            rt,
+            model,
+            defect,
+            begun: Begun::Nothing,
+        }
+    }
+
+    // Enters the slot of a key to get it. One step is left if the get is refused.
+    fn enter_get(&mut self, key: u64) -> bool {
+        if self.defect == Defect::Unbegun {
+            return false;
+        }
+        let answer = self.model.lock(self.rt).get(key);
+        if answer.is_err() {
+            self.begun = Begun::LastStep;
+        }
+        true
+    }
+
+    // Enters the slot of a key to remove it.
+    fn enter_remove(&mut self, key: u64) -> bool {
+        let mut model = self.model.lock(self.rt);
+        self.begun = if model.is_live(key) {
+            model.enter(key);
+            Begun::Entered(key)
+        } else {
+            Begun::LastStep
+        };
+        true
+    }
+
+    // Marks the slot that it entered: the key is removed by this pass, or was by another.
+    fn mark(&mut self) -> bool {
+        let Begun::Entered(key) = self.begun else {
+            return false;
+        };
+        let _ = self.model.lock(self.rt).remove(key);
+        self.begun = Begun::Leaving(key);
+        true
+    }
+
+    // Does the last step.
+    fn step(&mut self) -> bool {
+        if let Begun::Leaving(key) = self.begun {
+            let _ = self.model.lock(self.rt).release(key);
+        }
+        let is_begun = self.begun != Begun::Nothing;
+        if self.defect != Defect::Endless {
+            self.begun = Begun::Nothing;
+        }
+        is_begun
+    }
+}
+
+impl<R: Wait> User for ModelPass<'_, R> {
+    type Receipt = u64;
+
+    fn get(&mut self, key: u64) -> Result<Hold, Refusal> {
+        let mut model = self.model.lock(self.rt);
+        if self.defect == Defect::BadKey && model.is_live(key) {
+            return Err(Refusal::BadKey);
+        }
+        model.get(key)
+    }
+
+    fn glance(&mut self, key: u64, value: &mut Value) -> Result<Hold, Refusal> {
+        let mut model = self.model.lock(self.rt);
+        let hold = model.get(key)?;
+        *value = model.read(key)?;
+        Ok(hold)
+    }
+
+    fn read(&mut self, hold: Hold) -> Result<Value, Refusal> {
+        if self.defect == Defect::NotHeld {
+            return Err(Refusal::NotHeld);
+        }
+        self.model.lock(self.rt).read(hold.key)
+    }
+
+    fn remove(&mut self, key: u64) -> Result<(), Refusal> {
+        self.model.lock(self.rt).remove(key)
+    }
+
+    fn release(&mut self, hold: Hold) -> Result<(), Refusal> {
+        self.model.lock(self.rt).release(hold.key)
+    }
+
+    fn receipt(&mut self) -> u64 {
+        0
+    }
+
+    fn heed(&mut self, _told: u64) {}
+}
+
+impl<'a, R: Wait + Sync> LonePass for ModelPass<'a, R> {
+    type Layout = Tiny;
+
+    type Owner = ModelPass<'a, R>;
+
+    type Stopped = ModelPass<'a, R>;
+
+    type Whole = ModelPass<'a, R>;
+
+    fn adopt(self, _alloc: Global, shard: u64) -> Result<Self, (Self, Refusal)> {
+        let answer = self.model.lock(self.rt).adopt(shard);
+        match answer {
+            Ok(()) => Ok(self),
+            Err(refusal) => Err((self, refusal)),
+        }
+    }
+
+    fn insert(owner: &mut Self, value: &Value) -> Result<u64, Refusal> {
+        owner.model.lock(owner.rt).insert(value)
+    }
+
+    fn leave(owner: Self) -> Result<Self, (Self, Refusal)> {
+        let answer = owner.model.lock(owner.rt).leave();
+        match answer {
+            Ok(()) => Ok(owner),
+            Err(refusal) => Err((owner, refusal)),
+        }
+    }
+
+    fn begin(self) -> Self {
+        self
+    }
+
+    fn act(stopped: &mut Self, action: &Action) -> bool {
+        match action {
+            Action::EnterGet(key) => stopped.enter_get(*key),
+            Action::EnterRemove(key) => stopped.enter_remove(*key),
+            Action::DropHold(key) => stopped.model.lock(stopped.rt).release(*key).is_ok(),
+            Action::Mark => stopped.mark(),
+            Action::Drop => stopped.step(),
+            _ => false,
+        }
+    }
+
+    fn end(stopped: Self) -> Result<Self, Self> {
+        if stopped.begun == Begun::Nothing {
+            Ok(stopped)
+        } else {
+            Err(stopped)
+        }
+    }
+
+    fn join(self, _other: Self) -> Self {
+        self
+    }
+
+    fn whole(self) -> Option<Self> {
+        if self.defect == Defect::Apart {
+            return None;
+        }
+        Some(self)
+    }
+
+    fn accounts(whole: &mut Self, shard: u32, page: u32) -> Option<Accounts> {
+        whole.model.lock(whole.rt).accounts(shard, page)
+    }
+}

@@ -1,0 +1,150 @@
+//! The end of a round: it ends all that was begun, fills all shards, and joins all passes.
+use crate::history::History;
+use crate::judging;
+use crate::moments::Moments;
+use crate::pass::LonePass;
+use crate::round::Outcome;
+use crate::worker::Worker;
+use sh_shape::{Shape, class_of};
+use std::alloc::Global;
+use tool_judge::counts::Counts;
+use tool_judge::dice::Dice;
+use tool_judge::fault::{Fault, Wrong};
+use tool_judge::line::Line;
+use tool_judge::record::Record;
+
+// Ends what was begun by hand, releases most holds, and leaves each shard.
+fn settle<C: Drop, P: LonePass<Receipt = C>>(
+    workers: &mut [Worker<P>],
+    moments: &Moments,
+    dice: &mut Dice,
+) {
+    for worker in workers.iter_mut() {
+        worker.end_by_hand(moments);
+    }
+    for worker in workers.iter_mut() {
+        worker.release_most(moments, dice);
+    }
+    for worker in workers.iter_mut() {
+        worker.retire();
+    }
+}
+
+// Fills each shard with values of one random length, and returns their class.
+fn fill<C: Drop, P: LonePass<Receipt = C>>(
+    workers: &mut [Worker<P>],
+    moments: &Moments,
+    dice: &mut Dice,
+) -> u32 {
+    let len = dice.below(17) as usize;
+    if let Some(worker) = workers.first_mut() {
+        worker.fill(moments, len);
+        worker.retire();
+    }
+    class_of(len).unwrap_or(0)
+}
+
+// Adds the log and the counts of a pass to those of the others. A fault of the pass is a fault of the round.
+fn take_in(record: Record, counts: &mut Counts, lines: &mut Vec<Line>) -> Result<(), Fault> {
+    let fault = record.fault();
+    counts.take_in(&record.counts);
+    for line in record.into_lines() {
+        if lines.push(line).is_err() {
+            return Err(Fault::Memory);
+        }
+    }
+    match fault {
+        Some(fault) => Err(fault),
+        None => Ok(()),
+    }
+}
+
+// The passes joined so far: the one that carries the tales of all, the lines of all their logs, and the first fault.
+#[derive(Drop)]
+struct Gathered<P: LonePass> {
+    carrier: Option<P>,
+    counts: Counts,
+    lines: Vec<Line>,
+    fault: Option<Fault>,
+}
+
+// The carrier joined with one more pass, or that pass if it is the first.
+fn joined<P: LonePass>(carrier: Option<P>, lone: P) -> P {
+    match carrier {
+        Some(carrier) => carrier.join(lone),
+        None => lone,
+    }
+}
+
+impl<C: Drop, P: LonePass<Receipt = C>> Gathered<P> {
+    // Notes a fault. The first one stays.
+    fn note(&mut self, done: Result<(), Fault>) {
+        if let (Err(fault), None) = (done, self.fault) {
+            self.fault = Some(fault);
+        }
+    }
+
+    // Joins one more pass. A worker that still owns a shard or has begun a call gives no pass, which is a fault.
+    fn meet(&mut self, lone: Option<P>) -> Result<(), Fault> {
+        let Some(lone) = lone else {
+            return Err(Fault::Wrong(Wrong::Apart));
+        };
+        self.carrier = Some(joined(self.carrier.take(), lone));
+        Ok(())
+    }
+
+    // Adds one more worker: its log, its counts and its pass.
+    fn gather(&mut self, worker: Worker<P>) {
+        let (lone, record) = worker.finish();
+        let taken = take_in(record, &mut self.counts, &mut self.lines);
+        let met = self.meet(lone);
+        self.note(taken);
+        self.note(met);
+    }
+}
+
+// Joins all passes. All lines are gathered, also if a pass found a fault.
+fn gather_all<C: Drop, P: LonePass<Receipt = C>>(
+    alloc: Global,
+    workers: Vec<Worker<P>>,
+) -> Gathered<P> {
+    let mut gathered = Gathered {
+        carrier: None,
+        counts: Counts::new(),
+        lines: Vec::new(alloc),
+        fault: None,
+    };
+    for worker in workers {
+        gathered.gather(worker);
+    }
+    gathered
+}
+
+/// Ends a round on a heap of this shape, and returns what came of it.
+pub fn ended<C: Drop, P: LonePass<Receipt = C>>(
+    alloc: Global,
+    shape: &Shape,
+    moments: &Moments,
+    mut workers: Vec<Worker<P>>,
+    dice: &mut Dice,
+) -> Outcome {
+    settle(workers.as_mut_slice(), moments, dice);
+    let class = fill(workers.as_mut_slice(), moments, dice);
+    let Gathered {
+        carrier,
+        mut counts,
+        mut lines,
+        fault,
+    } = gather_all(alloc, workers);
+    let judged = match (fault, carrier) {
+        (Some(fault), _) => Err(fault),
+        (None, Some(carrier)) => {
+            judging::judge(alloc, shape, carrier, &mut lines, class, &mut counts)
+        }
+        (None, None) => Err(Fault::Wrong(Wrong::Apart)),
+    };
+    Outcome {
+        counts: judged.map(|_| counts),
+        history: History::of::<P::Layout>(alloc, shape, lines),
+    }
+}

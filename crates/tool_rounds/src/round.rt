@@ -1,0 +1,108 @@
+//! A round: threads work on a heap of its own, until all passes are joined and all results judged.
+use crate::board::Board;
+use crate::history::History;
+use crate::pass::LonePass;
+use crate::worker::Worker;
+use crate::{crew, ending};
+use sh_shape::Shape;
+use std::alloc::Global;
+use std::sync::Wait;
+use std::thread;
+use std::thread::Threads;
+use tool_judge::counts::Counts;
+use tool_judge::dice::Dice;
+use tool_judge::fault::Fault;
+
+/// The sizes of a round.
+#[derive(Clone, Copy, Debug, PartialEq, Eq)]
+pub struct Plan {
+    /// The number of threads.
+    pub threads: u32,
+    /// The number of passes of each thread.
+    pub passes: u32,
+    /// The number of shards of the heap.
+    pub shards: u32,
+    /// The number of segments of a shard.
+    pub segments: u32,
+    /// The number of turns that each thread takes.
+    pub steps: u64,
+}
+
+/// What came of a round.
+#[derive(Drop)]
+pub struct Outcome {
+    /// How often each result was returned, or the fault that was found.
+    pub counts: Result<Counts, Fault>,
+    /// What all calls returned, up to the fault.
+    pub history: History,
+}
+
+impl Outcome {
+    /// The outcome of a round that could not begin.
+    pub fn unbegun(alloc: Global, fault: Fault) -> Outcome {
+        Outcome {
+            counts: Err(fault),
+            history: History::empty(alloc),
+        }
+    }
+}
+
+// The passes, which have done nothing.
+fn workers<C: Drop, P: LonePass<Receipt = C>>(
+    alloc: Global,
+    shape: &Shape,
+    lones: Vec<P>,
+) -> Result<Vec<Worker<P>>, Fault> {
+    let mut workers = Vec::new(alloc);
+    let mut number = 0u32;
+    for lone in lones {
+        let worker = Worker::new(alloc, lone, number, u64::from(shape.shards()));
+        if workers.push(worker).is_err() {
+            return Err(Fault::Memory);
+        }
+        number = number.wrapping_add(1);
+    }
+    Ok(workers)
+}
+
+// Runs all workers, those of each thread in that thread. They share the board.
+fn work<C: Drop + Send, P: LonePass<Receipt = C> + Send, R: Threads + Wait + Sync>(
+    rt: &R,
+    plan: &Plan,
+    workers: &mut [Worker<P>],
+    board: &Board<'_, R, C>,
+    seed: u64,
+) {
+    let steps = plan.steps;
+    thread::for_each_chunk_mut(
+        rt,
+        workers,
+        plan.passes.max(1) as usize,
+        &|start: usize, part: &mut [Worker<P>]| {
+            let mut dice = Dice::new(seed.wrapping_add(start as u64));
+            crew::run(part, board, &mut dice, steps);
+        },
+    );
+}
+
+/// Plays a round with all passes of a heap of this shape, and returns what came of it. The heap must be new: nothing
+/// was inserted, and no shard has an owner.
+pub fn play<C: Drop + Send, P: LonePass<Receipt = C> + Send, R: Threads + Wait + Sync>(
+    rt: &R,
+    alloc: Global,
+    plan: &Plan,
+    shape: &Shape,
+    lones: Vec<P>,
+    dice: &mut Dice,
+) -> Outcome {
+    let board: Board<'_, R, C> = match Board::new(rt, alloc) {
+        Ok(board) => board,
+        Err(_) => return Outcome::unbegun(alloc, Fault::Memory),
+    };
+    let mut workers = match workers(alloc, shape, lones) {
+        Ok(workers) => workers,
+        Err(fault) => return Outcome::unbegun(alloc, fault),
+    };
+    work(rt, plan, workers.as_mut_slice(), &board, dice.word());
+    ending::ended(alloc, shape, &board.moments, workers, dice)
+}
