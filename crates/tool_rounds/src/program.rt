@@ -1,4 +1,6 @@
 //! The whole program, over the words of a command line and two writers.
+ghost use Rattle.std.specs.Thread.{IsSync};
+
 use crate::history::{History, key_of};
 use crate::options::{Options, read_options};
 use crate::round::{Outcome, Plan};
@@ -39,7 +41,7 @@ fn plan(options: &Options<'_>, dice: &mut Dice) -> Plan {
 
 /// The heaps of a run.
 pub trait Heaps {
-    /// Plays the round of this number, from 0, on a new heap, and returns what came of it.
+    /// Plays the round of this number, from 0, on a new heap, and returns what came of it. Its threads share `rt`.
     fn play<R: Threads + Wait + Sync>(
         &self,
         rt: &R,
@@ -47,7 +49,8 @@ pub trait Heaps {
         round: u64,
         plan: &Plan,
         dice: &mut Dice,
-    ) -> Outcome;
+    ) -> Outcome
+        requires { IsSync R.row };
 }
 
 // Writes the progress, now and then.
