@@ -1,0 +1,22 @@
+-- What a caller has that was just claimed.
+use Rattle.std.proofs.Common.{◌≡◌, ℕ, ◌<◌, List, Option, Some, None, length, get_or, sym, ap, ◌∙◌, subst, arith}
+use Rattle.std.specs.Prelude.{slice_set}
+use Rattle.std.proofs.lemmas.List.{get_or-set_same, get_or-set_other, length-set}
+use Rattle.sh_grown.specs.declared.met.Met.{Met}
+use Rattle.sh_grown.specs.Callers.{Cell, IsNewcomer, IsClaimed}
+
+-- the first member goes to the first place of a list that has none
+pub first_goes : (cells : List Cell) (number slot : ℕ) (first : Met) (empty new : List (Option Met))
+    → number ≡ slot → IsNewcomer cells slot 0 first → 0 < length empty → length empty ≡ length cells
+    → ((chunk : ℕ) → get_or empty chunk None ≡ None) → new ≡ slice_set empty 0 (Some first)
+    → IsClaimed cells number new
+first_goes cells number slot first empty new same is some room none put =
+    record {
+      first = first;
+      newcomer = subst (λ n. IsNewcomer cells n 0 first) (sym same) is;
+      met = ap (λ xs. get_or xs 0 None) put ∙ get_or-set_same empty 0 (Some first) None some;
+      others = λ chunk later.
+          ap (λ xs. get_or xs chunk None) put
+          ∙ (get_or-set_other empty 0 chunk (Some first) None (λ e. omega arith) ∙ none chunk);
+      room = ap length put ∙ (length-set empty 0 (Some first) ∙ room);
+    }

@@ -1,0 +1,109 @@
+-- What is kept in one place is kept in all, and over several calls.
+use Rattle.std.proofs.Common.{◌≡◌, ℕ, zero, suc, List, [], ◌∷◌, get_or, refl, ◌∙◌, subst, sym}
+use Rattle.std.proofs.Common.{Option, Some, None}
+use Rattle.std.specs.Prelude.{Result, Ok, Err, slice_set}
+use Rattle.sh_value.specs.declared.refusal.Refusal.{Refusal}
+use Rattle.sh_value.specs.declared.refusal.Refusal.TheVariants as refusal
+use Rattle.sh_grown.specs.declared.met.Met.{Met}
+use Rattle.sh_grown.specs.Inserts.{EndsWithInsert, Inserts, TriesInsert}
+use Rattle.sh_grown.specs.Keeping.{KeepsMember, KeepsMembers}
+
+-- a place that nothing is done in
+pub place_stays : (a : Option Met) → KeepsMember a a
+place_stays None = tt
+place_stays (Some m) = (refl, (refl, refl, refl))
+
+-- two calls, one after the other
+pub place_then : (a b c : Option Met) → KeepsMember a b → KeepsMember b c → KeepsMember a c
+place_then None b c p q = tt
+place_then (Some x) None c p q = absurd p
+place_then (Some x) (Some y) None p q = absurd q
+place_then (Some x) (Some y) (Some z) p q = (q.0 ∙ p.0, (q.1.0 ∙ p.1.0, q.1.1 ∙ p.1.1, q.1.2 ∙ p.1.2))
+
+-- the same in each chunk
+pub keeps_then : (xs ys zs : List (Option Met)) → KeepsMembers xs ys → KeepsMembers ys zs → KeepsMembers xs zs
+keeps_then xs ys zs p q =
+    λ chunk. place_then (get_or xs chunk None) (get_or ys chunk None) (get_or zs chunk None) (p chunk) (q chunk)
+
+first_kept : (x : Option Met) (xs : List (Option Met)) (place : Option Met) → KeepsMember x place → (chunk : ℕ)
+    → KeepsMember (get_or (x ∷ xs) chunk None) (get_or (place ∷ xs) chunk None)
+first_kept x xs place kept zero = kept
+first_kept x xs place kept (suc k) = place_stays (get_or xs k None)
+
+later_kept : (x : Option Met) (xs : List (Option Met)) (i : ℕ) (place : Option Met)
+    → KeepsMembers xs (slice_set xs i place) → (chunk : ℕ)
+    → KeepsMember (get_or (x ∷ xs) chunk None) (get_or (x ∷ slice_set xs i place) chunk None)
+later_kept x xs i place kept zero = place_stays x
+later_kept x xs i place kept (suc k) = kept k
+
+-- if one place alone is written, and it keeps its member, all keep theirs
+pub one_kept : (xs : List (Option Met)) (i : ℕ) (place : Option Met) → KeepsMember (get_or xs i None) place
+    → KeepsMembers xs (slice_set xs i place)
+one_kept [] i place kept = λ chunk. tt
+one_kept (x ∷ xs) zero place kept = first_kept x xs place kept
+one_kept (x ∷ xs) (suc i) place kept = later_kept x xs i place (one_kept xs i place kept)
+
+-- what was found at a place is what is there, or it is past the end
+place_found : (xs : List (Option Met)) (i : ℕ) (found place : Option Met) → found ≡ get_or xs i found
+    → KeepsMember found place → KeepsMember (get_or xs i None) place
+place_found [] i found place is kept = tt
+place_found (x ∷ xs) zero found place is kept = subst (λ o. KeepsMember o place) is kept
+place_found (x ∷ xs) (suc i) found place is kept = place_found xs i found place is kept
+
+-- one more place is written, which keeps the member that was found there
+pub keeps_more : (old now : List (Option Met)) (i : ℕ) (found place : Option Met) → KeepsMembers old now
+    → found ≡ get_or now i found → KeepsMember found place → KeepsMembers old (slice_set now i place)
+keeps_more old now i found place before is kept =
+    keeps_then old now (slice_set now i place) before (one_kept now i place (place_found now i found place is kept))
+
+-- what was kept before an insert is kept in it
+pub kept_then_ends : (value : List ℕ) (key : ℕ) (xs ys zs : List (Option Met)) → KeepsMembers xs ys
+    → EndsWithInsert value key ys zs → EndsWithInsert value key xs zs
+kept_then_ends value key xs ys zs p q = (q.0, keeps_then xs ys q.0 p q.1, q.2)
+
+-- a try that is refused is refused as Memory
+pub try_refused : (value : List ℕ) (ys zs : List (Option Met)) (why : Refusal) → TriesInsert value ys (Err why) zs
+    → (why ≡ refusal.Memory) × KeepsMembers ys zs
+try_refused value ys zs refusal.Memory q = (refl, q)
+try_refused value ys zs refusal.BadKey q = absurd q
+try_refused value ys zs refusal.Gone q = absurd q
+try_refused value ys zs refusal.Crowded q = absurd q
+try_refused value ys zs refusal.HoldsFull q = absurd q
+try_refused value ys zs refusal.NotHeld q = absurd q
+try_refused value ys zs refusal.TooLong q = absurd q
+try_refused value ys zs refusal.Full q = absurd q
+try_refused value ys zs refusal.Taken q = absurd q
+try_refused value ys zs refusal.NoShard q = absurd q
+try_refused value ys zs refusal.Waiting q = absurd q
+try_refused value ys zs refusal.BadShape q = absurd q
+try_refused value ys zs refusal.WrongKind q = absurd q
+
+pub tries_then : (value : List ℕ) (xs ys zs : List (Option Met)) (answer : Result (Option ℕ) Refusal)
+    → KeepsMembers xs ys → TriesInsert value ys answer zs → TriesInsert value xs answer zs
+tries_then value xs ys zs (Ok None) p q = keeps_then xs ys zs p q
+tries_then value xs ys zs (Ok (Some key)) p q = kept_then_ends value key xs ys zs p q
+tries_then value xs ys zs (Err why) p q =
+    let r : (why ≡ refusal.Memory) × KeepsMembers ys zs = try_refused value ys zs why q in
+    subst (λ w. TriesInsert value xs (Err w) zs) (sym r.0) (keeps_then xs ys zs p r.1)
+
+refused_then : (chunks : ℕ) (value : List ℕ) (xs ys zs : List (Option Met)) (why : Refusal) → KeepsMembers xs ys
+    → Inserts chunks value ys (Err why) zs → Inserts chunks value xs (Err why) zs
+refused_then chunks value xs ys zs refusal.Full p q = (keeps_then xs ys zs p q.0, q.1)
+refused_then chunks value xs ys zs refusal.Memory p q = keeps_then xs ys zs p q
+refused_then chunks value xs ys zs refusal.Taken p q = keeps_then xs ys zs p q
+refused_then chunks value xs ys zs refusal.BadKey p q = absurd q
+refused_then chunks value xs ys zs refusal.Gone p q = absurd q
+refused_then chunks value xs ys zs refusal.Crowded p q = absurd q
+refused_then chunks value xs ys zs refusal.HoldsFull p q = absurd q
+refused_then chunks value xs ys zs refusal.NotHeld p q = absurd q
+refused_then chunks value xs ys zs refusal.TooLong p q = absurd q
+refused_then chunks value xs ys zs refusal.NoShard p q = absurd q
+refused_then chunks value xs ys zs refusal.Waiting p q = absurd q
+refused_then chunks value xs ys zs refusal.BadShape p q = absurd q
+refused_then chunks value xs ys zs refusal.WrongKind p q = absurd q
+
+-- what was kept before is kept in an insert over all chunks
+pub inserts_then : (chunks : ℕ) (value : List ℕ) (xs ys zs : List (Option Met)) (answer : Result ℕ Refusal)
+    → KeepsMembers xs ys → Inserts chunks value ys answer zs → Inserts chunks value xs answer zs
+inserts_then chunks value xs ys zs (Ok key) p q = kept_then_ends value key xs ys zs p q
+inserts_then chunks value xs ys zs (Err why) p q = refused_then chunks value xs ys zs why p q

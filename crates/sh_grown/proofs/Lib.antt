@@ -1,0 +1,4 @@
+pub mod Claims
+pub mod Keeping
+pub mod Places
+pub mod Shapes

@@ -1,0 +1,26 @@
+-- Growing heaps.
+use Rattle.std.specs.Prelude.{◌≡◌, ℕ, ◌≤◌, Result, Ok, Err, length}
+use Rattle.sh_value.specs.declared.refusal.Refusal.{Refusal}
+use Rattle.sh_value.specs.declared.refusal.Refusal.TheVariants as refusal
+use Rattle.sh_grown.specs.declared.growing.Growing.{Growing}
+
+-- the numbers of passes and chunks that a growing heap may have
+pub record IsGrowing (passes chunks : ℕ) : Type 0 where
+  pub some_pass : 1 ≤ passes
+  pub few_passes : passes ≤ 64
+  pub some_chunk : 1 ≤ chunks
+  pub few_chunks : chunks ≤ 256
+
+-- a growing heap with these numbers is opened, unless a number is outside its limits or memory is refused
+abbrev pub OpensGrowing : (passes chunks : ℕ) → Result Growing Refusal → Type 0
+OpensGrowing passes chunks (Ok growing) = IsGrowing passes chunks × (growing.passes ≡ passes)
+    × (length growing.cells.items ≡ chunks)
+OpensGrowing passes chunks (Err refusal.BadShape) = ¬ IsGrowing passes chunks
+OpensGrowing passes chunks (Err refusal.Memory) = IsGrowing passes chunks
+OpensGrowing passes chunks (Err _) = ⊥
+
+-- why a chunk is not opened: memory was refused, or the heap may not have a chunk of this number
+abbrev pub WhyUnopened : Refusal → Type 0
+WhyUnopened refusal.Memory = Unit {0}
+WhyUnopened refusal.BadKey = Unit {0}
+WhyUnopened _ = ⊥

@@ -1,0 +1,37 @@
+-- What a caller keeps in each of its chunks if shards alone are worked on.
+use Rattle.std.specs.Prelude.{◌≡◌, ℕ, List, Option, Some, None, get_or}
+use Rattle.sh_history.specs.declared.log.LogEntry.{LogEntry}
+use Rattle.sh_table.specs.Seats.{Heap}
+use Rattle.sh_pass.specs.Passes.{Caller, holds}
+use Rattle.sh_member.specs.declared.member.Side.TheVariants.{Pass, Shard, Moving}
+use Rattle.sh_member.specs.Sides.{SeenSide}
+use Rattle.sh_grown.specs.declared.met.Met.{Met}
+
+-- heap, log and holds of a pass
+pub record Kept : Type 0 where
+  pub heap : Heap
+  pub log : List LogEntry
+  pub holds : List ℕ
+
+abbrev pub kept_of : Caller → Kept
+kept_of v = record { heap = v.heap; log = v.view.own.log; holds = holds v }
+
+-- the same of a member
+abbrev pub kept_by : SeenSide → Option Kept
+kept_by (Pass v) = Some (kept_of v)
+kept_by (Shard o) = Some (kept_of o.pages.owner)
+kept_by Moving = None
+
+-- it is of the same chunk, and its pass of the same pool slot
+abbrev pub SamePlace : Met → Met → Type 0
+SamePlace m n = (n.pool_slot ≡ m.pool_slot) × (n.note ≡ m.note) × (n.shards ≡ m.shards)
+
+-- a member that a caller had keeps its place, its heap, its log and its holds
+abbrev pub KeepsMember : Option Met → Option Met → Type 0
+KeepsMember None n = Unit {0}
+KeepsMember (Some m) None = ⊥
+KeepsMember (Some m) (Some n) = (kept_by n.member ≡ kept_by m.member) × SamePlace m n
+
+-- the same in each chunk
+abbrev pub KeepsMembers : List (Option Met) → List (Option Met) → Type 0
+KeepsMembers old new = (chunk : ℕ) → KeepsMember (get_or old chunk None) (get_or new chunk None)

@@ -1,0 +1,5 @@
+pub mod Callers
+pub mod ChunkShapes
+pub mod Growing
+pub mod Inserts
+pub mod Keeping

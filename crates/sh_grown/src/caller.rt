@@ -1,0 +1,122 @@
+//! Callers of a growing heap.
+ghost use Rattle.std.specs.Prelude.{◌≡◌, ℕ, ◌<◌, ◌≤◌, IfErr, IfOk, IfSome, IsSome, MatchResult, None, OnOk, get_or};
+ghost use Rattle.std.specs.Prelude.{length};
+ghost use Rattle.sh_value.specs.declared.refusal.Refusal.TheVariants.{Memory};
+ghost use Rattle.sh_grown.specs.Callers.{IsClaimed, IsNewcomer, Meets, Stays, WhyUnmet, WhyWithout};
+
+use crate::growing::Growing;
+use crate::met::{Met, meet, meet_first};
+use sh_value::Refusal;
+use std::alloc::Global;
+
+/// A caller of a growing heap, with a number from 0 to 63. In each chunk it has the pass of the pool slot of that
+/// number, from the first call that needs it.
+///
+/// It has 16 holds in each chunk, and may own a shard in each. It ends by `end`, which gives its passes back. A caller
+/// that is dropped is lost: its number is never claimed again, and its holds and shards stay as they are.
+#[derive(Drop)]
+pub struct Caller<'a> {
+    pub(crate) growing: &'a Growing,
+    pub(crate) number: usize,
+    // The chunk in which its last insert found room: the next one looks there first.
+    pub(crate) front: u8,
+    // Its member in each chunk that it has met.
+    pub(crate) met: Vec<Option<Met>>,
+}
+
+// Room for a member in each of this many chunks, none of which is met yet.
+#[tactic(auto, using(crate::proofs::Places::none_more))]
+fn no_members(alloc: Global, chunks: usize) -> Result<Vec<Option<Met>>, Refusal>
+    ensures count { IfOk result (λ members. length members.items ≡ chunks) }
+    ensures none { IfOk result (λ members. (chunk : ℕ) → get_or members.items chunk None ≡ None) }
+    ensures err { IfErr result (λ why. why ≡ Memory) }
+{
+    let mut members = Vec::new(alloc);
+    for _chunk in 0..chunks {
+        if members.push(None).is_err() {
+            return Err(Refusal::Memory);
+        }
+    }
+    Ok(members)
+}
+
+impl Growing {
+    /// A caller with the first number that is not claimed. It has the pass of the pool slot of that number in the first
+    /// chunk.
+    ///
+    /// The room for its members in all chunks is taken here, so that no call on a key takes memory. Refused as `Memory`
+    /// before a pass is taken, and as `Taken` if it finds no pass of the first chunk in its pool.
+    ///
+    /// ```text
+    /// let growing = Growing::open(alloc, 64, 256)?;
+    /// let mut caller = growing.claim(alloc)?;
+    /// let key = caller.insert(alloc, &Value::from(7))?;
+    /// let value = caller.fetch(key)?;
+    /// ```
+    #[tactic(auto, using(crate::proofs::Claims::first_goes))]
+    pub fn claim(&self, alloc: Global) -> Result<Caller<'_>, Refusal>
+        ensures growing { IfOk result (λ caller. caller.growing.now ≡ self.now) }
+        ensures claimed { IfOk result (λ caller. IsClaimed self.now.cells.items caller.number caller.met.items) }
+        ensures err { IfErr result WhyWithout }
+    {
+        let mut met = no_members(alloc, self.chunks_allowed())?;
+        let Some(first) = self.first_met() else {
+            return Err(Refusal::Taken);
+        };
+        let number = first.pool_slot.number();
+        met[0] = Some(first);
+        Ok(Caller {
+            growing: self,
+            number,
+            front: 0,
+            met,
+        })
+    }
+
+    // The first pass that is in the pool of the first chunk. `None` if none is.
+    fn first_met(&self) -> Option<Met>
+        ensures { IfSome result (λ first. IsNewcomer self.now.cells.items first.pool_slot 0 first) }
+    {
+        let mut note = self.note(0)?;
+        let share = self.seen(0, &mut note)?;
+        meet_first(share, note)
+    }
+}
+
+impl<'a> Caller<'a> {
+    /// Its number among the callers of its heap, from 0 to 63.
+    pub fn number(&self) -> usize
+        ensures { result ≡ self.now.number }
+    {
+        self.number
+    }
+
+    // Has a member in this chunk, if the chunk is open. Refused as `BadKey` if there is no such chunk or one load finds
+    // it not open, and as `Taken` if its pass is not in the chunk's pool.
+    pub(crate) fn meet(&mut self, chunk: usize) -> Result<(), Refusal>
+        ensures met { MatchResult result
+            (λ _. Meets self.old.growing.now.cells.items self.old.number chunk self.old.met.items self.new.met.items)
+            (λ why. WhyUnmet why × (get_or self.old.met.items chunk None ≡ None)
+            × (self.new.met.items ≡ self.old.met.items)) }
+        ensures there { OnOk result ((chunk < length self.new.met.items)
+            × IsSome (get_or self.new.met.items chunk None)) }
+        ensures stays { Stays self.old self.new }
+    {
+        let Some(place) = self.met.get_mut(chunk) else {
+            return Err(Refusal::BadKey);
+        };
+        if place.is_none() {
+            let Some(mut note) = self.growing.note(chunk) else {
+                return Err(Refusal::BadKey);
+            };
+            let Some(share) = self.growing.seen(chunk, &mut note) else {
+                return Err(Refusal::BadKey);
+            };
+            let Some(met) = meet(share, note, self.number) else {
+                return Err(Refusal::Taken);
+            };
+            *place = Some(met);
+        }
+        Ok(())
+    }
+}

@@ -1,0 +1,145 @@
+// The calls of a caller on keys: each is the call of its member in the key's chunk.
+ghost use Rattle.std.specs.Prelude.{◌≡◌, ◌<◌, IfOk, IsSome, MatchBool, None, get_or, length};
+ghost use Rattle.sh_chunk.specs.Chunks.{chunked, chunk_of, key_within};
+ghost use Rattle.sh_pass.specs.Passes.{ReadDoes, ReadIntoDoes, RemoveDoes, ReleaseDoes};
+ghost use Rattle.sh_readers.specs.Readers.{FetchDoes, FetchIntoDoes, TakeIntoDoes};
+ghost use Rattle.sh_member.specs.Sides.{SideDoes};
+ghost use Rattle.sh_grown.specs.Callers.{GrownDoes, HeldDoes, GetsIn, Stays};
+
+use crate::caller::Caller;
+use crate::met::{
+    fetch_at, fetch_into_at, get_at, read_at, read_into_at, release_at, remove_at, take_into_at,
+};
+use sh_chunk::Chunked;
+use sh_value::{Hold, Refusal, Value};
+
+// The number of the key's chunk.
+fn chunk_of(key: u64) -> usize
+    ensures is { result ≡ chunk_of key }
+{
+    let (chunk, _) = Chunked::split(key);
+    chunk as usize
+}
+
+impl<'a> Caller<'a> {
+    // Whether it has a member in this chunk.
+    pub(crate) fn has_met(&self, chunk: usize) -> bool
+        ensures { MatchBool result
+            ((chunk < length self.now.met.items) × IsSome (get_or self.now.met.items chunk None))
+            (get_or self.now.met.items chunk None ≡ None) }
+    {
+        match self.met.get(chunk) {
+            Some(place) => place.is_some(),
+            None => false,
+        }
+    }
+
+    /// Takes a hold on a key. Refused as `BadKey`, `HoldsFull`, `Gone` or `Crowded`, tried in that order.
+    ///
+    /// As for each call on a key, `BadKey` comes if the heap may not have the key's chunk, or if the chunk returns it.
+    /// It also comes if the load of that chunk's cell in this call finds it not open. A caller that has met the chunk
+    /// does no such load. `Taken` comes if the caller's pass is not in the chunk's pool, which no caller brings about.
+    pub fn get(&mut self, key: u64) -> Result<Hold, Refusal>
+        ensures does { GrownDoes (SideDoes chunked (GetsIn key))
+            self.old.growing.now.cells.items self.old.number (chunk_of key) self.old.met.items result
+            self.new.met.items }
+        ensures hold { IfOk result (λ hold. hold.key ≡ key) }
+        ensures stays { Stays self.old self.new }
+    {
+        let chunk = chunk_of(key);
+        self.meet(chunk)?;
+        get_at(&mut self.met[chunk], key)
+    }
+
+    /// The value of a key that it holds. Refused as `NotHeld`.
+    pub fn read(&mut self, hold: Hold) -> Result<Value, Refusal>
+        ensures does { HeldDoes (SideDoes chunked (ReadDoes (key_within hold.key))) (chunk_of hold.key)
+            self.old.met.items result self.new.met.items }
+        ensures stays { Stays self.old self.new }
+    {
+        let chunk = chunk_of(hold.key);
+        if !self.has_met(chunk) {
+            return Err(Refusal::NotHeld);
+        }
+        read_at(&mut self.met[chunk], hold)
+    }
+
+    /// The same into a value of the caller's. A refusal leaves that value as it was.
+    pub fn read_into(&mut self, hold: Hold, value: &mut Value) -> Result<(), Refusal>
+        ensures does { HeldDoes (SideDoes chunked (λ v answer w. ReadIntoDoes (key_within hold.key) v value.old
+            answer value.new w)) (chunk_of hold.key) self.old.met.items result self.new.met.items }
+        ensures stays { Stays self.old self.new }
+    {
+        let chunk = chunk_of(hold.key);
+        if !self.has_met(chunk) {
+            return Err(Refusal::NotHeld);
+        }
+        read_into_at(&mut self.met[chunk], hold, value)
+    }
+
+    /// Gives one hold on a key back. Refused as `NotHeld`.
+    pub fn release(&mut self, hold: Hold) -> Result<(), Refusal>
+        ensures does { HeldDoes (SideDoes chunked (ReleaseDoes chunked (key_within hold.key))) (chunk_of hold.key)
+            self.old.met.items result self.new.met.items }
+        ensures stays { Stays self.old self.new }
+    {
+        let chunk = chunk_of(hold.key);
+        if !self.has_met(chunk) {
+            return Err(Refusal::NotHeld);
+        }
+        release_at(&mut self.met[chunk], hold)
+    }
+
+    /// The value of a key: a get, a read and a release in one. Refused as a get is. It leaves the holds as they were.
+    pub fn fetch(&mut self, key: u64) -> Result<Value, Refusal>
+        ensures does { GrownDoes (SideDoes chunked (FetchDoes chunked (key_within key)))
+            self.old.growing.now.cells.items self.old.number (chunk_of key) self.old.met.items result
+            self.new.met.items }
+        ensures stays { Stays self.old self.new }
+    {
+        let chunk = chunk_of(key);
+        self.meet(chunk)?;
+        fetch_at(&mut self.met[chunk], key)
+    }
+
+    /// The same into a value of the caller's. A refusal leaves that value as it was.
+    pub fn fetch_into(&mut self, key: u64, value: &mut Value) -> Result<(), Refusal>
+        ensures does { GrownDoes (SideDoes chunked (λ v answer w. FetchIntoDoes chunked (key_within key) v value.old
+            answer value.new w))
+            self.old.growing.now.cells.items self.old.number (chunk_of key) self.old.met.items result
+            self.new.met.items }
+        ensures stays { Stays self.old self.new }
+    {
+        let chunk = chunk_of(key);
+        self.meet(chunk)?;
+        fetch_into_at(&mut self.met[chunk], key, value)
+    }
+
+    /// The value of a key, which this call removes, into a value of the caller's. A value of more than `most` words
+    /// goes there too, but its key is not removed. Refused as a get is, and as `Gone` if another thread removed the key
+    /// after the get.
+    pub fn take_into(&mut self, key: u64, most: usize, value: &mut Value) -> Result<(), Refusal>
+        ensures does { GrownDoes (SideDoes chunked (λ v answer w. TakeIntoDoes chunked (key_within key) most v answer
+            value.new w))
+            self.old.growing.now.cells.items self.old.number (chunk_of key) self.old.met.items result
+            self.new.met.items }
+        ensures stays { Stays self.old self.new }
+    {
+        let chunk = chunk_of(key);
+        self.meet(chunk)?;
+        take_into_at(&mut self.met[chunk], key, most, value)
+    }
+
+    /// Removes a key: no later get finds it, and its value stays until the last hold goes. Refused as `BadKey` or
+    /// `Gone`.
+    pub fn remove(&mut self, key: u64) -> Result<(), Refusal>
+        ensures does { GrownDoes (SideDoes chunked (RemoveDoes chunked (key_within key)))
+            self.old.growing.now.cells.items self.old.number (chunk_of key) self.old.met.items result
+            self.new.met.items }
+        ensures stays { Stays self.old self.new }
+    {
+        let chunk = chunk_of(key);
+        self.meet(chunk)?;
+        remove_at(&mut self.met[chunk], key)
+    }
+}

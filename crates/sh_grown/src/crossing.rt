@@ -1,0 +1,17 @@
+//! Threads share a growing heap, and a caller may go from one thread to another.
+use crate::caller::Caller;
+use crate::growing::Growing;
+
+fn shares<T: Send + Sync>(_shared: &T) {}
+
+fn sends<T: Send>(_sent: &T) {}
+
+/// Threads share a growing heap.
+pub fn growing_heaps_are_shared(growing: &Growing) {
+    shares(growing);
+}
+
+/// A caller goes to another thread, with all that it has in its chunks.
+pub fn callers_are_sent(caller: &Caller<'_>) {
+    sends(caller);
+}

@@ -1,0 +1,138 @@
+//! Growing heaps.
+ghost use Rattle.std.specs.Prelude.{◌≡◌, ◌≤◌, Some, None, IfSome, MatchResult, length, slice_get};
+ghost use Rattle.once_cell.specs.Once.{cell_name, Agrees};
+ghost use Rattle.sh_value.specs.declared.refusal.Refusal.TheVariants.{Memory};
+ghost use Rattle.sh_shape.specs.Shape.{Fits};
+ghost use Rattle.sh_chunk.specs.Chunks.{chunked};
+
+use crate::chunk_shapes::chunk_shape;
+use once_cell::race::{Note, OnceBox};
+use sh_chunk::{CHUNKS, Chunked};
+use sh_pool::{Pool, Share};
+use sh_shape::Shape;
+use sh_value::Refusal;
+use std::alloc::Global;
+
+/// A heap that grows: a list of chunks, each in a cell that is written once. Threads share it, and each has a caller.
+///
+/// The chunks are opened in the order of their numbers, the first one with the heap itself. No chunk is ever closed.
+#[derive(Drop)]
+pub struct Growing {
+    pub(crate) cells: Vec<OnceBox<Share<Chunked>>>,
+    passes: u32,
+    ghost some_pass: { 1 ≤ passes },
+    ghost few_passes: { passes ≤ 64 },
+    ghost some_chunk: { 1 ≤ length cells.items },
+    ghost few_chunks: { length cells.items ≤ 256 },
+}
+
+// A pool of a new heap of this shape, in a box of its own.
+fn new_chunk(alloc: Global, shape: Shape) -> Result<Box<Share<Chunked>>, Refusal>
+    requires { Fits chunked shape }
+    ensures { MatchResult result (λ chunk. chunk.value.shape ≡ shape) (λ why. why ≡ Memory) }
+{
+    let pool = Pool::<Chunked>::open(alloc, shape)?;
+    let share = Share::new(alloc, pool)?;
+    match Box::new(alloc, share) {
+        Ok(chunk) => Ok(chunk),
+        Err(_) => Err(Refusal::Memory),
+    }
+}
+
+impl Growing {
+    ghost use Rattle.sh_grown.specs.Growing.{OpensGrowing, WhyUnopened};
+
+    /// A growing heap of at most `chunks` chunks, from 1 to 256, with this many passes, from 1 to 64. The first chunk
+    /// is opened. Refused as `BadShape` exactly if a number is outside its limits, and as `Memory` if memory is
+    /// refused.
+    ///
+    /// ```text
+    /// let growing = Growing::open(alloc, 64, 256)?;   // room for 768 values of one word, and it grows
+    /// ```
+    pub fn open(alloc: Global, passes: u32, chunks: usize) -> Result<Growing, Refusal>
+        ensures { OpensGrowing passes chunks result }
+    {
+        if passes < 1 || 64 < passes || chunks < 1 || CHUNKS < chunks {
+            return Err(Refusal::BadShape);
+        }
+        let first = new_chunk(alloc, chunk_shape(0, passes))?;
+        let mut cells = Vec::new(alloc);
+        if cells.push(OnceBox::with_value(first)).is_err() {
+            return Err(Refusal::Memory);
+        }
+        for _chunk in 1..chunks {
+            if cells.push(OnceBox::new(alloc)).is_err() {
+                return Err(Refusal::Memory);
+            }
+        }
+        Ok(Growing { cells, passes })
+    }
+
+    /// How many chunks it may have, from 1 to 256.
+    pub fn chunks_allowed(&self) -> usize
+        ensures count { result ≡ length self.now.cells.items }
+        ensures some { 1 ≤ result }
+        ensures few { result ≤ 256 }
+    {
+        self.cells.len()
+    }
+
+    /// How many passes it has, from 1 to 64: as many callers may be claimed at a time.
+    pub fn passes(&self) -> u32
+        ensures { result ≡ self.now.passes }
+    {
+        self.passes
+    }
+
+    /// How many chunks are open: each cell is looked at once.
+    pub fn chunks(&self) -> usize {
+        self.cells
+            .iter()
+            .filter(|cell| cell.get().is_some())
+            .count()
+    }
+
+    // A note of what is known of this chunk's cell: nothing yet. `None` if the heap may not have the chunk.
+    pub(crate) fn note(&self, chunk: usize) -> Option<Note<Share<Chunked>>>
+        ensures { IfSome result (λ note. (note.known ≡ None)
+            × IfSome (slice_get self.now.cells.items chunk) (λ c. note.cell ≡ cell_name c)) }
+    {
+        Some(self.cells.get(chunk)?.note())
+    }
+
+    // The chunk of this number, if one load finds it open. It is the one that the note knows, if it knows any.
+    pub(crate) fn seen<'a>(
+        &'a self,
+        chunk: usize,
+        note: &mut Note<Share<Chunked>>,
+    ) -> Option<&'a Share<Chunked>>
+        requires { IfSome (slice_get self.now.cells.items chunk) (λ c. note.old.cell ≡ cell_name c) }
+        ensures cell { note.new.cell ≡ note.old.cell }
+        ensures value { IfSome result (λ s. (note.new.known ≡ Some s.now) × Agrees note.old.known s.now) }
+    {
+        self.cells.get(chunk)?.get_as(note)
+    }
+
+    // The chunk of this number, which is opened if it is not open yet. If two threads open it at once, one of them
+    // frees its own heap and uses the other's. Refused as `Memory`, and as `BadKey` if the heap may not have the chunk.
+    pub(crate) fn opened<'a>(
+        &'a self,
+        alloc: Global,
+        chunk: u8,
+        note: &mut Note<Share<Chunked>>,
+    ) -> Result<&'a Share<Chunked>, Refusal>
+        requires { IfSome (slice_get self.now.cells.items chunk) (λ c. note.old.cell ≡ cell_name c) }
+        ensures cell { note.new.cell ≡ note.old.cell }
+        ensures value { MatchResult result (λ s. (note.new.known ≡ Some s.now) × Agrees note.old.known s.now)
+            WhyUnopened }
+    {
+        let Some(cell) = self.cells.get(chunk as usize) else {
+            return Err(Refusal::BadKey);
+        };
+        if let Some(share) = cell.get_as(note) {
+            return Ok(share);
+        }
+        let opened = new_chunk(alloc, chunk_shape(chunk, self.passes))?;
+        Ok(cell.get_or_init_as(move || opened, note))
+    }
+}

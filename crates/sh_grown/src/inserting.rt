@@ -1,0 +1,217 @@
+// How a caller inserts: over the chunks, and at last into a new one.
+ghost use Rattle.std.specs.Prelude.{◌≡◌, IfErr, IfOk, OnErr, OnOk, length};
+ghost use Rattle.sh_value.specs.declared.refusal.Refusal.TheVariants.{Memory};
+ghost use Rattle.sh_chunk.specs.Chunks.{chunk_of};
+ghost use Rattle.sh_grown.specs.Callers.{Stays, WhyWithout};
+ghost use Rattle.sh_grown.specs.Inserts.{InsertsInChunk, CollectsInChunk, Inserts, TriesInsert, HasMet};
+ghost use Rattle.sh_grown.specs.Keeping.{KeepsMembers};
+
+use crate::caller::Caller;
+use crate::met::{collect_at, insert_at, meet, move_to, shards_at};
+use sh_value::{Refusal, Value};
+use std::alloc::Global;
+
+impl<'a> Caller<'a> {
+    /// Stores a value under a new key, and returns the key.
+    ///
+    /// It tries the chunk of its last insert, and then each chunk in which it owns a shard. Then it collects in the
+    /// chunk of its last insert, and tries that again. At last it tries each shard of each chunk, from the first chunk
+    /// on. For that it leaves the shard that it owns in a chunk. It opens a chunk that is not open yet, so a new chunk
+    /// comes last.
+    ///
+    /// Refused as `Full` if the heap may have no more chunks, and each shard has no room or has another owner. A shard
+    /// that another caller's free keeps it from leaving counts as full, with the others of that chunk. Refused as
+    /// `Memory` if memory was refused to a shard, an adoption or a new chunk. `Taken` comes if the caller's pass is not
+    /// in a chunk's pool, which no caller brings about. A refused insert adds nothing to the caller's logs, and leaves
+    /// its holds as they were.
+    #[tactic(auto, using(crate::proofs::Keeping::inserts_then))]
+    pub fn insert(&mut self, alloc: Global, value: &Value) -> Result<u64, Refusal>
+        ensures inserts { Inserts (length self.old.growing.now.cells.items) value.now self.old.met.items result
+            self.new.met.items }
+        ensures stays { Stays self.old self.new }
+    {
+        let found = self.try_met(value)?;
+        match found {
+            Some(key) => Ok(key),
+            None => self.insert_in_any(alloc, value),
+        }
+    }
+
+    /// Stores a value in the shard that it owns in this chunk, and returns the key. Refused as `NoShard` if it owns
+    /// none there, and otherwise as `Full` or `Memory`.
+    pub fn insert_in(&mut self, chunk: u8, value: &Value) -> Result<u64, Refusal>
+        ensures inserts { InsertsInChunk value.now chunk self.old.met.items result self.new.met.items }
+        ensures chunk { IfOk result (λ key. chunk_of key ≡ chunk) }
+        ensures keeps { OnErr result (KeepsMembers self.old.met.items self.new.met.items) }
+        ensures stays { Stays self.old self.new }
+    {
+        if !self.has_met(chunk as usize) {
+            return Err(Refusal::NoShard);
+        }
+        insert_at(&mut self.met[chunk as usize], chunk, value)
+    }
+
+    /// Collects what others freed in the shard that it owns in this chunk. Refused as `NoShard` if it owns none there.
+    /// The caller's logs and holds stay as they were.
+    pub fn collect_in(&mut self, chunk: u8) -> Result<(), Refusal>
+        ensures collects { CollectsInChunk chunk self.old.met.items result self.new.met.items }
+        ensures keeps { KeepsMembers self.old.met.items self.new.met.items }
+        ensures stays { Stays self.old self.new }
+    {
+        if !self.has_met(chunk as usize) {
+            return Err(Refusal::NoShard);
+        }
+        collect_at(&mut self.met[chunk as usize])
+    }
+
+    // Stores a value in the shard that it owns in this chunk, which is then the first to be tried. `None` if it owns
+    // none there, or if that has no room.
+    fn try_in(&mut self, chunk: u8, value: &Value) -> Result<Option<u64>, Refusal>
+        ensures tries { TriesInsert value.now self.old.met.items result self.new.met.items }
+        ensures stays { Stays self.old self.new }
+    {
+        match self.insert_in(chunk, value) {
+            Ok(key) => {
+                self.front = chunk;
+                Ok(Some(key))
+            }
+            Err(Refusal::Memory) => Err(Refusal::Memory),
+            Err(_) => Ok(None),
+        }
+    }
+
+    // The same in the shards that it owns. If they have no room, it collects in the chunk of its last insert.
+    #[tactic(auto, using(crate::proofs::Keeping::tries_then))]
+    fn try_met(&mut self, value: &Value) -> Result<Option<u64>, Refusal>
+        ensures tries { TriesInsert value.now self.old.met.items result self.new.met.items }
+        ensures stays { Stays self.old self.new }
+    {
+        let front = self.try_in(self.front, value)?;
+        if front.is_some() {
+            return Ok(front);
+        }
+        let own = self.try_own(value)?;
+        if own.is_some() {
+            return Ok(own);
+        }
+        self.try_collected(value)
+    }
+
+    // The same in the chunk of its last insert, after a collect there.
+    #[tactic(auto, using(crate::proofs::Keeping::tries_then))]
+    fn try_collected(&mut self, value: &Value) -> Result<Option<u64>, Refusal>
+        ensures tries { TriesInsert value.now self.old.met.items result self.new.met.items }
+        ensures stays { Stays self.old self.new }
+    {
+        if self.collect_in(self.front).is_err() {
+            return Ok(None);
+        }
+        self.try_in(self.front, value)
+    }
+
+    // The same in the first chunk in which it owns a shard with room.
+    fn try_own(&mut self, value: &Value) -> Result<Option<u64>, Refusal>
+        ensures tries { TriesInsert value.now self.old.met.items result self.new.met.items }
+        ensures stays { Stays self.old self.new }
+    {
+        for number in 0..self.growing.chunks_allowed() {
+            let found = self.try_in(number as u8, value)?;
+            if found.is_some() {
+                return Ok(found);
+            }
+        }
+        Ok(None)
+    }
+
+    // Stores a value in the first chunk that has room for it. A chunk that is not open is opened.
+    fn insert_in_any(&mut self, alloc: Global, value: &Value) -> Result<u64, Refusal>
+        ensures inserts { Inserts (length self.old.growing.now.cells.items) value.now self.old.met.items result
+            self.new.met.items }
+        ensures stays { Stays self.old self.new }
+    {
+        for number in 0..self.growing.chunks_allowed() {
+            let chunk = number as u8;
+            self.meet_opened(alloc, chunk)?;
+            if let Some(key) = self.try_shards(alloc, chunk, value)? {
+                return Ok(key);
+            }
+        }
+        Err(Refusal::Full)
+    }
+
+    // Stores a value in the first shard of a chunk that it can own and that has room. It begins at the shard of its own
+    // number.
+    fn try_shards(
+        &mut self,
+        alloc: Global,
+        chunk: u8,
+        value: &Value,
+    ) -> Result<Option<u64>, Refusal>
+        ensures tries { TriesInsert value.now self.old.met.items result self.new.met.items }
+        ensures stays { Stays self.old self.new }
+    {
+        let shards = self.shards_in(chunk) as usize;
+        for step in 0..shards {
+            let shard = (self.number % shards + step) % shards;
+            if self.move_in(alloc, chunk, shard)? {
+                let found = self.try_in(chunk, value)?;
+                if found.is_some() {
+                    return Ok(found);
+                }
+            }
+        }
+        Ok(None)
+    }
+
+    // Whether it owns this shard of a chunk now, for which it leaves the one that it owned there. Refused as `Memory`.
+    fn move_in(&mut self, alloc: Global, chunk: u8, shard: usize) -> Result<bool, Refusal>
+        ensures err { IfErr result (λ why. why ≡ Memory) }
+        ensures keeps { KeepsMembers self.old.met.items self.new.met.items }
+        ensures stays { Stays self.old self.new }
+    {
+        if !self.has_met(chunk as usize) {
+            return Ok(false);
+        }
+        match move_to(alloc, &mut self.met[chunk as usize], shard) {
+            Ok(()) => Ok(true),
+            Err(Refusal::Memory) => Err(Refusal::Memory),
+            Err(_) => Ok(false),
+        }
+    }
+
+    // Has a member in this chunk, which is opened if it is not. Refused as `Memory`, and as `Taken` if its pass is not
+    // in the chunk's pool.
+    fn meet_opened(&mut self, alloc: Global, chunk: u8) -> Result<(), Refusal>
+        ensures met { OnOk result (HasMet self.new.met.items chunk) }
+        ensures err { IfErr result WhyWithout }
+        ensures keeps { KeepsMembers self.old.met.items self.new.met.items }
+        ensures stays { Stays self.old self.new }
+    {
+        let Some(place) = self.met.get_mut(chunk as usize) else {
+            return Err(Refusal::Taken);
+        };
+        if place.is_none() {
+            let Some(mut note) = self.growing.note(chunk as usize) else {
+                return Err(Refusal::Taken);
+            };
+            let share = match self.growing.opened(alloc, chunk, &mut note) {
+                Ok(share) => share,
+                Err(Refusal::Memory) => return Err(Refusal::Memory),
+                Err(_) => return Err(Refusal::Taken),
+            };
+            let Some(met) = meet(share, note, self.number) else {
+                return Err(Refusal::Taken);
+            };
+            *place = Some(met);
+        }
+        Ok(())
+    }
+
+    // How many shards a chunk has that it has met, and otherwise 0.
+    fn shards_in(&self, chunk: u8) -> u32 {
+        match self.met.get(chunk as usize) {
+            Some(place) => shards_at(place),
+            None => 0,
+        }
+    }
+}

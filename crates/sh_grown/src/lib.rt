@@ -1,0 +1,18 @@
+//! A heap that grows: a list of chunks, each a heap of its own, opened when those before it have no room.
+//!
+//! A key has the number of its chunk in bits 56 to 63. A caller has a member in each chunk that it has met, and each
+//! call on a key is the call of the member of the key's chunk.
+#![tactic(auto)]
+
+pub mod caller;
+mod calls;
+pub mod chunk_shapes;
+pub mod crossing;
+pub mod growing;
+mod inserting;
+mod leaving;
+pub mod met;
+
+pub use caller::Caller;
+pub use chunk_shapes::chunk_shape;
+pub use growing::Growing;

@@ -1,0 +1,285 @@
+//! What a caller has in a chunk that it has met, and the calls of its member there.
+ghost use Rattle.std.specs.Prelude.{◌≡◌, IfErr, IfOk, IfSome, IsSome, OnErr, OnOk, Some};
+ghost use Rattle.sh_value.specs.declared.refusal.Refusal.TheVariants.{Waiting};
+ghost use Rattle.sh_chunk.specs.Chunks.{chunked, chunk_of, key_within};
+ghost use Rattle.sh_pass.specs.Passes.{IsAtRest, ReadDoes, ReadIntoDoes, RemoveDoes, ReleaseDoes};
+ghost use Rattle.sh_readers.specs.Readers.{FetchDoes, FetchIntoDoes, TakeIntoDoes};
+ghost use Rattle.sh_member.specs.Sides.{SideDoes, SideCollects, IsPass};
+ghost use Rattle.sh_grown.specs.Callers.{IsPooled, MetDoes, GetsIn};
+ghost use Rattle.sh_grown.specs.Inserts.{InsertsIn, OwnsNone};
+ghost use Rattle.sh_grown.specs.Keeping.{KeepsMember};
+
+use once_cell::race::Note;
+use sh_chunk::{Chunked, chunked_keys_fit};
+use sh_member::Member;
+use sh_pass::pass::Pass;
+use sh_pool::{PoolSlot, Share, Taken, give_pass};
+use sh_value::{Hold, Refusal, Value};
+use std::alloc::Global;
+
+/// What a caller has in a chunk that it has met: its member there, the pool slot of that pass, and what it knows of the
+/// chunk's cell.
+pub struct Met {
+    pub(crate) member: Member<Chunked, Share<Chunked>>,
+    pub(crate) pool_slot: PoolSlot<Chunked>,
+    pub(crate) note: Note<Share<Chunked>>,
+    // How many shards the chunk has.
+    pub(crate) shards: u32,
+}
+
+// A `PoolSlot` ends in `give_pass` or in `lose`: what is dropped is lost.
+impl Drop for Met {
+    fn drop(self) {
+        let Met {
+            member: _,
+            pool_slot,
+            note: _,
+            shards: _,
+        } = self;
+        pool_slot.lose();
+    }
+}
+
+impl Met {
+    // Gives the pass back to its pool slot. A pass that owns a shard is lost.
+    fn go_home(self) {
+        let Met {
+            member,
+            pool_slot,
+            note: _,
+            shards: _,
+        } = self;
+        let Ok(pass) = member.into_pass() else {
+            return pool_slot.lose();
+        };
+        if let Err((_pass, pool_slot)) = give_pass(pass, pool_slot) {
+            pool_slot.lose();
+        }
+    }
+}
+
+// What a caller has in a chunk of which it has just taken this pass. The note knows the chunk.
+fn met_by(kept: Share<Chunked>, note: Note<Share<Chunked>>, taken: Taken<Chunked>) -> Met
+    requires heap { taken.state.heap ≡ kept }
+    requires rest { IsAtRest taken.state }
+    ensures met { IsPooled kept taken.pool_slot result }
+    ensures note { result.note ≡ note }
+{
+    let Taken { state, pool_slot } = taken;
+    let pass = Pass::on(kept, state);
+    let shards = pass.shape().shards();
+    Met {
+        member: Member::of(pass),
+        pool_slot,
+        note,
+        shards,
+    }
+}
+
+// The first pass that is in a chunk's pool, with its pool slot. `None` if none is, or if no more shares can be counted.
+pub(crate) fn meet_first(share: &Share<Chunked>, note: Note<Share<Chunked>>) -> Option<Met>
+    requires { note.known ≡ Some share.now }
+    ensures { IfSome result (λ m. IsPooled share.now m.pool_slot m × (m.note ≡ note)) }
+{
+    let kept = share.share().ok()?;
+    let taken = share.pool().take()?;
+    Some(met_by(kept, note, taken))
+}
+
+// The pass of this number in a chunk. `None` if the pool slot of this number is empty, or if no more shares can be
+// counted.
+pub(crate) fn meet(share: &Share<Chunked>, note: Note<Share<Chunked>>, number: usize) -> Option<Met>
+    requires { note.known ≡ Some share.now }
+    ensures { IfSome result (λ m. IsPooled share.now number m × (m.note ≡ note)) }
+{
+    let kept = share.share().ok()?;
+    let taken = share.pool().take_at(number)?;
+    Some(met_by(kept, note, taken))
+}
+
+// The key in its chunk.
+fn within(key: u64) -> u64
+    ensures { result ≡ key_within key }
+{
+    let (_, within) = Chunked::split(key);
+    within
+}
+
+pub(crate) fn get_at(place: &mut Option<Met>, key: u64) -> Result<Hold, Refusal>
+    requires { IsSome place.old }
+    ensures does { MetDoes (SideDoes chunked (GetsIn key)) place.old result place.new }
+    ensures hold { IfOk result (λ hold. hold.key ≡ key) }
+{
+    match place {
+        Some(met) => {
+            met.member.get(within(key))?;
+            Ok(Hold { key })
+        }
+        None => unreachable!(),
+    }
+}
+
+pub(crate) fn read_at(place: &mut Option<Met>, hold: Hold) -> Result<Value, Refusal>
+    requires { IsSome place.old }
+    ensures { MetDoes (SideDoes chunked (ReadDoes (key_within hold.key))) place.old result place.new }
+{
+    let key = within(hold.key);
+    match place {
+        Some(met) => met.member.read(Hold { key }),
+        None => unreachable!(),
+    }
+}
+
+pub(crate) fn read_into_at(
+    place: &mut Option<Met>,
+    hold: Hold,
+    value: &mut Value,
+) -> Result<(), Refusal>
+    requires { IsSome place.old }
+    ensures { MetDoes (SideDoes chunked (λ v answer w. ReadIntoDoes (key_within hold.key) v value.old answer value.new
+        w)) place.old result place.new }
+{
+    let key = within(hold.key);
+    match place {
+        Some(met) => met.member.read_into(Hold { key }, value),
+        None => unreachable!(),
+    }
+}
+
+pub(crate) fn release_at(place: &mut Option<Met>, hold: Hold) -> Result<(), Refusal>
+    requires { IsSome place.old }
+    ensures { MetDoes (SideDoes chunked (ReleaseDoes chunked (key_within hold.key))) place.old result place.new }
+{
+    let key = within(hold.key);
+    match place {
+        Some(met) => met.member.release(Hold { key }),
+        None => unreachable!(),
+    }
+}
+
+pub(crate) fn fetch_at(place: &mut Option<Met>, key: u64) -> Result<Value, Refusal>
+    requires { IsSome place.old }
+    ensures { MetDoes (SideDoes chunked (FetchDoes chunked (key_within key))) place.old result place.new }
+{
+    match place {
+        Some(met) => met.member.fetch(within(key)),
+        None => unreachable!(),
+    }
+}
+
+pub(crate) fn fetch_into_at(
+    place: &mut Option<Met>,
+    key: u64,
+    value: &mut Value,
+) -> Result<(), Refusal>
+    requires { IsSome place.old }
+    ensures { MetDoes (SideDoes chunked (λ v answer w. FetchIntoDoes chunked (key_within key) v value.old answer
+        value.new w)) place.old result place.new }
+{
+    match place {
+        Some(met) => met.member.fetch_into(within(key), value),
+        None => unreachable!(),
+    }
+}
+
+pub(crate) fn take_into_at(
+    place: &mut Option<Met>,
+    key: u64,
+    most: usize,
+    value: &mut Value,
+) -> Result<(), Refusal>
+    requires { IsSome place.old }
+    ensures { MetDoes (SideDoes chunked (λ v answer w. TakeIntoDoes chunked (key_within key) most v answer value.new w))
+        place.old result place.new }
+{
+    match place {
+        Some(met) => met.member.take_into(within(key), most, value),
+        None => unreachable!(),
+    }
+}
+
+pub(crate) fn remove_at(place: &mut Option<Met>, key: u64) -> Result<(), Refusal>
+    requires { IsSome place.old }
+    ensures { MetDoes (SideDoes chunked (RemoveDoes chunked (key_within key))) place.old result place.new }
+{
+    match place {
+        Some(met) => met.member.remove(within(key)),
+        None => unreachable!(),
+    }
+}
+
+pub(crate) fn insert_at(place: &mut Option<Met>, chunk: u8, value: &Value) -> Result<u64, Refusal>
+    requires { IsSome place.old }
+    ensures inserts { MetDoes (InsertsIn value.now) place.old result place.new }
+    ensures chunk { IfOk result (λ key. chunk_of key ≡ chunk) }
+    ensures keeps { OnErr result (KeepsMember place.old place.new) }
+{
+    match place {
+        Some(met) => {
+            let key = met.member.insert(value)?;
+            chunked_keys_fit();
+            Ok(Chunked::chunk_key(chunk, key))
+        }
+        None => unreachable!(),
+    }
+}
+
+pub(crate) fn collect_at(place: &mut Option<Met>) -> Result<(), Refusal>
+    requires { IsSome place.old }
+    ensures collects { MetDoes (SideCollects chunked) place.old result place.new }
+    ensures keeps { KeepsMember place.old place.new }
+{
+    match place {
+        Some(met) => met.member.collect(),
+        None => unreachable!(),
+    }
+}
+
+// How many shards the chunk has.
+pub(crate) fn shards_at(place: &Option<Met>) -> u32 {
+    match place {
+        Some(met) => met.shards,
+        None => 0,
+    }
+}
+
+// Owns this shard of a chunk, and no other there. Refused as `Taken`, `NoShard` or `Memory`, and as `Waiting` if the
+// shard that it owns before cannot be left.
+pub(crate) fn move_to(alloc: Global, place: &mut Option<Met>, shard: usize) -> Result<(), Refusal>
+    requires { IsSome place.old }
+    ensures { KeepsMember place.old place.new }
+{
+    match place {
+        Some(met) => {
+            if met.member.owns_shard() {
+                met.member.leave()?;
+            }
+            met.member.adopt(alloc, shard as u64)
+        }
+        None => unreachable!(),
+    }
+}
+
+// Leaves the shard that the caller owns in a chunk, if it owns one. Refused as `Waiting`.
+pub(crate) fn leave_at(place: &mut Option<Met>) -> Result<(), Refusal>
+    ensures left { OnOk result (OwnsNone place.new) }
+    ensures err { IfErr result (λ why. why ≡ Waiting) }
+    ensures keeps { KeepsMember place.old place.new }
+{
+    let Some(met) = place else {
+        return Ok(());
+    };
+    if met.member.owns_shard() {
+        met.member.leave()?;
+    }
+    Ok(())
+}
+
+// Gives all passes back, from the last chunk to the first.
+pub(crate) fn go_home_each(mut places: Vec<Option<Met>>) {
+    while let Some(place) = places.pop() {
+        if let Some(met) = place {
+            met.go_home();
+        }
+    }
+}

@@ -1,0 +1,265 @@
+//! Worked calls of growing heaps. One value of one word takes a slot; a shard of one segment has 384 of them.
+//!
+//! No clause says which chunk an insert goes to, or that what others freed is used before a chunk is opened. Nor does
+//! one say that a number is claimed again, or that two threads get one chunk.
+use sh_grown::{Caller, Growing};
+use sh_value::{Refusal, Value};
+use std::alloc::Global;
+use std::fmt::Debug;
+use std::process::Abort;
+use std::thread::join;
+
+// How many values of one word the first chunk has room for, and the first three together.
+const FIRST: u64 = 768;
+
+const THREE: u64 = 1536;
+
+// Asserts that what was found is what is wanted. Each assertion that is written out is proved anew.
+fn agree<T: PartialEq + Debug + Drop>(rt: &impl Abort, found: T, wanted: T) {
+    assert_eq!(rt; found, wanted);
+}
+
+// Stores the numbers from `from` on, and returns their keys in order.
+fn stored(
+    rt: &impl Abort,
+    alloc: Global,
+    caller: &mut Caller<'_>,
+    from: u64,
+    count: u64,
+) -> Vec<u64> {
+    let mut keys = Vec::new(alloc);
+    for n in 0..count {
+        let key = caller
+            .insert(alloc, &Value::from(from.wrapping_add(n)))
+            .expect(rt, "a key");
+        keys.push(key).expect(rt, "room for a key");
+    }
+    keys
+}
+
+// Asserts that the keys have the numbers from `from` on.
+fn has_all(rt: &impl Abort, caller: &mut Caller<'_>, keys: &[u64], from: u64) {
+    let mut wanted = from;
+    for key in keys {
+        agree(rt, caller.fetch(*key), Ok(Value::from(wanted)));
+        wanted = wanted.wrapping_add(1);
+    }
+}
+
+#[test]
+fn values_of_several_chunks_are_found(rt: HostRuntime) {
+    let growing = Growing::open(rt.alloc(), 2, 256).expect(&rt, "a heap");
+    let mut caller = growing.claim(rt.alloc()).expect(&rt, "a caller");
+    let mut other = growing.claim(rt.alloc()).expect(&rt, "another caller");
+    agree(&rt, (caller.number(), other.number()), (0, 1));
+    let keys = stored(&rt, rt.alloc(), &mut caller, 0, 3000);
+    agree(&rt, growing.chunks(), 5);
+    has_all(&rt, &mut other, &keys, 0);
+    for key in keys.iter().step_by(3) {
+        agree(&rt, other.remove(*key), Ok(()));
+        agree(&rt, caller.fetch(*key), Err(Refusal::Gone));
+    }
+    // What the other removed is used again before a chunk is opened.
+    let more = stored(&rt, rt.alloc(), &mut caller, 5000, 1000);
+    agree(&rt, growing.chunks(), 5);
+    has_all(&rt, &mut other, &more, 5000);
+}
+
+// The numbers of chunks at bits 56 to 63, by hand: 768 values go to chunk 0, and the next one to chunk 1.
+#[test]
+fn a_key_has_the_number_of_its_chunk(rt: HostRuntime) {
+    let growing = Growing::open(rt.alloc(), 1, 3).expect(&rt, "a heap");
+    let mut caller = growing.claim(rt.alloc()).expect(&rt, "a caller");
+    let keys = stored(&rt, rt.alloc(), &mut caller, 0, FIRST + 1);
+    agree(&rt, keys.get(767).map(|key| *key >> 56), Some(0));
+    agree(&rt, keys.get(768).map(|key| *key >> 56), Some(1));
+    // No chunk of the heap has this number, chunk 2 is not open, and page 16 is in no shard of chunk 1.
+    agree(
+        &rt,
+        caller.fetch(3 << 56 | 16_777_216),
+        Err(Refusal::BadKey),
+    );
+    agree(
+        &rt,
+        caller.fetch(2 << 56 | 16_777_216),
+        Err(Refusal::BadKey),
+    );
+    agree(
+        &rt,
+        caller.fetch(1 << 56 | 16_778_240),
+        Err(Refusal::BadKey),
+    );
+}
+
+#[test]
+fn a_heap_whose_chunks_are_full_is_full(rt: HostRuntime) {
+    let growing = Growing::open(rt.alloc(), 2, 3).expect(&rt, "a heap");
+    let mut caller = growing.claim(rt.alloc()).expect(&rt, "a caller");
+    let mut other = growing.claim(rt.alloc()).expect(&rt, "another caller");
+    let keys = stored(&rt, rt.alloc(), &mut caller, 0, THREE);
+    agree(&rt, growing.chunks(), 3);
+    agree(
+        &rt,
+        caller.insert(rt.alloc(), &Value::from(1)),
+        Err(Refusal::Full),
+    );
+    has_all(&rt, &mut other, &keys, 0);
+    // Each slot that is freed has room for one value more, in any chunk.
+    for key in keys.iter().step_by(500) {
+        agree(&rt, other.remove(*key), Ok(()));
+        agree(
+            &rt,
+            caller.insert(rt.alloc(), &Value::from(7)).is_ok(),
+            true,
+        );
+        agree(
+            &rt,
+            caller.insert(rt.alloc(), &Value::from(8)),
+            Err(Refusal::Full),
+        );
+    }
+}
+
+#[test]
+fn holds_count_in_each_chunk(rt: HostRuntime) {
+    let growing = Growing::open(rt.alloc(), 2, 3).expect(&rt, "a heap");
+    let mut caller = growing.claim(rt.alloc()).expect(&rt, "a caller");
+    let mut other = growing.claim(rt.alloc()).expect(&rt, "another caller");
+    let keys = stored(&rt, rt.alloc(), &mut caller, 0, FIRST + 1);
+    let (Some(low), Some(high)) = (keys.first(), keys.last()) else {
+        return;
+    };
+    for _ in 0..16 {
+        agree(&rt, other.get(*low).map(|hold| hold.key), Ok(*low));
+        agree(&rt, other.get(*high).map(|hold| hold.key), Ok(*high));
+    }
+    agree(&rt, other.get(*high), Err(Refusal::HoldsFull));
+    let hold = sh_value::Hold { key: *high };
+    agree(&rt, caller.remove(*high), Ok(()));
+    agree(&rt, other.read(hold), Ok(Value::from(FIRST)));
+    agree(&rt, caller.read(hold), Err(Refusal::NotHeld));
+    for _ in 0..16 {
+        agree(&rt, other.release(hold), Ok(()));
+    }
+    agree(&rt, other.release(hold), Err(Refusal::NotHeld));
+}
+
+#[test]
+fn a_number_is_claimed_again(rt: HostRuntime) {
+    let growing = Growing::open(rt.alloc(), 2, 3).expect(&rt, "a heap");
+    let mut caller = growing.claim(rt.alloc()).expect(&rt, "a caller");
+    let other = growing.claim(rt.alloc()).expect(&rt, "another caller");
+    agree(&rt, growing.claim(rt.alloc()).err(), Some(Refusal::Taken));
+    let keys = stored(&rt, rt.alloc(), &mut caller, 0, FIRST + 1);
+    agree(&rt, caller.end().is_ok(), true);
+    agree(&rt, other.end().is_ok(), true);
+    let mut again = growing.claim(rt.alloc()).expect(&rt, "a caller again");
+    agree(&rt, again.number(), 0);
+    has_all(&rt, &mut again, &keys, 0);
+    agree(&rt, again.insert(rt.alloc(), &Value::from(9)).is_ok(), true);
+}
+
+#[test]
+fn numbers_outside_the_limits_are_refused(rt: HostRuntime) {
+    agree(
+        &rt,
+        Growing::open(rt.alloc(), 0, 1).err(),
+        Some(Refusal::BadShape),
+    );
+    agree(
+        &rt,
+        Growing::open(rt.alloc(), 65, 1).err(),
+        Some(Refusal::BadShape),
+    );
+    agree(
+        &rt,
+        Growing::open(rt.alloc(), 1, 0).err(),
+        Some(Refusal::BadShape),
+    );
+    agree(
+        &rt,
+        Growing::open(rt.alloc(), 1, 257).err(),
+        Some(Refusal::BadShape),
+    );
+}
+
+// A thread's work: its caller stores numbers, and comes back with their keys.
+fn fills<'a>(
+    rt: &impl Abort,
+    alloc: Global,
+    mut caller: Caller<'a>,
+    from: u64,
+) -> (Caller<'a>, Vec<u64>) {
+    let keys = stored(rt, alloc, &mut caller, from, 700);
+    (caller, keys)
+}
+
+// Both threads need chunk 1 and chunk 2 at about the same time. All 1,400 values are found, whichever thread opened a
+// chunk.
+#[test]
+fn two_threads_open_the_same_chunks(rt: HostRuntime) {
+    let growing = Growing::open(rt.alloc(), 2, 3).expect(&rt, "a heap");
+    let one = growing.claim(rt.alloc()).expect(&rt, "a caller");
+    let other = growing.claim(rt.alloc()).expect(&rt, "another caller");
+    let alloc = rt.alloc();
+    let ((mut one, low), (mut other, high)) = join(
+        &rt,
+        || fills(&rt, alloc, one, 0),
+        || fills(&rt, alloc, other, 10_000),
+    );
+    agree(&rt, growing.chunks(), 3);
+    has_all(&rt, &mut one, &low, 0);
+    has_all(&rt, &mut one, &high, 10_000);
+    has_all(&rt, &mut other, &low, 0);
+    has_all(&rt, &mut other, &high, 10_000);
+}
+
+// Opens a heap, and asks once more if memory was refused.
+fn opened_with_memory(rt: &impl Abort, alloc: Global) -> Growing {
+    match Growing::open(alloc, 1, 3) {
+        Ok(growing) => growing,
+        Err(why) => {
+            agree(rt, why, Refusal::Memory);
+            Growing::open(alloc, 1, 3).expect(rt, "a heap")
+        }
+    }
+}
+
+// The same for a caller.
+fn claimed_with_memory<'a>(rt: &impl Abort, alloc: Global, growing: &'a Growing) -> Caller<'a> {
+    match growing.claim(alloc) {
+        Ok(caller) => caller,
+        Err(why) => {
+            agree(rt, why, Refusal::Memory);
+            growing.claim(alloc).expect(rt, "a caller")
+        }
+    }
+}
+
+// The same for an insert.
+fn inserted_with_memory(rt: &impl Abort, alloc: Global, caller: &mut Caller<'_>, n: u64) -> u64 {
+    match caller.insert(alloc, &Value::from(n)) {
+        Ok(key) => key,
+        Err(why) => {
+            agree(rt, why, Refusal::Memory);
+            caller.insert(alloc, &Value::from(n)).expect(rt, "a key")
+        }
+    }
+}
+
+// If memory is refused, nothing is lost: the same call then succeeds, and each value is there once.
+#[test]
+fn refused_memory_opens_nothing(rt: HostRuntime) {
+    let growing = opened_with_memory(&rt, rt.alloc());
+    let mut caller = claimed_with_memory(&rt, rt.alloc(), &growing);
+    for n in 0..THREE {
+        let key = inserted_with_memory(&rt, rt.alloc(), &mut caller, n);
+        agree(&rt, caller.fetch(key), Ok(Value::from(n)));
+    }
+    agree(&rt, growing.chunks(), 3);
+    agree(
+        &rt,
+        caller.insert(rt.alloc(), &Value::from(1)),
+        Err(Refusal::Full),
+    );
+}
