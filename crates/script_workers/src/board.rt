@@ -163,8 +163,7 @@ impl<B: Room> Board<B> {
             (λ number. HeardName B.tag number (S.seen side.old) (S.seen side.new)) }
     {
         let bound = self.bound.get(name)?;
-        let mut names =
-            bound.wait_while(rt, self.names.lock(rt), |names| names.is_awaited(name));
+        let mut names = bound.wait_while(rt, self.names.lock(rt), |names| names.is_awaited(name));
         names.told(name, side)
     }
 

@@ -33,7 +33,13 @@ fn a_chunk_is_at_most_half_of_those_before_it(rt: HostRuntime) {
 // By hand: the first chunks, those that reach 64 shards, and those whose shards have 2, 256 and 512 segments.
 #[test]
 fn shards_double_before_segments(rt: HostRuntime) {
-    assert_eq!(rt; (segments(0), segments(1), segments(2), segments(3)), (2, 1, 1, 2));
+    assert_eq!(rt;
+        (segments(0), segments(1), segments(2), segments(3)),
+        (2, 1, 1, 2)
+    );
     assert_eq!(rt; (segments(12), segments(13), segments(14)), (32, 64, 64));
-    assert_eq!(rt; (segments(15), segments(30), segments(31), segments(255)), (128, 16_384, 32_768, 32_768));
+    assert_eq!(rt;
+        (segments(15), segments(30), segments(31), segments(255)),
+        (128, 16_384, 32_768, 32_768)
+    );
 }
