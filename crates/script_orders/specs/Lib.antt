@@ -6,3 +6,4 @@ pub mod States
 pub mod Marks
 pub mod Counts
 pub mod Walks
+pub mod Printed

@@ -33,8 +33,8 @@ fn refuse(rt: &HostRuntime, fault: Fault) -> u8 {
 
 // Writes what is printed, and returns the exit status.
 fn write_printed(rt: &HostRuntime, printed: &Printed) -> u8 {
-    let output = printed.output.as_str().as_bytes();
-    let errors = printed.errors.as_str().as_bytes();
+    let output = printed.output.as_slice();
+    let errors = printed.errors.as_slice();
     if write_text(&mut rt.stdout(), output).is_err() {
         return refuse(rt, Fault::Io);
     }

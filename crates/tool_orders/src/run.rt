@@ -1,40 +1,40 @@
 //! What the program prints for a script.
 use crate::options::Options;
 use script_orders::expected::first_difference;
-use script_orders::report::{push_bytes, report, report_cut, witness};
+use script_orders::report::{report, report_cut, witness};
 use script_orders::text::{Lines, lines_of};
 use script_orders::{Explored, Program, Whole, explore};
 use sh_key::{Tiny, Wide};
 use sh_script::{Events, Fault, Layout, parse_events};
 use std::alloc::{AllocError, Global};
-use std::fmt::Write;
 
 /// What is printed, and the exit status.
 #[derive(Drop)]
 pub struct Printed {
     /// What goes to the standard output.
-    pub output: String,
+    pub output: Vec<u8>,
     /// What goes to the standard error.
-    pub errors: String,
+    pub errors: Vec<u8>,
     /// The exit status.
     pub status: u8,
 }
 
 // What is printed if nothing is wrong.
-fn good(alloc: Global, output: String) -> Printed {
+fn good(alloc: Global, output: Vec<u8>) -> Printed {
     Printed {
         output,
-        errors: String::new(alloc),
+        errors: Vec::new(alloc),
         status: 0,
     }
 }
 
 // One line on the standard error, and the exit status 2.
-fn wrong(alloc: Global, what: &str) -> Result<Printed, AllocError> {
-    let mut errors = String::new(alloc);
-    writeln!(errors, "tool_orders: {what}")?;
+fn wrong(alloc: Global, what: &[u8]) -> Result<Printed, AllocError> {
+    let mut errors = Vec::from_slice(alloc, b"tool_orders: ")?;
+    errors.extend_from_slice(what)?;
+    errors.push(b'\n')?;
     Ok(Printed {
-        output: String::new(alloc),
+        output: Vec::new(alloc),
         errors,
         status: 2,
     })
@@ -70,23 +70,20 @@ fn explored(
     }
 }
 
-fn push_side(errors: &mut String, name: &str, line: Option<&[u8]>) -> Result<(), AllocError> {
-    errors.push_str(name)?;
-    match line {
-        Some(line) => push_bytes(errors, line)?,
-        None => errors.push_str("no further line")?,
-    }
-    errors.push_str("\n")
+fn push_side(errors: &mut Vec<u8>, name: &[u8], line: Option<&[u8]>) -> Result<(), AllocError> {
+    errors.extend_from_slice(name)?;
+    errors.extend_from_slice(line.unwrap_or(b"no further line"))?;
+    errors.extend_from_slice(b"\n")
 }
 
 // Compares the outcomes with those that are expected.
-fn compared(alloc: Global, output: String, expected: &[u8]) -> Result<Printed, AllocError> {
-    let mut errors = String::new(alloc);
+fn compared(alloc: Global, output: Vec<u8>, expected: &[u8]) -> Result<Printed, AllocError> {
+    let mut errors = Vec::new(alloc);
     let mut status = 0;
-    if let Some(difference) = first_difference(expected, output.as_str().as_bytes()) {
-        errors.push_str("tool_orders: other outcomes than expected\n")?;
-        push_side(&mut errors, "expected: ", difference.expected)?;
-        push_side(&mut errors, "found: ", difference.found)?;
+    if let Some(difference) = first_difference(expected, output.as_slice()) {
+        errors.extend_from_slice(b"tool_orders: other outcomes than expected\n")?;
+        push_side(&mut errors, b"expected: ", difference.expected)?;
+        push_side(&mut errors, b"found: ", difference.found)?;
         status = 1;
     }
     Ok(Printed {
@@ -107,7 +104,7 @@ fn witnessed(
     let place = number.saturating_sub(1);
     match whole.found.get(place as usize) {
         Some(found) => Ok(good(alloc, witness(alloc, lines, first, found)?)),
-        None => wrong(alloc, "there is no outcome of that number"),
+        None => wrong(alloc, b"there is no outcome of that number"),
     }
 }
 
@@ -161,12 +158,12 @@ pub fn run_script(
             expected,
         )),
         Some(Explored::Cut(cut)) => match report_cut(alloc, cut, options.limit) {
-            Ok(text) => memory(wrong(alloc, text.as_str())),
+            Ok(text) => memory(wrong(alloc, text.as_slice())),
             Err(_) => Err(Fault::Memory),
         },
         None => memory(wrong(
             alloc,
-            "a script of layout tagged: use layout tiny or wide, whose keys have no tag",
+            b"a script of layout tagged: use layout tiny or wide, whose keys have no tag",
         )),
     }
 }
