@@ -1,5 +1,5 @@
 //! Callers of a growing heap.
-ghost use Rattle.std.specs.Prelude.{◌≡◌, ℕ, ◌<◌, ◌≤◌, IfErr, IfOk, IfSome, IsSome, MatchResult, None, OnOk, get_or};
+ghost use Rattle.std.specs.Prelude.{◌≡◌, ℕ, ◌<◌, IfErr, IfOk, IfSome, IsSome, MatchResult, None, OnOk, get_or};
 ghost use Rattle.std.specs.Prelude.{length};
 ghost use Rattle.sh_value.specs.declared.refusal.Refusal.TheVariants.{Memory};
 ghost use Rattle.sh_grown.specs.Callers.{IsClaimed, IsNewcomer, Meets, Stays, WhyUnmet, WhyWithout};
