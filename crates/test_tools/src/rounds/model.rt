@@ -212,12 +212,13 @@ impl Model {
 
     // How many slots of a page were filled.
     fn filled(&self, page: u32) -> u32 {
-        self.slots.iter().filter(|slot| slot.page == page).count() as u32
+        let count = self.slots.iter().filter(|slot| slot.page == page).count();
+        u32::try_from(count).unwrap_or(u32::MAX)
     }
 
     // A page of this class with a slot that was never filled: one that has the class, or a blank one.
     fn page_with_room(&mut self, class: u32) -> Result<u32, Refusal> {
-        let pages = self.classes.len() as u32;
+        let pages = u32::try_from(self.classes.len()).unwrap_or(u32::MAX);
         for page in 0..pages {
             if self.classes.get(page as usize) == Some(&class)
                 && self.filled(page) < slots_of(class)
