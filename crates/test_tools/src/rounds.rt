@@ -17,7 +17,8 @@ use tool_judge::counts::{Count, Counts};
 use tool_judge::dice::Dice;
 use tool_judge::fault::{Call, Fault, Wrong};
 use tool_rounds::moments::Moments;
-use tool_rounds::round::{Outcome, Plan};
+use tool_rounds::plan::{Layout, Plan};
+use tool_rounds::round::Outcome;
 
 // A round of one thread with so many passes.
 fn round_of<R: Threads + Wait + Sync>(
@@ -27,6 +28,7 @@ fn round_of<R: Threads + Wait + Sync>(
     passes: u32,
 ) -> Outcome {
     let plan = Plan {
+        layout: Layout::Tiny,
         threads: 1,
         passes,
         shards: 1,

@@ -20,6 +20,7 @@ pub mod moments;
 pub mod options;
 pub mod owning;
 pub mod pass;
+pub mod plan;
 pub mod program;
 pub mod round;
 pub mod turn;

@@ -5,6 +5,7 @@ use crate::actor::Actor;
 use crate::board::{Board, Letter};
 use crate::moments::Moments;
 use crate::pass::LonePass;
+use crate::plan::MOST_SLOTS;
 use crate::user::User;
 use crate::using;
 use sh_value::Refusal;
@@ -16,9 +17,6 @@ use tool_judge::fault::Call;
 use tool_judge::line::Told;
 use tool_judge::pattern;
 use tool_judge::record::Record;
-
-// The greatest number of slots that the two segments of a shard may have.
-const MOST_SLOTS: u32 = 768;
 
 /// Tries to adopt a shard.
 pub fn adopt<P: LonePass>(alloc: Global, lone: P, record: &mut Record, shard: u64) -> Actor<P> {

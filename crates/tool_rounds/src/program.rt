@@ -3,7 +3,8 @@ ghost use Rattle.std.specs.Thread.{IsSync};
 
 use crate::history::{History, key_of};
 use crate::options::{Options, read_options};
-use crate::round::{Outcome, Plan};
+use crate::plan::{Plan, plan_of};
+use crate::round::Outcome;
 use clap::Error;
 use clap::error::ErrorKind;
 use script_start::show;
@@ -25,17 +26,6 @@ fn refuse<W: Write, E: Write>(error: &Error, output: &mut W, errors: &mut E) -> 
     match error.kind() {
         ErrorKind::OutOfMemory => 3,
         _ => show(error, output, errors),
-    }
-}
-
-// The plan of a round, by the options and the dice.
-fn plan(options: &Options<'_>, dice: &mut Dice) -> Plan {
-    Plan {
-        threads: options.threads,
-        passes: options.passes,
-        shards: 1 + dice.below(3) as u32,
-        segments: 1 + dice.below(2) as u32,
-        steps: options.steps,
     }
 }
 
@@ -85,7 +75,7 @@ fn play_all<H: Heaps, E: Write, R: Threads + Wait + Sync>(
         last: History::empty(alloc),
     };
     for round in 0..options.rounds {
-        let plan = plan(options, &mut dice);
+        let plan = plan_of(options, round, &mut dice);
         let Outcome { counts, history } = heaps.play(rt, alloc, round, &plan, &mut dice);
         run.last = history;
         match counts {

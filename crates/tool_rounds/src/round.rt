@@ -2,6 +2,7 @@
 use crate::board::Board;
 use crate::history::History;
 use crate::pass::LonePass;
+use crate::plan::Plan;
 use crate::worker::Worker;
 use crate::{crew, ending};
 use sh_shape::Shape;
@@ -12,21 +13,6 @@ use std::thread::Threads;
 use tool_judge::counts::Counts;
 use tool_judge::dice::Dice;
 use tool_judge::fault::Fault;
-
-/// The sizes of a round.
-#[derive(Clone, Copy, Debug, PartialEq, Eq)]
-pub struct Plan {
-    /// The number of threads.
-    pub threads: u32,
-    /// The number of passes of each thread.
-    pub passes: u32,
-    /// The number of shards of the heap.
-    pub shards: u32,
-    /// The number of segments of a shard.
-    pub segments: u32,
-    /// The number of turns that each thread takes.
-    pub steps: u64,
-}
 
 /// What came of a round.
 #[derive(Drop)]

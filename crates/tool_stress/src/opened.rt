@@ -5,7 +5,7 @@ ghost use Rattle.sh_pass.specs.Passes.{Caller};
 
 use crate::home::Home;
 use crate::lone::Lone;
-use sh_key::{KeyLayout, Tiny, Wide};
+use sh_key::{Deep, KeyLayout, Tagged, Tiny, Wide};
 use sh_pass::{Heap, Pass, Seats};
 use sh_shape::Shape;
 use sh_value::Refusal;
@@ -15,9 +15,10 @@ use std::sync::Wait;
 use std::thread::Threads;
 use tool_judge::dice::Dice;
 use tool_judge::fault::{Call, Fault, Wrong};
+use tool_rounds::plan::{Layout, Plan};
 use tool_rounds::program::Heaps;
 use tool_rounds::round;
-use tool_rounds::round::{Outcome, Plan};
+use tool_rounds::round::Outcome;
 
 // Why the heap could not be opened.
 fn unopened(refusal: Refusal) -> Fault {
@@ -101,19 +102,19 @@ fn play<L: KeyLayout + Send, R: Threads + Wait + Sync>(
 pub struct Library;
 
 impl Heaps for Library {
-    // Rounds take turns between a layout with few generations and holds per slot, and one with many.
     fn play<R: Threads + Wait + Sync>(
         &self,
         rt: &R,
         alloc: Global,
-        round: u64,
+        _round: u64,
         plan: &Plan,
         dice: &mut Dice,
     ) -> Outcome {
-        if round % 2 == 0 {
-            play::<Tiny, R>(rt, alloc, plan, dice)
-        } else {
-            play::<Wide, R>(rt, alloc, plan, dice)
+        match plan.layout {
+            Layout::Tiny => play::<Tiny, R>(rt, alloc, plan, dice),
+            Layout::Wide => play::<Wide, R>(rt, alloc, plan, dice),
+            Layout::Deep => play::<Deep, R>(rt, alloc, plan, dice),
+            Layout::Tagged => play::<Tagged, R>(rt, alloc, plan, dice),
         }
     }
 }

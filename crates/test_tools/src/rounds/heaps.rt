@@ -9,8 +9,9 @@ use std::sync::{Mutex, Wait};
 use std::thread::Threads;
 use tool_judge::dice::Dice;
 use tool_judge::fault::{Call, Fault, Wrong};
+use tool_rounds::plan::Plan;
 use tool_rounds::program::Heaps;
-use tool_rounds::round::{Outcome, Plan, play};
+use tool_rounds::round::{Outcome, play};
 
 /// Models for a run. The round of this number has a heap with a defect.
 #[derive(Drop)]
