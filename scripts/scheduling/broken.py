@@ -263,19 +263,19 @@ HEAPS = [
 JUDGE = [
     (
         "tool_rounds/src/ending.rt",
-        """    if let Some(worker) = workers.first_mut() {
-        worker.fill(moments, len);
+        """    fill_others(workers, moments, shards, len);
 """,
         """    if let Some((worker, others)) = workers.split_first_mut() {
         if let Some(other) = others.first_mut() {
             worker.refill(other, moments, len);
         }
-        worker.fill(moments, len);
+    }
+    fill_others(workers, moments, shards, len);
 """,
     ),
     (
         "tool_rounds/src/worker.rt",
-        """    /// Fills each shard with values of `len` words. Nobody owns a shard.
+        """    /// Fills its shard with values of `len` words, if it has one.
 """,
         """    // Fills the first shard, and again after another pass and after the owner removed a value. A slot of the
     // layout with few holds has few generations, so it may be retired.
@@ -305,7 +305,7 @@ JUDGE = [
         }
     }
 
-    /// Fills each shard with values of `len` words. Nobody owns a shard.
+    /// Fills its shard with values of `len` words, if it has one.
 """,
     ),
     (

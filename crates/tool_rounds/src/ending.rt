@@ -1,4 +1,9 @@
 //! The end of a round: it ends all that was begun, fills all shards, and joins all passes.
+//!
+//! An adoption files all pages of a shard again, so it may hide that a page was lost. So in every second round the owners
+//! of that moment fill their shards, before they leave. The other shards are adopted, filled and left.
+ghost use Rattle.std.specs.Prelude.{◌≤◌};
+
 use crate::history::History;
 use crate::judging;
 use crate::moments::Moments;
@@ -13,7 +18,7 @@ use tool_judge::fault::{Fault, Wrong};
 use tool_judge::line::Line;
 use tool_judge::record::Record;
 
-// Ends what was begun by hand, releases most holds, and leaves each shard.
+// Ends what was begun by hand, and releases most holds.
 fn settle<C: Drop, P: LonePass<Receipt = C>>(
     workers: &mut [Worker<P>],
     moments: &Moments,
@@ -25,22 +30,59 @@ fn settle<C: Drop, P: LonePass<Receipt = C>>(
     for worker in workers.iter_mut() {
         worker.release_most(moments, dice);
     }
+}
+
+// Each owner fills its shard with values of `len` words.
+fn fill_owned<C: Drop, P: LonePass<Receipt = C>>(
+    workers: &mut [Worker<P>],
+    moments: &Moments,
+    len: usize,
+)
+    requires { len ≤ 16 }
+{
+    for worker in workers.iter_mut() {
+        worker.fill_own(moments, len);
+    }
+}
+
+// Each owner leaves its shard.
+fn retire<C: Drop, P: LonePass<Receipt = C>>(workers: &mut [Worker<P>]) {
     for worker in workers.iter_mut() {
         worker.retire();
     }
 }
 
-// Fills each shard with values of one random length, and returns their class.
+// The first pass adopts each shard that was not filled, and fills it with values of `len` words. Nobody owns a shard.
+fn fill_others<C: Drop, P: LonePass<Receipt = C>>(
+    workers: &mut [Worker<P>],
+    moments: &Moments,
+    shards: u32,
+    len: usize,
+)
+    requires { len ≤ 16 }
+{
+    for shard in 0..u64::from(shards) {
+        let is_filled = workers.iter().any(|worker| worker.has_filled(shard));
+        if let (false, Some(worker)) = (is_filled, workers.first_mut()) {
+            worker.fill(moments, shard, len);
+        }
+    }
+}
+
+// Fills each shard with values of one random length, and returns their class. Then nobody owns a shard.
 fn fill<C: Drop, P: LonePass<Receipt = C>>(
     workers: &mut [Worker<P>],
     moments: &Moments,
+    shards: u32,
     dice: &mut Dice,
 ) -> u32 {
     let len = dice.below(17) as usize;
-    if let Some(worker) = workers.first_mut() {
-        worker.fill(moments, len);
-        worker.retire();
+    if dice.once_in(2) {
+        fill_owned(workers, moments, len);
     }
+    retire(workers);
+    fill_others(workers, moments, shards, len);
+    retire(workers);
     class_of(len).unwrap_or(0)
 }
 
@@ -129,7 +171,7 @@ pub fn ended<C: Drop, P: LonePass<Receipt = C>>(
     dice: &mut Dice,
 ) -> Outcome {
     settle(workers.as_mut_slice(), moments, dice);
-    let class = fill(workers.as_mut_slice(), moments, dice);
+    let class = fill(workers.as_mut_slice(), moments, shape.shards(), dice);
     let Gathered {
         carrier,
         mut counts,

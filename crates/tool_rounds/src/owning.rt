@@ -103,6 +103,22 @@ pub fn insert<R: Wait, C: Drop, P: LonePass<Receipt = C>>(
     }
 }
 
+/// Inserts values of `len` words into the owner's shard until it is full.
+pub fn fill_own<P: LonePass>(
+    owner: &mut P::Owner,
+    record: &mut Record,
+    moments: &Moments,
+    len: usize,
+)
+    requires { len ≤ 16 }
+{
+    for _ in 0..MOST_SLOTS {
+        if put::<P>(owner, record, moments, len).is_none() {
+            return;
+        }
+    }
+}
+
 /// Adopts a shard that nobody owns, inserts values of `len` words until it is full, and leaves it.
 pub fn fill<P: LonePass>(
     alloc: Global,
@@ -118,10 +134,6 @@ pub fn fill<P: LonePass>(
         record.refused(Call::Adopt, Refusal::Taken);
         return Actor::Moving;
     };
-    for _ in 0..MOST_SLOTS {
-        if put::<P>(&mut owner, record, moments, len).is_none() {
-            break;
-        }
-    }
+    fill_own::<P>(&mut owner, record, moments, len);
     leave::<P>(owner, record)
 }

@@ -23,6 +23,10 @@ pub struct Worker<P: LonePass> {
     actor: Actor<P>,
     record: Record,
     shards: u64,
+    // The shard that it tried to adopt last. An owner owns this one.
+    shard: u64,
+    // The shard that it filled as its owner at the end of the round.
+    filled: Option<u64>,
     alloc: Global,
 }
 
@@ -33,6 +37,8 @@ impl<C: Drop, P: LonePass<Receipt = C>> Worker<P> {
             actor: Actor::Lone(lone),
             record: Record::new(alloc, number),
             shards,
+            shard: 0,
+            filled: None,
             alloc,
         }
     }
@@ -51,8 +57,8 @@ impl<C: Drop, P: LonePass<Receipt = C>> Worker<P> {
     ) -> Actor<P> {
         match turn::of_lone(dice) {
             Turn::Adopt => {
-                let shard = dice.below(self.shards.max(1));
-                owning::adopt(self.alloc, lone, &mut self.record, shard)
+                self.shard = dice.below(self.shards.max(1));
+                owning::adopt(self.alloc, lone, &mut self.record, self.shard)
             }
             Turn::Begin => by_hand::begin(lone, &mut self.record, board, dice),
             turn => {
@@ -183,22 +189,28 @@ impl<C: Drop, P: LonePass<Receipt = C>> Worker<P> {
         }
     }
 
-    // Fills a shard that nobody owns.
-    fn fill_one(&mut self, moments: &Moments, shard: u64, len: usize)
+    /// Fills its shard with values of `len` words, if it has one.
+    pub fn fill_own(&mut self, moments: &Moments, len: usize)
+        requires { len ≤ 16 }
+    {
+        if let Actor::Owner(owner) = &mut self.actor {
+            owning::fill_own::<P>(owner, &mut self.record, moments, len);
+            self.filled = Some(self.shard);
+        }
+    }
+
+    /// Whether it filled this shard as its owner.
+    pub fn has_filled(&self, shard: u64) -> bool {
+        self.filled == Some(shard)
+    }
+
+    /// Fills a shard that nobody owns with values of `len` words.
+    pub fn fill(&mut self, moments: &Moments, shard: u64, len: usize)
         requires { len ≤ 16 }
     {
         let actor = self.moving();
         let filled = actor.filled(self.alloc, &mut self.record, moments, shard, len);
         self.put(filled);
-    }
-
-    /// Fills each shard with values of `len` words. Nobody owns a shard.
-    pub fn fill(&mut self, moments: &Moments, len: usize)
-        requires { len ≤ 16 }
-    {
-        for shard in 0..self.shards {
-            self.fill_one(moments, shard, len);
-        }
     }
 
     /// The pass, if it owns nothing and has begun nothing, with its record.
@@ -207,6 +219,8 @@ impl<C: Drop, P: LonePass<Receipt = C>> Worker<P> {
             actor,
             record,
             shards: _,
+            shard: _,
+            filled: _,
             alloc: _,
         } = self;
         (actor.into_lone(), record)
