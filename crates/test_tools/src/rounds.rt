@@ -20,12 +20,13 @@ use tool_rounds::moments::Moments;
 use tool_rounds::plan::{Layout, Plan};
 use tool_rounds::round::Outcome;
 
-// A round of one thread with so many passes.
-fn round_of<R: Threads + Wait + Sync>(
+// A round of one thread with this number of passes, by these dice.
+fn round_by<R: Threads + Wait + Sync>(
     rt: &R,
     alloc: Global,
     defect: Defect,
     passes: u32,
+    dice: &mut Dice,
 ) -> Outcome {
     let plan = Plan {
         layout: Layout::Tiny,
@@ -35,10 +36,20 @@ fn round_of<R: Threads + Wait + Sync>(
         segments: 1,
         steps: 1_500,
     };
-    played(rt, alloc, &plan, defect, &mut Dice::new(3))
+    played(rt, alloc, &plan, defect, dice)
 }
 
-// The counts of a round of so many passes, or the fault that it finds.
+// The same, by the dice of one seed.
+fn round_of<R: Threads + Wait + Sync>(
+    rt: &R,
+    alloc: Global,
+    defect: Defect,
+    passes: u32,
+) -> Outcome {
+    round_by(rt, alloc, defect, passes, &mut Dice::new(3))
+}
+
+// The counts of a round of this number of passes, or the fault that it finds.
 fn counts_of<R: Threads + Wait + Sync>(
     rt: &R,
     alloc: Global,
@@ -195,6 +206,40 @@ fn a_call_that_does_not_begin_is_found(rt: HostRuntime) {
 fn a_call_that_does_not_end_is_found(rt: HostRuntime) {
     let fault = found(&rt, rt.alloc(), Defect::Endless);
     holds(&rt, matches!(fault, Some(Fault::Wrong(Wrong::Endless(_)))));
+}
+
+#[test]
+fn a_take_that_does_not_remove_is_found(rt: HostRuntime) {
+    holds(&rt, has_no_order(found(&rt, rt.alloc(), Defect::NotTaken)));
+}
+
+#[test]
+fn a_fetch_that_keeps_its_hold_is_found(rt: HostRuntime) {
+    let fault = found(&rt, rt.alloc(), Defect::FetchKeepsHold);
+    holds(
+        &rt,
+        matches!(fault, Some(Fault::Wrong(Wrong::Accounts(0, _)))),
+    );
+}
+
+// Only a round at whose end an owner fills its shard can find this.
+#[test]
+fn room_that_is_found_by_an_adoption_alone_is_found(rt: HostRuntime) {
+    let mut dice = Dice::new(5);
+    let mut rooms = 0u32;
+    for _ in 0..6u32 {
+        let Outcome { counts, history: _ } = round_by(
+            &rt,
+            rt.alloc(),
+            Defect::LostRing,
+            1,
+            &mut dice,
+        );
+        if matches!(counts.err(), Some(Fault::Wrong(Wrong::Room(0, _)))) {
+            rooms = rooms.saturating_add(1);
+        }
+    }
+    holds(&rt, 0 < rooms && rooms < 6);
 }
 
 #[test]

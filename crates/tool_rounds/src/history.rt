@@ -93,10 +93,26 @@ fn write_value<W: Write>(value: &Value, output: &mut W) -> io::Result<()> {
     Ok(())
 }
 
-fn write_line<W: Write>(line: &Line, is_remover: bool, output: &mut W) -> io::Result<()> {
+// Whose line it is. A take gets and removes a key in one call, and the calls of one pass may not overlap. So each pass
+// has a second number, by which it removes.
+fn pass_of(line: &Line, passes: u32) -> u64 {
+    let second = if line.told == Told::Removed {
+        passes
+    } else {
+        0
+    };
+    u64::from(line.pass) + u64::from(second)
+}
+
+fn write_line<W: Write>(
+    line: &Line,
+    pass: u64,
+    is_remover: bool,
+    output: &mut W,
+) -> io::Result<()> {
     let word = word_of(&line.told, is_remover);
     let (begin, end) = (line.span.begin, line.span.end);
-    write!(output, "{begin} {end} {} {word} {}", line.pass, line.key)?;
+    write!(output, "{begin} {end} {pass} {word} {}", line.key)?;
     if let Told::Inserted(value) | Told::Got(Some(value)) = &line.told {
         write_value(value, output)?;
     }
@@ -135,11 +151,12 @@ impl History {
 
     /// Writes the lines, or only those of one key.
     pub fn write<W: Write>(&self, key: Option<u64>, output: &mut W) -> io::Result<()> {
-        writeln!(output, "history {} {}", self.passes, self.guard_max)?;
+        let numbers = 2 * u64::from(self.passes);
+        writeln!(output, "history {numbers} {}", self.guard_max)?;
         for line in &self.lines {
             if key.is_none_or(|key| line.key == key) {
                 let is_remover = self.marks.contains(&line.span.begin);
-                write_line(line, is_remover, output)?;
+                write_line(line, pass_of(line, self.passes), is_remover, output)?;
             }
         }
         Ok(())

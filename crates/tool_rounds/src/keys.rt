@@ -48,6 +48,9 @@ pub fn take_turn<L: KeyLayout, U: User>(
         (Turn::Guess, Some(key), _) => {
             using::get(user, record, moments, next_key::<L>(key), true);
         }
+        (Turn::Fetch, Some(key), _) => using::fetch(user, record, moments, key),
+        (Turn::With, Some(key), _) => using::with(user, record, moments, key),
+        (Turn::Take, Some(key), _) => using::take(user, record, moments, key),
         (Turn::Remove, Some(key), _) => using::remove(user, record, moments, key),
         (Turn::Read, _, Some(number)) => using::read(user, record, number),
         (Turn::Release, _, Some(number)) => using::release(user, record, moments, number),

@@ -1,4 +1,6 @@
 //! What a round needs of a heap: its passes in three states, and the calls that change the state.
+ghost use Rattle.std.specs.Prelude.{◌<◌};
+
 use crate::user::User;
 use sh_core::Accounts;
 use sh_key::KeyLayout;
@@ -26,6 +28,13 @@ pub trait LonePass: User + Drop + Send {
 
     /// Stores a value in the owner's shard, and returns its key.
     fn insert(owner: &mut Self::Owner, value: &Value) -> Result<u64, Refusal>;
+
+    /// Collects what others freed in the owner's shard.
+    fn collect(owner: &mut Self::Owner);
+
+    /// Gives a page of the owner's shard to values of this class, and returns the page.
+    fn prepare(owner: &mut Self::Owner, class: u32) -> Result<u32, Refusal>
+        requires { class < 8 };
 
     /// Leaves the owner's shard. A refusal returns the owner.
     fn leave(owner: Self::Owner) -> Result<Self, (Self::Owner, Refusal)>;

@@ -18,19 +18,29 @@ pub enum Turn {
     Remove,
     /// Removes a key that it holds.
     RemoveHeld,
+    /// Gets, reads and releases by one call a key that a thread left on the board.
+    Fetch,
+    /// The same, by a call that gets the value lent.
+    With,
+    /// Removes a key that a thread left on the board, and gets its value, by one call.
+    Take,
     /// Begins a call by hand.
     Begin,
     /// Adopts a shard.
     Adopt,
     /// Inserts a value.
     Insert,
+    /// Collects what others freed in its shard.
+    Collect,
+    /// Gives a page of its shard a class.
+    Prepare,
     /// Leaves its shard.
     Leave,
 }
 
 /// The next turn of a pass that owns no shard.
 pub fn of_lone(dice: &mut Dice) -> Turn {
-    match dice.below(32) {
+    match dice.below(36) {
         0..6 => Turn::Get,
         6..9 => Turn::Glance,
         9..13 => Turn::Read,
@@ -39,13 +49,16 @@ pub fn of_lone(dice: &mut Dice) -> Turn {
         21 => Turn::RemoveHeld,
         22 => Turn::Guess,
         23..29 => Turn::Begin,
+        32 | 33 => Turn::Fetch,
+        34 => Turn::With,
+        35 => Turn::Take,
         _ => Turn::Adopt,
     }
 }
 
 /// The next turn of an owner.
 pub fn of_owner(dice: &mut Dice) -> Turn {
-    match dice.below(32) {
+    match dice.below(38) {
         0..4 => Turn::Get,
         4..6 => Turn::Glance,
         6..9 => Turn::Read,
@@ -54,6 +67,11 @@ pub fn of_owner(dice: &mut Dice) -> Turn {
         15 => Turn::RemoveHeld,
         16 => Turn::Guess,
         17..31 => Turn::Insert,
+        32 => Turn::Fetch,
+        33 => Turn::With,
+        34 => Turn::Take,
+        35 | 36 => Turn::Collect,
+        37 => Turn::Prepare,
         _ => Turn::Leave,
     }
 }

@@ -15,6 +15,15 @@ pub trait User {
     /// The value of a key that it holds.
     fn read(&mut self, hold: Hold) -> Result<Value, Refusal>;
 
+    /// The value of a key: a get, a read and a release in one.
+    fn fetch(&mut self, key: u64) -> Result<Value, Refusal>;
+
+    /// A copy of the value of a key, made by a call that gets the value lent.
+    fn with(&mut self, key: u64) -> Result<Value, Refusal>;
+
+    /// The value of a key, which this call removes.
+    fn take(&mut self, key: u64) -> Result<Value, Refusal>;
+
     /// Removes a key.
     fn remove(&mut self, key: u64) -> Result<(), Refusal>;
 

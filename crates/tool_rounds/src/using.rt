@@ -47,6 +47,64 @@ pub fn glance<U: User>(user: &mut U, record: &mut Record, moments: &Moments, key
     }
 }
 
+// Notes what a call returned that gets a key, reads its value and releases it. Nothing says when the hold ended within
+// the call, so it is released in a moment behind the call.
+fn note_fetched(
+    record: &mut Record,
+    moments: &Moments,
+    key: u64,
+    span: Span,
+    answer: Result<Value, Refusal>,
+) {
+    match answer {
+        Ok(value) => {
+            let number = record.holds();
+            seen(record, Hold { key }, span, value);
+            note_released(record, moments, number);
+        }
+        Err(refusal) => not_got(record, key, span, refusal),
+    }
+}
+
+// Notes that a call released the hold of this number before it ended.
+fn note_released(record: &mut Record, moments: &Moments, number: u64) {
+    if let Some(held) = record.hold(number) {
+        record.counts.one(Count::Releases);
+        let span = moments.since(moments.next());
+        record.tell(held.hold.key, span, Told::Released);
+        record.forget(number);
+    }
+}
+
+/// Takes the value of a key by one call.
+pub fn fetch<U: User>(user: &mut U, record: &mut Record, moments: &Moments, key: u64) {
+    let begin = moments.next();
+    let answer = user.fetch(key);
+    let span = moments.since(begin);
+    note_fetched(record, moments, key, span, answer);
+}
+
+/// Copies the value of a key within one call.
+pub fn with<U: User>(user: &mut U, record: &mut Record, moments: &Moments, key: u64) {
+    let begin = moments.next();
+    let answer = user.with(key);
+    let span = moments.since(begin);
+    note_fetched(record, moments, key, span, answer);
+}
+
+/// Takes the value of a key and removes it, by one call. So the key was got and removed in the time of that call.
+pub fn take<U: User>(user: &mut U, record: &mut Record, moments: &Moments, key: u64) {
+    let begin = moments.next();
+    let answer = user.take(key);
+    let span = moments.since(begin);
+    let is_taken = answer.is_ok();
+    note_fetched(record, moments, key, span, answer);
+    if is_taken {
+        record.counts.one(Count::Removes);
+        record.tell(key, span, Told::Removed);
+    }
+}
+
 // Notes a hold, and what was read by it.
 fn seen(record: &mut Record, hold: Hold, span: Span, value: Value) {
     let number = record.holds();

@@ -83,6 +83,14 @@ impl<C: Drop, P: LonePass<Receipt = C>> Worker<P> {
                 owning::insert::<R, C, P>(&mut owner, &mut self.record, board, dice);
                 Actor::Owner(owner)
             }
+            Turn::Collect => {
+                P::collect(&mut owner);
+                Actor::Owner(owner)
+            }
+            Turn::Prepare => {
+                owning::prepare::<P>(&mut owner, &mut self.record, dice);
+                Actor::Owner(owner)
+            }
             turn => {
                 let key = board.look(&mut owner, dice.word());
                 let record = &mut self.record;

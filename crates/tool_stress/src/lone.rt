@@ -8,6 +8,7 @@ use sh_core::Accounts;
 use sh_gather::{Whole, whole};
 use sh_key::KeyLayout;
 use sh_pass::Pass;
+use sh_readers::{fetching, taking};
 use sh_shard::Shard;
 use sh_step::Action;
 use sh_value::{Hold, Refusal, Value};
@@ -61,6 +62,18 @@ impl<L: KeyLayout, H: Home + Send> User for Lone<'_, L, H> {
         self.pass.read(hold)
     }
 
+    fn fetch(&mut self, key: u64) -> Result<Value, Refusal> {
+        fetching::fetch(&mut self.pass, key)
+    }
+
+    fn with(&mut self, key: u64) -> Result<Value, Refusal> {
+        fetching::with(&mut self.pass, key, |value: &Value| value.copy())
+    }
+
+    fn take(&mut self, key: u64) -> Result<Value, Refusal> {
+        taking::take(&mut self.pass, key)
+    }
+
     fn remove(&mut self, key: u64) -> Result<(), Refusal> {
         self.pass.remove(key)
     }
@@ -96,6 +109,14 @@ impl<'a, L: KeyLayout + Send, H: Home + Send + Sync> LonePass for Lone<'a, L, H>
 
     fn insert(owner: &mut Owner<'a, L, H>, value: &Value) -> Result<u64, Refusal> {
         owner.insert(value)
+    }
+
+    fn collect(owner: &mut Owner<'a, L, H>) {
+        owner.collect();
+    }
+
+    fn prepare(owner: &mut Owner<'a, L, H>, class: u32) -> Result<u32, Refusal> {
+        owner.prepare(class)
     }
 
     fn leave(owner: Owner<'a, L, H>) -> Result<Self, (Owner<'a, L, H>, Refusal)> {

@@ -1,9 +1,10 @@
 //! A pass that owns a shard.
-ghost use Rattle.std.specs.Prelude.{◌≡◌, Some};
+ghost use Rattle.std.specs.Prelude.{◌≡◌, ◌<◌, Some};
 
 use crate::home::{Home, HomeReceipt};
 use crate::lone::Lone;
 use sh_key::KeyLayout;
+use sh_readers::{fetching, taking};
 use sh_shard::Shard;
 use sh_value::{Hold, Refusal, Value};
 use std::marker::PhantomData;
@@ -33,6 +34,18 @@ impl<'a, L: KeyLayout, H: Home> Owner<'a, L, H> {
         self.shard.insert(value)
     }
 
+    /// Collects what others freed in the shard.
+    pub fn collect(&mut self) {
+        self.shard.collect();
+    }
+
+    /// Gives a page of the shard to values of this class, and returns the page.
+    pub fn prepare(&mut self, class: u32) -> Result<u32, Refusal>
+        requires { class < 8 }
+    {
+        self.shard.prepare(class)
+    }
+
     /// Leaves the shard.
     pub fn leave(self) -> Result<Lone<'a, L, H>, (Self, Refusal)> {
         let Owner { shard, home: _ } = self;
@@ -58,6 +71,18 @@ impl<L: KeyLayout, H: Home + Send> User for Owner<'_, L, H> {
 
     fn read(&mut self, hold: Hold) -> Result<Value, Refusal> {
         self.shard.read(hold)
+    }
+
+    fn fetch(&mut self, key: u64) -> Result<Value, Refusal> {
+        fetching::fetch(&mut self.shard, key)
+    }
+
+    fn with(&mut self, key: u64) -> Result<Value, Refusal> {
+        fetching::with(&mut self.shard, key, |value: &Value| value.copy())
+    }
+
+    fn take(&mut self, key: u64) -> Result<Value, Refusal> {
+        taking::take(&mut self.shard, key)
     }
 
     fn remove(&mut self, key: u64) -> Result<(), Refusal> {

@@ -35,6 +35,12 @@ pub enum Defect {
     Unbegun,
     /// A call by hand has always a step left.
     Endless,
+    /// A take returns the value and does not remove the key.
+    NotTaken,
+    /// A fetch does not release its hold.
+    FetchKeepsHold,
+    /// An insert does not find a slot that became free after the shard was adopted.
+    LostRing,
     /// The passes cannot be joined.
     Apart,
 }

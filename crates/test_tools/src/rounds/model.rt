@@ -66,6 +66,8 @@ pub struct Model {
     classes: Vec<u32>,
     slots: Vec<Slot>,
     is_owned: bool,
+    // The number of the call that adopted the shard last.
+    adopted: u64,
     calls: u64,
 }
 
@@ -77,6 +79,7 @@ impl Model {
             classes: Vec::new(alloc),
             slots: Vec::new(alloc),
             is_owned: false,
+            adopted: 0,
             calls: 0,
         }
     }
@@ -151,6 +154,16 @@ impl Model {
         Ok(Model::value_read(self.defect, slot))
     }
 
+    /// The value of a key, by a get, a read and a release.
+    pub fn fetch(&mut self, key: u64) -> Result<Value, Refusal> {
+        self.get(key)?;
+        let value = self.read(key)?;
+        if self.defect != Defect::FetchKeepsHold {
+            self.release(key)?;
+        }
+        Ok(value)
+    }
+
     /// Removes a key.
     pub fn remove(&mut self, key: u64) -> Result<(), Refusal> {
         self.calls = self.calls.saturating_add(1);
@@ -198,6 +211,7 @@ impl Model {
             return Err(Refusal::Taken);
         }
         self.is_owned = true;
+        self.adopted = self.calls;
         Ok(())
     }
 
@@ -236,6 +250,16 @@ impl Model {
         }
         self.classes.push(class)?;
         Ok(pages)
+    }
+
+    /// Gives a blank page this class.
+    pub fn prepare(&mut self, class: u32) -> Result<u32, Refusal> {
+        if self.classes.len() >= PAGES {
+            return Err(Refusal::Full);
+        }
+        let page = self.classes.len() as u32;
+        self.classes.push(class)?;
+        Ok(page)
     }
 
     // Fills a slot for the first time.
@@ -278,7 +302,9 @@ impl Model {
     // The place of a free slot of this class.
     fn free_slot(&self, class: u32) -> Option<usize> {
         self.slots.iter().position(|slot| {
-            slot.is_free() && self.classes.get(slot.page as usize) == Some(&class)
+            slot.is_free()
+                && self.classes.get(slot.page as usize) == Some(&class)
+                && (self.defect != Defect::LostRing || slot.since <= self.adopted)
         })
     }
 

@@ -114,6 +114,23 @@ impl<R: Wait> User for ModelPass<'_, R> {
         self.model.lock(self.rt).read(hold.key)
     }
 
+    fn fetch(&mut self, key: u64) -> Result<Value, Refusal> {
+        self.model.lock(self.rt).fetch(key)
+    }
+
+    fn with(&mut self, key: u64) -> Result<Value, Refusal> {
+        self.model.lock(self.rt).fetch(key)
+    }
+
+    fn take(&mut self, key: u64) -> Result<Value, Refusal> {
+        let mut model = self.model.lock(self.rt);
+        let value = model.fetch(key)?;
+        if self.defect != Defect::NotTaken {
+            model.remove(key)?;
+        }
+        Ok(value)
+    }
+
     fn remove(&mut self, key: u64) -> Result<(), Refusal> {
         self.model.lock(self.rt).remove(key)
     }
@@ -148,6 +165,12 @@ impl<'a, R: Wait + Sync> LonePass for ModelPass<'a, R> {
 
     fn insert(owner: &mut Self, value: &Value) -> Result<u64, Refusal> {
         owner.model.lock(owner.rt).insert(value)
+    }
+
+    fn collect(_owner: &mut Self) {}
+
+    fn prepare(owner: &mut Self, class: u32) -> Result<u32, Refusal> {
+        owner.model.lock(owner.rt).prepare(class)
     }
 
     fn leave(owner: Self) -> Result<Self, (Self, Refusal)> {
