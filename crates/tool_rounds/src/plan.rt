@@ -2,11 +2,8 @@
 use crate::options::Options;
 use tool_judge::dice::Dice;
 
-// The greatest number of segments of a shard.
-const MOST_SEGMENTS: u32 = 4;
-
-/// The greatest number of slots of a shard: a segment has 8 pages of at most 48 slots.
-pub const MOST_SLOTS: u32 = MOST_SEGMENTS * 8 * 48;
+/// The greatest number of slots of a shard: of four segments, each of 8 pages of at most 48 slots.
+pub const MOST_SLOTS: u32 = 4 * 8 * 48;
 
 /// The layout of the keys of a round's heap.
 #[derive(Clone, Copy, Debug, PartialEq, Eq)]
@@ -64,16 +61,13 @@ fn crew(options: &Options<'_>, layout: Layout, dice: &mut Dice) -> (u32, u32) {
 
 // The numbers of shards and of segments of each shard. Most heaps are small, so that threads meet on their slots.
 fn sizes(layout: Layout, dice: &mut Dice) -> (u32, u32) {
-    let is_large = dice.once_in(4);
-    let (shards, segments) = match (is_large, layout) {
-        (false, _) => (3, 2),
-        (true, Layout::Tiny) => (4, 2),
-        (true, _) => (8, MOST_SEGMENTS),
-    };
-    (
-        1 + dice.below(shards) as u32,
-        1 + dice.below(u64::from(segments)) as u32,
-    )
+    if !dice.once_in(4) {
+        return (1 + dice.below(3) as u32, 1 + dice.below(2) as u32);
+    }
+    if layout == Layout::Tiny {
+        return (1 + dice.below(4) as u32, 2);
+    }
+    (1 + dice.below(8) as u32, 1 + dice.below(4) as u32)
 }
 
 /// The plan of the round of this number, from 0, by the options and the dice.
