@@ -137,7 +137,7 @@ impl Model {
     fn value_read(defect: Defect, slot: &Slot) -> Value {
         let words = slot.value.words();
         match (defect, words.first()) {
-            (Defect::Torn, Some(first)) if words.len() == 2 => Value::of([*first, *first]),
+            (Defect::Torn, Some(first)) if words.len() > 1 => Value::of([*first, *first]),
             (Defect::Changing, Some(first)) => {
                 pattern::value(first.wrapping_add(slot.reads), words.len().min(16))
             }
@@ -240,21 +240,17 @@ impl Model {
                 return Ok(page);
             }
         }
+        self.prepare(class)
+    }
+
+    /// Gives a blank page this class.
+    pub fn prepare(&mut self, class: u32) -> Result<u32, Refusal> {
         let most = if self.defect == Defect::FullEarly {
             PAGES - 1
         } else {
             PAGES
         };
         if self.classes.len() >= most {
-            return Err(Refusal::Full);
-        }
-        self.classes.push(class)?;
-        Ok(pages)
-    }
-
-    /// Gives a blank page this class.
-    pub fn prepare(&mut self, class: u32) -> Result<u32, Refusal> {
-        if self.classes.len() >= PAGES {
             return Err(Refusal::Full);
         }
         let page = self.classes.len() as u32;
