@@ -227,7 +227,7 @@ fn a_fetch_that_keeps_its_hold_is_found(rt: HostRuntime) {
 fn room_that_is_found_by_an_adoption_alone_is_found(rt: HostRuntime) {
     let mut dice = Dice::new(5);
     let mut rooms = 0u32;
-    for _ in 0..6u32 {
+    for _ in 0..40u32 {
         let Outcome { counts, history: _ } = round_by(
             &rt,
             rt.alloc(),
@@ -239,7 +239,7 @@ fn room_that_is_found_by_an_adoption_alone_is_found(rt: HostRuntime) {
             rooms = rooms.saturating_add(1);
         }
     }
-    holds(&rt, 0 < rooms && rooms < 6);
+    holds(&rt, 0 < rooms && rooms < 40);
 }
 
 #[test]
