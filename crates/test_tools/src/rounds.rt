@@ -20,12 +20,13 @@ use tool_rounds::moments::Moments;
 use tool_rounds::plan::{Layout, Plan};
 use tool_rounds::round::Outcome;
 
-// A round of one thread with this number of passes, by these dice.
+// A round of one thread with this number of passes and of turns, by these dice.
 fn round_by<R: Threads + Wait + Sync>(
     rt: &R,
     alloc: Global,
     defect: Defect,
     passes: u32,
+    steps: u64,
     dice: &mut Dice,
 ) -> Outcome {
     let plan = Plan {
@@ -34,19 +35,19 @@ fn round_by<R: Threads + Wait + Sync>(
         passes,
         shards: 1,
         segments: 1,
-        steps: 1_500,
+        steps,
     };
     played(rt, alloc, &plan, defect, dice)
 }
 
-// The same, by the dice of one seed.
+// A round of 1,500 turns, by the dice of one seed.
 fn round_of<R: Threads + Wait + Sync>(
     rt: &R,
     alloc: Global,
     defect: Defect,
     passes: u32,
 ) -> Outcome {
-    round_by(rt, alloc, defect, passes, &mut Dice::new(3))
+    round_by(rt, alloc, defect, passes, 1_500, &mut Dice::new(3))
 }
 
 // The counts of a round of this number of passes, or the fault that it finds.
@@ -227,19 +228,13 @@ fn a_fetch_that_keeps_its_hold_is_found(rt: HostRuntime) {
 fn room_that_is_found_by_an_adoption_alone_is_found(rt: HostRuntime) {
     let mut dice = Dice::new(5);
     let mut rooms = 0u32;
-    for _ in 0..40u32 {
-        let Outcome { counts, history: _ } = round_by(
-            &rt,
-            rt.alloc(),
-            Defect::LostRing,
-            1,
-            &mut dice,
-        );
-        if matches!(counts.err(), Some(Fault::Wrong(Wrong::Room(0, _)))) {
+    for _ in 0..200u32 {
+        let outcome = round_by(&rt, rt.alloc(), Defect::LostRing, 3, 300, &mut dice);
+        if matches!(outcome.counts, Err(Fault::Wrong(Wrong::Room(0, _)))) {
             rooms = rooms.saturating_add(1);
         }
     }
-    holds(&rt, 0 < rooms && rooms < 40);
+    holds(&rt, 0 < rooms && rooms < 200);
 }
 
 #[test]
