@@ -253,7 +253,7 @@ impl Model {
         if self.classes.len() >= most {
             return Err(Refusal::Full);
         }
-        let page = self.classes.len() as u32;
+        let page = u32::try_from(self.classes.len()).unwrap_or(u32::MAX);
         self.classes.push(class)?;
         Ok(page)
     }
