@@ -31,6 +31,10 @@ seen_standing layout c stands = record {
 abbrev pub seen_of_caller : Layout → Caller → SeenPass
 seen_of_caller layout c = seen_standing layout c (Pass c)
 
+-- the member that a pass is
+abbrev pub as_member : Caller → SeenSide
+as_member v = Pass v
+
 -- an owner with its shard
 abbrev pub seen_of_shard : Layout → Sharded → SeenPass
 seen_of_shard layout o = seen_standing layout o.pages.owner (Shard o)
