@@ -1,3 +1,4 @@
 pub mod WholeAccounts
 pub mod HeapOutput
 pub mod OwnSteps
+pub mod QuietHeaps
