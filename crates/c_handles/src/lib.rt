@@ -1,7 +1,7 @@
 //! Handles: a heap, a pass or a receipt by its address, of any layout, for callers in other languages.
 //!
-//! A heap's layout is chosen when it is opened, so what a handle owns is of one of several types. Each call finds out
-//! which, and then calls the function of the heap's own crates.
+//! A heap's layout is chosen when it is opened, or it is one that grows, so what a handle owns is of one of several
+//! types. Each call finds out which, and then calls the function of the heap's own crates.
 #![tactic(auto)]
 
 mod accounts;
@@ -9,6 +9,12 @@ mod calls;
 mod counting;
 pub mod heap;
 pub mod heap_handle;
+mod held_calls;
+pub mod held_heap;
+mod held_owner;
+pub mod held_pass;
+mod held_receipts;
+mod held_whole;
 mod keys;
 pub mod member;
 mod moving;
@@ -21,6 +27,8 @@ mod warming;
 
 pub use heap::AnyHeap;
 pub use heap_handle::HeapHandle;
+pub use held_heap::HeldHeap;
+pub use held_pass::HeldPass;
 pub use member::AnyMember;
 pub use pass_handle::PassHandle;
 pub use receipt_handle::ReceiptHandle;
