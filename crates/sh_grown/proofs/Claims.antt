@@ -1,19 +1,26 @@
 -- What a caller has that was just claimed.
 use Rattle.std.proofs.Common.{◌≡◌, ℕ, ◌<◌, List, Option, Some, None, length, get_or, sym, ap, ◌∙◌, subst, arith}
 use Rattle.std.specs.Prelude.{slice_set}
+use Rattle.sh_shape.specs.Shape.{Numbers}
+use Rattle.sh_grown.specs.declared.growing.Growing.{Growing}
 use Rattle.std.proofs.lemmas.List.{get_or-set_same, get_or-set_other, length-set}
 use Rattle.sh_grown.specs.declared.met.Met.{Met}
-use Rattle.sh_grown.specs.Callers.{Cell, IsNewcomer, IsClaimed}
+use Rattle.sh_grown.specs.Callers.{IsNewcomer, IsClaimed}
+
+-- the number of a pass that was in the pool of a chunk is below that of the passes
+pub newcomer_below : (growing : Growing) (number chunk : ℕ) (m : Met) → IsNewcomer growing number chunk m
+    → number < growing.passes
+newcomer_below growing number chunk m is = subst (λ (s : Numbers). number < s.passes) is.shape is.pooled.below
 
 -- the first member goes to the first place of a list that has none
-pub first_goes : (cells : List Cell) (number slot : ℕ) (first : Met) (empty new : List (Option Met))
-    → number ≡ slot → IsNewcomer cells slot 0 first → 0 < length empty → length empty ≡ length cells
+pub first_goes : (growing : Growing) (number slot : ℕ) (first : Met) (empty new : List (Option Met))
+    → number ≡ slot → IsNewcomer growing slot 0 first → 0 < length empty → length empty ≡ length growing.cells.items
     → ((chunk : ℕ) → get_or empty chunk None ≡ None) → new ≡ slice_set empty 0 (Some first)
-    → IsClaimed cells number new
-first_goes cells number slot first empty new same is some room none put =
+    → IsClaimed growing number new
+first_goes growing number slot first empty new same is some room none put =
     record {
       first = first;
-      newcomer = subst (λ n. IsNewcomer cells n 0 first) (sym same) is;
+      newcomer = subst (λ n. IsNewcomer growing n 0 first) (sym same) is;
       met = ap (λ xs. get_or xs 0 None) put ∙ get_or-set_same empty 0 (Some first) None some;
       others = λ chunk later.
           ap (λ xs. get_or xs chunk None) put

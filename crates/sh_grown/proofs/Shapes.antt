@@ -7,6 +7,11 @@ use Rattle.sh_shape.specs.Shape.{Fits, Numbers}
 use Rattle.sh_chunk.specs.Chunks.{chunked}
 use Rattle.sh_grown.specs.ChunkShapes.{doublings, shards_of, segments_of, shape_of}
 
+-- a shape is its three numbers
+pub same_numbers : (a b : Numbers) → a.shards ≡ b.shards → a.segments ≡ b.segments → a.passes ≡ b.passes → a ≡ b
+same_numbers a b shards segments passes i =
+    record { shards = shards i; segments = segments i; passes = passes i }
+
 pub power_fits : (d m : ℕ) → d ≤ m → 2 ^ d ≤ 2 ^ m
 power_fits d m few = pow_mono few
 

@@ -9,8 +9,8 @@ use crate::met::{Met, meet, meet_first};
 use sh_value::Refusal;
 use std::alloc::Global;
 
-/// A caller of a growing heap, with a number from 0 to 63. In each chunk it has the pass of the pool slot of that
-/// number, from the first call that needs it.
+/// A caller of a growing heap. Its number is below the number of the passes, so from 0 to 63. In each chunk it has the
+/// pass of that number, from the first call that needs it.
 ///
 /// It has 16 holds in each chunk, and may own a shard in each. It ends by `end`, which gives its passes back. A caller
 /// that is dropped is lost: its number is never claimed again, and its holds and shards stay as they are.
@@ -41,8 +41,7 @@ fn no_members(alloc: Global, chunks: usize) -> Result<Vec<Option<Met>>, Refusal>
 }
 
 impl Growing {
-    /// A caller with the first number that is not claimed. It has the pass of the pool slot of that number in the first
-    /// chunk.
+    /// A caller with the first number that is not claimed. It has the pass of that number in the first chunk.
     ///
     /// The room for its members in all chunks is taken here, so that no call on a key takes memory. Refused as `Memory`
     /// before a pass is taken, and as `Taken` if it finds no pass of the first chunk in its pool.
@@ -53,10 +52,11 @@ impl Growing {
     /// let key = caller.insert(alloc, &Value::from(7))?;
     /// let value = caller.fetch(key)?;
     /// ```
-    #[tactic(auto, using(crate::proofs::Claims::first_goes))]
+    #[tactic(auto, using(crate::proofs::Claims::first_goes, crate::proofs::Claims::newcomer_below))]
     pub fn claim(&self, alloc: Global) -> Result<Caller<'_>, Refusal>
         ensures growing { IfOk result (λ caller. caller.growing.now ≡ self.now) }
-        ensures claimed { IfOk result (λ caller. IsClaimed self.now.cells.items caller.number caller.met.items) }
+        ensures claimed { IfOk result (λ caller. IsClaimed self.now caller.number caller.met.items) }
+        ensures below { IfOk result (λ caller. caller.number < self.now.passes) }
         ensures err { IfErr result WhyWithout }
     {
         let mut met = no_members(alloc, self.chunks_allowed())?;
@@ -75,7 +75,7 @@ impl Growing {
 
     // The first pass that is in the pool of the first chunk. `None` if none is.
     fn first_met(&self) -> Option<Met>
-        ensures { IfSome result (λ first. IsNewcomer self.now.cells.items first.pool_slot 0 first) }
+        ensures { IfSome result (λ first. IsNewcomer self.now first.pool_slot 0 first) }
     {
         let mut note = self.note(0)?;
         let share = self.seen(0, &mut note)?;
@@ -95,7 +95,7 @@ impl<'a> Caller<'a> {
     // it not open, and as `Taken` if its pass is not in the chunk's pool.
     pub(crate) fn meet(&mut self, chunk: usize) -> Result<(), Refusal>
         ensures met { MatchResult result
-            (λ _. Meets self.old.growing.now.cells.items self.old.number chunk self.old.met.items self.new.met.items)
+            (λ _. Meets self.old.growing.now self.old.number chunk self.old.met.items self.new.met.items)
             (λ why. WhyUnmet why × (get_or self.old.met.items chunk None ≡ None)
             × (self.new.met.items ≡ self.old.met.items)) }
         ensures there { OnOk result ((chunk < length self.new.met.items)

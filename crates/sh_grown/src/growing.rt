@@ -1,9 +1,10 @@
 //! Growing heaps.
-ghost use Rattle.std.specs.Prelude.{◌≡◌, ◌≤◌, Some, None, IfSome, MatchResult, length, slice_get};
+ghost use Rattle.std.specs.Prelude.{◌≡◌, ◌≤◌, Some, None, IfOk, IfSome, MatchResult, length, slice_get};
 ghost use Rattle.once_cell.specs.Once.{cell_name, Agrees};
-ghost use Rattle.sh_value.specs.declared.refusal.Refusal.TheVariants.{Memory};
+ghost use Rattle.sh_value.specs.declared.refusal.Refusal.TheVariants.{BadKey, Memory};
 ghost use Rattle.sh_shape.specs.Shape.{Fits};
 ghost use Rattle.sh_chunk.specs.Chunks.{chunked};
+ghost use Rattle.sh_grown.specs.ChunkShapes.{shape_of};
 
 use crate::chunk_shapes::chunk_shape;
 use once_cell::race::{Note, OnceBox};
@@ -37,6 +38,32 @@ fn new_chunk(alloc: Global, shape: Shape) -> Result<Box<Share<Chunked>>, Refusal
         Ok(chunk) => Ok(chunk),
         Err(_) => Err(Refusal::Memory),
     }
+}
+
+// Two shapes with the same numbers are one shape.
+fn same_shape(one: &Shape, other: &Shape)
+    requires shards { one.now.shards ≡ other.now.shards }
+    requires segments { one.now.segments ≡ other.now.segments }
+    requires passes { one.now.passes ≡ other.now.passes }
+    ensures { one.now ≡ other.now }
+{
+    let _both = (one, other);
+}
+
+// The share, if its heap has this shape. Each chunk has the shape of its number, and the test is for the proof alone:
+// no clause of a cell says what it has before a load finds that. Otherwise it is refused as `BadKey`.
+fn of_shape(share: &Share<Chunked>, shape: Shape) -> Result<&Share<Chunked>, Refusal>
+    ensures { MatchResult result (λ s. (s.now ≡ share.now) × (share.now.shape ≡ shape)) (λ why. why ≡ BadKey) }
+{
+    let found = share.pool().shape();
+    if found.shards() != shape.shards()
+        || found.segments() != shape.segments()
+        || found.passes() != shape.passes()
+    {
+        return Err(Refusal::BadKey);
+    }
+    same_shape(found, &shape);
+    Ok(share)
 }
 
 impl Growing {
@@ -79,7 +106,9 @@ impl Growing {
 
     /// How many passes it has, from 1 to 64: as many callers may be claimed at a time.
     pub fn passes(&self) -> u32
-        ensures { result ≡ self.now.passes }
+        ensures count { result ≡ self.now.passes }
+        ensures some { 1 ≤ result }
+        ensures few { result ≤ 64 }
     {
         self.passes
     }
@@ -109,8 +138,10 @@ impl Growing {
         requires { IfSome (slice_get self.now.cells.items chunk) (λ c. note.old.cell ≡ cell_name c) }
         ensures cell { note.new.cell ≡ note.old.cell }
         ensures value { IfSome result (λ s. (note.new.known ≡ Some s.now) × Agrees note.old.known s.now) }
+        ensures shape { IfSome result (λ s. s.now.shape ≡ shape_of chunk self.now.passes) }
     {
-        self.cells.get(chunk)?.get_as(note)
+        let share = self.cells.get(chunk)?.get_as(note)?;
+        of_shape(share, chunk_shape(chunk as u8, self.passes)).ok()
     }
 
     // The chunk of this number, which is opened if it is not open yet. If two threads open it at once, one of them
@@ -125,14 +156,16 @@ impl Growing {
         ensures cell { note.new.cell ≡ note.old.cell }
         ensures value { MatchResult result (λ s. (note.new.known ≡ Some s.now) × Agrees note.old.known s.now)
             WhyUnopened }
+        ensures shape { IfOk result (λ s. s.now.shape ≡ shape_of chunk self.now.passes) }
     {
         let Some(cell) = self.cells.get(chunk as usize) else {
             return Err(Refusal::BadKey);
         };
+        let shape = chunk_shape(chunk, self.passes);
         if let Some(share) = cell.get_as(note) {
-            return Ok(share);
+            return of_shape(share, shape);
         }
-        let opened = new_chunk(alloc, chunk_shape(chunk, self.passes))?;
-        Ok(cell.get_or_init_as(move || opened, note))
+        let opened = new_chunk(alloc, shape)?;
+        of_shape(cell.get_or_init_as(move || opened, note), shape)
     }
 }
