@@ -6,6 +6,7 @@
 
 mod calls;
 mod counting;
+mod guards;
 pub mod member;
 mod moving;
 mod own_keys;
