@@ -13,8 +13,10 @@ pub mod guard;
 mod inserting;
 mod leaving;
 pub mod met;
+pub mod whole;
 
 pub use caller::Caller;
 pub use chunk_shapes::chunk_shape;
 pub use growing::Growing;
 pub use guard::GrownGuard;
+pub use sh_whole::NotTold;

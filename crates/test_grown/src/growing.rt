@@ -2,7 +2,7 @@
 //!
 //! No clause says which chunk an insert goes to, or that what others freed is used before a chunk is opened. Nor does
 //! one say that a number is claimed again, or that two threads get one chunk.
-use sh_grown::{Caller, Growing};
+use sh_grown::{Caller, Growing, NotTold};
 use sh_value::{Refusal, Value};
 use std::alloc::Global;
 use std::fmt::Debug;
@@ -190,6 +190,34 @@ fn a_number_is_claimed_again(rt: HostRuntime) {
     agree(&rt, again.number(), 0);
     has_all(&rt, &mut again, &keys, 0);
     agree(&rt, again.insert(rt.alloc(), &Value::from(9)).is_ok(), true);
+}
+
+// How many values a chunk that was gathered has.
+fn live_in(growing: &Growing, chunk: u8) -> Option<u32> {
+    match growing.chunk_totals(chunk) {
+        Ok(Some(sums)) => Some(sums.live),
+        _ => None,
+    }
+}
+
+// The chunks are gathered once no caller is claimed.
+#[test]
+fn chunks_are_gathered_and_counted(rt: HostRuntime) {
+    let growing = Growing::open(rt.alloc(), 2, 3).expect(&rt, "a heap");
+    let mut caller = growing.claim(rt.alloc()).expect(&rt, "a caller");
+    let keys = stored(&rt, rt.alloc(), &mut caller, 0, FIRST + 1);
+    agree(&rt, growing.gather(rt.alloc()), Err(NotTold::Away));
+    agree(&rt, caller.end().is_ok(), true);
+    agree(&rt, live_in(&growing, 0), None);
+    agree(&rt, growing.gather(rt.alloc()), Ok(()));
+    agree(&rt, live_in(&growing, 0), Some(768));
+    agree(&rt, live_in(&growing, 1), Some(1));
+    agree(&rt, live_in(&growing, 2), None);
+    agree(&rt, growing.chunk_accounts(1, 1, 0), Err(NotTold::NoPage));
+    // The joined passes are the last of each chunk.
+    let mut again = growing.claim(rt.alloc()).expect(&rt, "a caller again");
+    agree(&rt, again.number(), 1);
+    has_all(&rt, &mut again, &keys, 0);
 }
 
 #[test]
