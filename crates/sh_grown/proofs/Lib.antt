@@ -1,4 +1,5 @@
 pub mod Claims
 pub mod Keeping
 pub mod Places
+pub mod Refusals
 pub mod Shapes

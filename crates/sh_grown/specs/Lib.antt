@@ -3,4 +3,5 @@ pub mod ChunkShapes
 pub mod Growing
 pub mod Inserts
 pub mod Keeping
+pub mod Refusals
 pub mod Wholes
