@@ -9,6 +9,7 @@ use Rattle.sh_member.specs.SideBounds.{InsertTakes}
 use Rattle.sh_grown.specs.declared.met.Met.{Met}
 use Rattle.sh_grown.specs.Callers.{IfMetDoes, MetTakes}
 use Rattle.sh_grown.specs.Keeping.{KeepsMembers}
+use Rattle.sh_grown.specs.Refusals.{ChunkRefused}
 
 -- an insert by the member of a chunk, whose key is returned with the number of the chunk
 abbrev pub InsertsIn : List ℕ → SeenSide → Result ℕ Refusal → SeenSide → Type 0
@@ -48,12 +49,12 @@ TriesInsert value old (Err refusal.Memory) new = KeepsMembers old new
 TriesInsert value old (Err _) new = ⊥
 
 -- An insert over the chunks of a heap that may have this many. The value is stored in the key's chunk. If it is
--- refused, each member keeps its heap, its number, its log and its holds. It is Full only if the caller has met each
--- chunk that the heap may have, so that all are open.
+-- refused, each member keeps its heap, its number, its log and its holds. It is Full only if in this call each shard of
+-- each chunk that the heap may have was refused, so that all chunks are open.
 abbrev pub Inserts : (chunks : ℕ) → List ℕ → List (Option Met) → Result ℕ Refusal → List (Option Met) → Type 0
 Inserts chunks value old (Ok key) new = EndsWithInsert value key old new
 Inserts chunks value old (Err refusal.Full) new =
-    KeepsMembers old new × ((chunk : ℕ) → chunk < chunks → HasMet new chunk)
+    KeepsMembers old new × ((chunk : ℕ) → chunk < chunks → ChunkRefused value chunk old new)
 Inserts chunks value old (Err refusal.Memory) new = KeepsMembers old new
 Inserts chunks value old (Err refusal.Taken) new = KeepsMembers old new
 Inserts chunks value old (Err _) new = ⊥

@@ -1,11 +1,14 @@
 // How a caller inserts: over the chunks, and at last into a new one.
-ghost use Rattle.std.specs.Prelude.{◌≡◌, IfErr, IfOk, OnErr, OnOk, length};
+ghost use Rattle.std.specs.Prelude.{◌≡◌, ℕ, ◌<◌, ◌≤◌, IfErr, IfOk, List, MatchBool, None, OnErr, OnOk, Some};
+ghost use Rattle.std.specs.Prelude.{get_or, length};
 ghost use Rattle.sh_value.specs.declared.refusal.Refusal.TheVariants.{Memory};
 ghost use Rattle.sh_chunk.specs.Chunks.{chunk_of};
 ghost use Rattle.sh_grown.specs.Callers.{Stays, WhyWithout};
 ghost use Rattle.sh_grown.specs.Inserts.{InsertsInChunk, InsertTakesInChunk, CollectsInChunk, Inserts, TriesInsert};
 ghost use Rattle.sh_grown.specs.Inserts.{HasMet};
 ghost use Rattle.sh_grown.specs.Keeping.{KeepsMembers};
+ghost use Rattle.sh_grown.specs.Refusals.{ChunkRefused, OwnsThere, RefusedIn};
+ghost use Rattle.sh_grown.specs.declared.met.Met.{Met};
 
 use crate::caller::Caller;
 use crate::met::{collect_at, insert_at, meet, move_to, shards_at};
@@ -68,8 +71,12 @@ impl<'a> Caller<'a> {
 
     // Stores a value in the shard that it owns in this chunk, which is then the first to be tried. `None` if it owns
     // none there, or if that has no room.
+    #[tactic(auto, using(crate::proofs::Refusals::chunk_full))]
     fn try_in(&mut self, chunk: u8, value: &Value) -> Result<Option<u64>, Refusal>
         ensures tries { TriesInsert value.now self.old.met.items result self.new.met.items }
+        ensures refused { IfOk result (λ found. found ≡ None → (shard : ℕ)
+            → OwnsThere shard (get_or self.old.met.items chunk None)
+            → RefusedIn value.now chunk shard self.old.met.items self.new.met.items) }
         ensures stays { Stays self.old self.new }
     {
         match self.insert_in(chunk, value) {
@@ -126,6 +133,7 @@ impl<'a> Caller<'a> {
     }
 
     // Stores a value in the first chunk that has room for it. A chunk that is not open is opened.
+    #[tactic(auto, using(crate::proofs::Refusals::chunk_refused_then, crate::proofs::Keeping::then_chunk_refused))]
     fn insert_in_any(&mut self, alloc: Global, value: &Value) -> Result<u64, Refusal>
         ensures inserts { Inserts (length self.old.growing.now.cells.items) value.now self.old.met.items result
             self.new.met.items }
@@ -143,30 +151,83 @@ impl<'a> Caller<'a> {
 
     // Stores a value in the first shard of a chunk that it can own and that has room. It begins at the shard of its own
     // number.
+    #[tactic(auto, using(crate::proofs::Refusals::both_refused, crate::proofs::Refusals::none_refused))]
     fn try_shards(
         &mut self,
         alloc: Global,
         chunk: u8,
         value: &Value,
     ) -> Result<Option<u64>, Refusal>
+        requires { HasMet self.old.met.items chunk }
         ensures tries { TriesInsert value.now self.old.met.items result self.new.met.items }
+        ensures refused { IfOk result (λ found. found ≡ None
+            → ChunkRefused value.now chunk self.old.met.items self.new.met.items) }
         ensures stays { Stays self.old self.new }
     {
-        let shards = self.shards_in(chunk) as usize;
-        for step in 0..shards {
-            let shard = (self.number % shards + step) % shards;
-            if self.move_in(alloc, chunk, shard)? {
-                let found = self.try_in(chunk, value)?;
-                if found.is_some() {
-                    return Ok(found);
-                }
+        let shards = self.shards_in(chunk);
+        if shards == 0 {
+            return Ok(None);
+        }
+        let first = self.number % shards;
+        let behind = self.try_range(alloc, chunk, first, shards, value)?;
+        if behind.is_some() {
+            return Ok(behind);
+        }
+        self.try_range(alloc, chunk, 0, first, value)
+    }
+
+    // The same in the shards from this one on, below another.
+    #[tactic(auto, using(crate::proofs::Refusals::in_then, crate::proofs::Refusals::then_in))]
+    fn try_range(
+        &mut self,
+        alloc: Global,
+        chunk: u8,
+        from: usize,
+        to: usize,
+        value: &Value,
+    ) -> Result<Option<u64>, Refusal>
+        requires { HasMet self.old.met.items chunk }
+        ensures tries { TriesInsert value.now self.old.met.items result self.new.met.items }
+        ensures refused { IfOk result (λ found. found ≡ None → (shard : ℕ) → from ≤ shard → shard < to
+            → RefusedIn value.now chunk shard self.old.met.items self.new.met.items) }
+        ensures stays { Stays self.old self.new }
+    {
+        for shard in from..to {
+            let found = self.try_shard(alloc, chunk, shard, value)?;
+            if found.is_some() {
+                return Ok(found);
             }
         }
         Ok(None)
     }
 
+    // The same in this shard.
+    #[tactic(auto, using(crate::proofs::Refusals::then_in))]
+    fn try_shard(
+        &mut self,
+        alloc: Global,
+        chunk: u8,
+        shard: usize,
+        value: &Value,
+    ) -> Result<Option<u64>, Refusal>
+        requires { HasMet self.old.met.items chunk }
+        ensures tries { TriesInsert value.now self.old.met.items result self.new.met.items }
+        ensures refused { IfOk result (λ found. found ≡ None
+            → RefusedIn value.now chunk shard self.old.met.items self.new.met.items) }
+        ensures stays { Stays self.old self.new }
+    {
+        if !self.move_in(alloc, chunk, shard)? {
+            return Ok(None);
+        }
+        self.try_in(chunk, value)
+    }
+
     // Whether it owns this shard of a chunk now, for which it leaves the one that it owned there. Refused as `Memory`.
     fn move_in(&mut self, alloc: Global, chunk: u8, shard: usize) -> Result<bool, Refusal>
+        requires { HasMet self.old.met.items chunk }
+        ensures moved { IfOk result (λ moved. MatchBool moved
+            (OwnsThere shard (get_or self.new.met.items chunk None))
+            ((value : List ℕ) → RefusedIn value chunk shard self.old.met.items self.new.met.items)) }
         ensures err { IfErr result (λ why. why ≡ Memory) }
         ensures keeps { KeepsMembers self.old.met.items self.new.met.items }
         ensures stays { Stays self.old self.new }
@@ -210,9 +271,11 @@ impl<'a> Caller<'a> {
     }
 
     // How many shards a chunk has that it has met, and otherwise 0.
-    fn shards_in(&self, chunk: u8) -> u32 {
+    fn shards_in(&self, chunk: u8) -> usize
+        ensures { (met : Met) → get_or self.now.met.items chunk None ≡ Some met → result ≡ met.shards }
+    {
         match self.met.get(chunk as usize) {
-            Some(place) => shards_at(place),
+            Some(place) => shards_at(place) as usize,
             None => 0,
         }
     }
