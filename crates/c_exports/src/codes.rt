@@ -45,7 +45,7 @@ pub(crate) fn code<T>(answer: &Result<T, Refusal>) -> u32
     }
 }
 
-// The code of a refusal. As a call of its own it keeps the instructions that pick a code out of the calls that are done.
+// The code of a refusal. It is a call of its own, so that a call that is done has no instructions that pick a code.
 #[cold]
 #[inline(never)]
 fn refused(refusal: Refusal) -> u32

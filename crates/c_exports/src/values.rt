@@ -2,7 +2,8 @@
 ghost use Rattle.std.specs.Prelude.{◌≡◌, ◌≤◌, ◌+◌, ◌++◌, length};
 ghost use Rattle.sh_pass.specs.Passes.{ReadDoes};
 ghost use Rattle.sh_readers.specs.Readers.{FetchDoes};
-ghost use Rattle.c_exports.specs.Told.{InsertTold, InsertsWords, PrepareTold, PreparesFor, ReadTold, WordsTold, number_told};
+ghost use Rattle.c_exports.specs.Told.{InsertTold, InsertsWords, PrepareTold, PreparesFor, ReadTold, WordsTold};
+ghost use Rattle.c_exports.specs.Told.{number_told};
 
 use crate::codes::{EMPTY, OK, SHORT, code};
 use c_handles::{AnyMember, PassHandle};

@@ -3,7 +3,8 @@ ghost use Rattle.std.specs.Prelude.{◌≡◌, ◌↔◌, ℕ, List, IsTrue};
 ghost use Rattle.history_audit.specs.Followed.{Follows};
 ghost use Rattle.history_audit.specs.Lines.{entries_in};
 ghost use Rattle.sh_history.specs.declared.entry.Entry.{Entry as Answer};
-ghost use Rattle.history_timed.specs.Calls.{entry_said, key_said, pass_said, inserts, uses, removes, finds, gets, releases};
+ghost use Rattle.history_timed.specs.Calls.{entry_said, key_said, pass_said, inserts, uses, removes, finds, gets};
+ghost use Rattle.history_timed.specs.Calls.{releases};
 ghost use Rattle.history_timed.specs.Calls.{gets_by, releases_by};
 ghost use Rattle.history_timed.specs.Clashes.{inserts_value, IsAnother};
 

@@ -4,8 +4,10 @@ ghost use Rattle.std.specs.Vec.{vec_capacity, vec_len};
 ghost use Rattle.sh_key.specs.Layout.{Layout, first_key, key_count};
 ghost use Rattle.sh_plain.specs.Plain.{Plain, PlainReply, Replied, with_added, get_reply, remove_reply, release_reply};
 ghost use Rattle.script_output.specs.Keys.{HasTagRoom};
-ghost use Rattle.script_models.specs.PlainRun.{run_of, at_turn, has_shard, adopt_answer, adopts, opening_run, leave_answer};
-ghost use Rattle.script_models.specs.PlainRun.{leaves, insert_attempt, Inserts, key_of, done_answer, Tells, MayEnd, Reads};
+ghost use Rattle.script_models.specs.PlainRun.{run_of, at_turn, has_shard, adopt_answer, adopts, opening_run};
+ghost use Rattle.script_models.specs.PlainRun.{leave_answer};
+ghost use Rattle.script_models.specs.PlainRun.{leaves, insert_attempt, Inserts, key_of, done_answer, Tells, MayEnd};
+ghost use Rattle.script_models.specs.PlainRun.{Reads};
 ghost use Rattle.script_models.specs.PlainRun.{EndsAt, TakesLine};
 
 use script_output::Answer;

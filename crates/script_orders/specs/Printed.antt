@@ -1,5 +1,6 @@
 -- What is printed of an exploration.
-use Rattle.std.specs.Prelude.{ℕ, ◌+◌, ◌-◌, ◌^◌, ◌==◌, cond, List, [], ◌∷◌, ◌++◌, codes, decimal, take, drop, slice_get, vec_items}
+use Rattle.std.specs.Prelude.{ℕ, ◌+◌, ◌-◌, ◌^◌, ◌==◌, cond, List, [], ◌∷◌, ◌++◌, codes, decimal, take, drop}
+use Rattle.std.specs.Prelude.{slice_get, vec_items}
 use Rattle.std.specs.List.{flat_map, filter_map}
 use Rattle.script_output.specs.Numbers.{words_text}
 use Rattle.script_orders.specs.declared.found.Cut.{Cut}

@@ -5,7 +5,8 @@ ghost use Rattle.sh_shape.specs.Places.{page_number, pages_of};
 ghost use Rattle.sh_step.specs.declared.action.Event.{Event};
 ghost use Rattle.sh_step.specs.Plans.{plan_of};
 ghost use Rattle.sh_accounts.specs.Accounts.{ShapeHasPage};
-ghost use Rattle.script_output.specs.AccountLines.{page_name, used_text, empty_text, account_line, page_text, shard_text};
+ghost use Rattle.script_output.specs.AccountLines.{page_name, used_text, empty_text, account_line, page_text};
+ghost use Rattle.script_output.specs.AccountLines.{shard_text};
 ghost use Rattle.script_output.specs.AccountLines.{accounts_text, accounts_after, Later, ShardSaid, ShardsSaid};
 
 use crate::numbers::push_number;

@@ -95,8 +95,8 @@ module _ (plan : Plan) (laws : Lawful plan) (ranges : (k : ℕ) (n : KeyRef) →
       go false e = refl
       go true e =
           let i = eqb-true (plan.keys.pack (name_at (slot_ref q t) g)) k e in
-          let j : Some (name_at (slot_ref q t) g) ≡ Some n = sym (laws.names (name_at (slot_ref q t) g) some le page small)
-          ∙ (ap plan.keys.unpack i ∙ unpacks) in
+          let j : Some (name_at (slot_ref q t) g) ≡ Some n
+          = sym (laws.names (name_at (slot_ref q t) g) some le page small) ∙ (ap plan.keys.unpack i ∙ unpacks) in
           absurd (ne (let z : name_at (slot_ref q t) g ≡ n = cc in z))
 
     one_slot : (t : ℕ) → t < 48 → times k (keys_of_slot plan (slot_ref q t) plan.keys.gen_max)
@@ -118,9 +118,10 @@ module _ (plan : Plan) (laws : Lawful plan) (ranges : (k : ℕ) (n : KeyRef) →
           (omega arith) (laws.begins k n unpacks) top
       go false e =
           let apart : (g : ℕ) → name_at (slot_ref q t) g ≡ n → ⊥ = λ g a.
-          (let c : slot_ref_of n ≡ slot_ref q t = ap slot_ref_of (sym a) in let d : same_slot (slot_ref_of n) (slot_ref q t)
-          ≡ true = ap (λ (x : SlotRef). same_slot x (slot_ref q t)) c ∙ same_slot-refl (slot_ref q t) in let z : true
-          ≡ false = sym d ∙ e in cc) in
+          (let c : slot_ref_of n ≡ slot_ref q t = ap slot_ref_of (sym a) in
+          let d : same_slot (slot_ref_of n) (slot_ref q t) ≡ true
+          = ap (λ (x : SlotRef). same_slot x (slot_ref q t)) c ∙ same_slot-refl (slot_ref q t) in
+          let z : true ≡ false = sym d ∙ e in cc) in
           up_to plan (slot_ref q t) (λ j. if1 (j == k)) n.generation 0
           (other t n.generation small (laws.begins k n unpacks) top (apart n.generation))
           (λ g some le ne. other t g small some le (apart g)) plan.keys.gen_max (omega arith)

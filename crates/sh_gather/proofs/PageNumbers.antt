@@ -36,8 +36,8 @@ keys_total plan f g q s zero h = refl
 keys_total plan f g q s (suc n) h =
     let here = h s (omega arith) (omega arith) in
     let rest = keys_total plan f g q (s + 1) n (λ t a b. h t (omega arith) (omega arith)) in
-    let both = total_append f (keys_of_slot plan (slot_ref q s) plan.keys.gen_max) (keys_of_slots plan (slot_refs q (s + 1) n))
-    in omega arith
+    let both = total_append f (keys_of_slot plan (slot_ref q s) plan.keys.gen_max)
+    (keys_of_slots plan (slot_refs q (s + 1) n)) in omega arith
 
 -- slots that add 0 need not be counted
 cut_by : (q : ℕ) (f : SlotRef → ℕ) (n m : ℕ) → ((t : ℕ) → n ≤ t → f (slot_ref q t) ≡ 0)

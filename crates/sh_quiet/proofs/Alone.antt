@@ -100,8 +100,8 @@ module _ (plan : Plan) (a : ℕ) (w : World) (l : PutLists) (all : Refines plan 
       let more = total_at (cursor_at q s) w.parts a p at in
       let is = all.linked.0.cursors q s in
       let first = a_first (l.chain q) s (omega (arith, here, more, is)) in
-      let on : LinksOn (w.words.link_at q) (λ r. total (ties_of (slot_ref q r)) w.parts) (s ∷ drop 1 (l.chain q)) = subst
-      (LinksOn (w.words.link_at q) (λ r. total (ties_of (slot_ref q r)) w.parts)) first (all.links.chain q) in
+      let on : LinksOn (w.words.link_at q) (λ r. total (ties_of (slot_ref q r)) w.parts) (s ∷ drop 1 (l.chain q))
+      = subst (LinksOn (w.words.link_at q) (λ r. total (ties_of (slot_ref q r)) w.parts)) first (all.links.chain q) in
       let free = ties q s in
       let some = some_link (drop 1 (l.chain q)) in
       ⊎_elim (λ h. let one = h.1 in absurd (omega (arith, one, free)))

@@ -44,8 +44,8 @@ pub record SortedPages (v : Paged) (q : PageQueues) : Type 0 where
   pub full : (p : ℕ) → has_number p q.full ≡ true → FullPage (page_at v p)
   pub blank : (p : ℕ) → has_number p q.blank ≡ true → (page_at v p).class ≡ Some 0
 
--- Nothing is begun, the shard is the owner's, and all that it knows is true in the heap's shape. The bell is that of its
--- shard as the owner sees it.
+-- Nothing is begun, the shard is the owner's, and all that it knows is true in the heap's shape. The bell is that of
+-- its shard as the owner sees it.
 pub record HoldsShard (layout : Layout) (o : Sharded) : Type 0 where
   pub stands : ViewStands layout o.pages.owner.view
   pub idle : (own_body o.pages.owner).hand ≡ Idle

@@ -25,8 +25,8 @@ fn value_length(value: &Value) -> u64
 
 // Whether the pass may put the slot, which is its own.
 fn may_put<L: KeyLayout>(shape: &Shape, part: &Part, slot_ref: SlotRef) -> bool
-    ensures { result ≡ (idle part.now && own (plan_of L.layout shape.now) part.now slot_ref.page && has (same_slot slot_ref)
-        part.now.mine) }
+    ensures { result ≡ (idle part.now && own (plan_of L.layout shape.now) part.now slot_ref.page
+        && has (same_slot slot_ref) part.now.mine) }
 {
     may_touch::<L>(shape, part, slot_ref.page) && part.has_mine(slot_ref)
 }
@@ -40,8 +40,8 @@ fn fits_class(length: u64, class_word: u64) -> bool
 
 // Whether it may fill the slot, which is its own, with a value of this length.
 fn may_fill<L: KeyLayout>(shape: &Shape, part: &Part, slot_ref: SlotRef, length: u64) -> bool
-    ensures { result ≡ (idle part.now && own (plan_of L.layout shape.now) part.now slot_ref.page && has (same_slot slot_ref)
-        part.now.mine && nat_lt 0 (class_word_noted part.now slot_ref.page) && nat_le length
+    ensures { result ≡ (idle part.now && own (plan_of L.layout shape.now) part.now slot_ref.page
+        && has (same_slot slot_ref) part.now.mine && nat_lt 0 (class_word_noted part.now slot_ref.page) && nat_le length
         (width (class_word_noted part.now slot_ref.page - 1))) }
 {
     may_put::<L>(shape, part, slot_ref) && fits_class(length, part.class_word(slot_ref.page))

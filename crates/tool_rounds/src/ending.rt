@@ -1,7 +1,7 @@
 //! The end of a round: it ends all that was begun, fills all shards, and joins all passes.
 //!
-//! An adoption files all pages of a shard again, so it may hide that a page was lost. So in every second round the owners
-//! of that moment fill their shards, before they leave. The other shards are adopted, filled and left.
+//! An adoption files all pages of a shard again, so it may hide that a page was lost. So in every second round the
+//! owners of that moment fill their shards, before they leave. The other shards are adopted, filled and left.
 ghost use Rattle.std.specs.Prelude.{◌≤◌};
 
 use crate::history::History;

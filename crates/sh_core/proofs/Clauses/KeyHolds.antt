@@ -22,8 +22,8 @@ holds_few plan w know few k = go (plan.keys.unpack k) refl where
   on_slot n name j false e = omega arith
   on_slot n name j true e =
       let i = eqb-true j k e in
-      let here : if1 (at_slot (slot_ref_of n) (plan.keys.unpack j)) ≡ 1 = rw (i, name, same_slot-refl (slot_ref_of n)) refl
-      in omega arith
+      let here : if1 (at_slot (slot_ref_of n) (plan.keys.unpack j)) ≡ 1
+      = rw (i, name, same_slot-refl (slot_ref_of n)) refl in omega arith
 
   held_by_none : plan.keys.unpack k ≡ None → (m : ℕ) → total (λ (p : Body). times k p.holds) w.parts ≡ m
       → m ≤ plan.keys.guard_max

@@ -208,9 +208,8 @@ unfolding more_wrongly
 fourth_generation_is_no_key = refuted never_retires (λ plan w l. FillsAreKeys plan w) 1 (omega arith) (omega arith)
     (three_slots ++ inserted 0 ++ removed 0 4096 ++ inserted 0 ++ removed 0 8192 ++ inserted 0 ++ removed 0 12288
     ++ ev 0 (FillSlot (slot 0 0 0) []) ∷ [])
-    (λ h. let z : None ≡ Some (first 4) = h 0 (record owner { hand = Filling (slot_ref 0 0) [] 0 }) (slot_ref 0 0) [] 0 refl
-    refl
-    in cc)
+    (λ h. let z : None ≡ Some (first 4) = h 0 (record owner { hand = Filling (slot_ref 0 0) [] 0 }) (slot_ref 0 0) [] 0
+    refl refl in cc)
 
 pub early_link_names_nothing : ¬ AlwaysBy ties_first (λ plan w l. EachLinked plan w l)
 unfolding more_wrongly
@@ -241,8 +240,8 @@ unfolding more_wrongly
 fourth_generation_is_issued = refuted never_retires (λ plan w l. IssuesKeys plan w) 1 (omega arith) (omega arith)
     (three_slots ++ inserted 0 ++ removed 0 4096 ++ inserted 0 ++ removed 0 8192 ++ inserted 0 ++ removed 0 12288
     ++ ev 0 (FillSlot (slot 0 0 0) []) ∷ [])
-    (λ h. let z : None ≡ Some (first 4) = h 0 publisher Publish (publish (small 1) publisher (slot_ref 0 0) []) 16384 [] 0 0
-    refl refl refl refl in cc)
+    (λ h. let z : None ≡ Some (first 4) = h 0 publisher Publish (publish (small 1) publisher (slot_ref 0 0) []) 16384 []
+    0 0 refl refl refl refl in cc)
 
 -- the state word of a marked slot in its first generation, on which one pass is left
 abbrev left_word : ℕ

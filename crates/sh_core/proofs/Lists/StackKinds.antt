@@ -157,7 +157,8 @@ module _ (plan : Plan) (w : Words) (ps : List Body) (l : PutLists) (a : ℕ) (p 
         (λ g i e. (
           put2_other w.link_at x.page x.slot n g i e,
           total_same (tying (slot_ref g i)) ps a tie_before tie_after at
-              ((ties_no_slot r (slot_ref g i)).0 ∙ sym (let z : cond (same_slot (slot_ref g i) x) n 0 ≡ 0 = rw e refl in z)),
+              ((ties_no_slot r (slot_ref g i)).0
+              ∙ sym (let z : cond (same_slot (slot_ref g i) x) n 0 ≡ 0 = rw e refl in z)),
           total_same (ties_of (slot_ref g i)) ps a tie_before tie_after at
               ((ties_no_slot r (slot_ref g i)).1 ∙ sym (let z : if1 (same_slot (slot_ref g i) x) ≡ 0 = rw e refl in z)),
         ))

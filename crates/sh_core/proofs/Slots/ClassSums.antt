@@ -184,8 +184,9 @@ bounds_state plan w x n old gen len = record {
   gens : (q s : ℕ) (b : Bool) → same_slot (slot_ref q s) x ≡ b →
       (0 < (fields_of (put2 w.state_at x.page x.slot n q s)).generation)
       × ((fields_of (put2 w.state_at x.page x.slot n q s)).generation ≤ plan.keys.gen_max)
-  gens q s true e = let i = same_slot-true x (slot_ref q s) e in let P : ℕ → Type 0 = λ m. (0 < (fields_of m).generation)
-      × ((fields_of m).generation ≤ plan.keys.gen_max) in
+  gens q s true e =
+      let i = same_slot-true x (slot_ref q s) e in
+      let P : ℕ → Type 0 = λ m. (0 < (fields_of m).generation) × ((fields_of m).generation ≤ plan.keys.gen_max) in
       subst P (sym (ap (λ (y : SlotRef). put2 w.state_at x.page x.slot n y.page y.slot) i
       ∙ put2_same w.state_at x.page x.slot n)) gen
   gens q s false e = let P : ℕ → Type 0 = λ m. (0 < (fields_of m).generation)
@@ -197,11 +198,12 @@ bounds_state plan w x n old gen len = record {
       (fields_of (put2 w.state_at x.page x.slot n q s)).marked) ≡ true → w.length_at q s ≤ width (w.class_at q - 1)
   lens q s true e h =
       let i = same_slot-true x (slot_ref q s) e in
-      let j : put2 w.state_at x.page x.slot n q s ≡ n = ap (λ (y : SlotRef). put2 w.state_at x.page x.slot n y.page y.slot)
-      i ∙ put2_same w.state_at x.page x.slot n in
+      let j : put2 w.state_at x.page x.slot n q s ≡ n
+      = ap (λ (y : SlotRef). put2 w.state_at x.page x.slot n y.page y.slot) i ∙ put2_same w.state_at x.page x.slot n in
       let k : ((fields_of n).present || (fields_of n).marked) ≡ true = sym
       (ap (λ (m : ℕ). (fields_of m).present || (fields_of m).marked) j) ∙ h in
-      let P : SlotRef → Type 0 = λ y. w.length_at y.page y.slot ≤ width (w.class_at y.page - 1) in subst P (sym i) (len k)
+      let P : SlotRef → Type 0 = λ y. w.length_at y.page y.slot ≤ width (w.class_at y.page - 1) in
+      subst P (sym i) (len k)
   lens q s false e h = old.lengths q s (sym (ap (λ (m : ℕ). (fields_of m).present || (fields_of m).marked)
       (put2_other w.state_at x.page x.slot n q s e)) ∙ h)
 

@@ -46,7 +46,8 @@ impl Part {
         requires page { slot_ref.page < all_pages shape.now }
         requires slot { slot_ref.slot < slot_places }
         requires names { (plan_of L.layout shape.now).keys.unpack
-            ((plan_of L.layout shape.now).keys.pack (published_name slot_ref found)) ≡ Some (published_name slot_ref found) }
+            ((plan_of L.layout shape.now).keys.pack (published_name slot_ref found))
+            ≡ Some (published_name slot_ref found) }
         ensures reply { result ≡ (publish (plan_of L.layout shape.now) self.old slot_ref value.now).reply found }
         ensures part { self.new ≡ (publish (plan_of L.layout shape.now) self.old slot_ref value.now).part found }
     {
@@ -57,10 +58,10 @@ impl Part {
 
     // Puts a slot of its own; the step found this head word.
     pub(super) fn put_slot(&mut self, slot_ref: SlotRef, found: u64) -> Option<Reply>
-        ensures reply { result ≡ (put_at (record self.old { mine = without (same_slot slot_ref) self.old.mine }) slot_ref).reply
-            found }
-        ensures part { self.new ≡ (put_at (record self.old { mine = without (same_slot slot_ref) self.old.mine }) slot_ref).part
-            found }
+        ensures reply { result ≡ (put_at (record self.old { mine = without (same_slot slot_ref) self.old.mine })
+            slot_ref).reply found }
+        ensures part { self.new ≡ (put_at (record self.old { mine = without (same_slot slot_ref) self.old.mine })
+            slot_ref).part found }
     {
         self.mine.remove(slot_ref);
         self.put(slot_ref, found)
