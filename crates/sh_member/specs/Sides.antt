@@ -3,9 +3,11 @@ use Rattle.std.specs.Prelude.{◌≡◌, ℕ, Bool, true, false, List, Option, R
 use Rattle.sh_key.specs.Layout.{Layout}
 use Rattle.sh_value.specs.declared.refusal.Refusal.{Refusal}
 use Rattle.sh_value.specs.declared.refusal.Refusal.TheVariants as refusal
+use Rattle.sh_shape.specs.Shape.{Numbers}
 use Rattle.sh_table.specs.Seats.{Heap}
 use Rattle.sh_table.specs.Tales.{ViewStands}
-use Rattle.sh_pass.specs.Passes.{Caller}
+use Rattle.sh_table.specs.Views.{joined_view}
+use Rattle.sh_pass.specs.Passes.{Caller, IsAtRest}
 use Rattle.sh_pass.specs.Receipts.{heeded, receipt_by}
 use Rattle.sh_pass.specs.declared.next_key.NextKey.{NextKey}
 use Rattle.sh_readers.specs.OwnKeys.{NextOwnKeyDoes, StepsForPlaces}
@@ -36,6 +38,22 @@ abbrev pub is_settled : {L H : Type 0} → Side L H → Bool
 is_settled (Pass v) = true
 is_settled (Shard o) = true
 is_settled Moving = false
+
+-- ---- what holds between calls
+
+-- the shape of its heap
+abbrev pub HasShape : SeenSide → Numbers → Type 0
+HasShape (Pass v) shape = shape ≡ v.heap.shape
+HasShape (Shard o) shape = shape ≡ o.pages.owner.heap.shape
+HasShape Moving shape = ⊥
+
+-- nothing is begun, and all that it knows is true; a pass owns no shard, and an owner owns its shard
+abbrev pub SideStands : Layout → SeenSide → Type 0
+SideStands layout (Pass v) = IsAtRest v × ViewStands layout v.view
+SideStands layout (Shard o) = HoldsShard layout o
+SideStands layout Moving = ⊥
+
+-- ---- calls
 
 -- a call that keeps the kind: a pass does as `does` says, and so does the owner of a shard, which it stays
 abbrev pub SideDoes : {A : Type 0} → Layout → (Caller → Result A Refusal → Caller → Type 0) → SeenSide
@@ -117,6 +135,27 @@ SideNextKey layout from (Shard o) answer (Shard n) = NextOwnKeyDoes layout from 
 SideNextKey layout from (Shard o) answer (Pass w) = ⊥
 SideNextKey layout from (Shard o) answer Moving = ⊥
 SideNextKey layout from Moving answer new = ⊥
+
+-- ---- joining
+
+-- both own no shard, and are of one heap (no member is moving between its calls)
+abbrev pub MayJoin : SeenSide → SeenSide → Type 0
+MayJoin (Pass v) (Pass w) = w.heap ≡ v.heap
+MayJoin (Pass v) (Shard p) = ⊥
+MayJoin (Pass v) Moving = Unit {0}
+MayJoin (Shard o) other = ⊥
+MayJoin Moving other = Unit {0}
+
+-- the first, which now carries both tales, and still owns no shard
+abbrev pub SideJoins : Layout → SeenSide → SeenSide → SeenSide → Type 0
+SideJoins layout (Pass v) (Pass w) (Pass r) = (r.heap ≡ v.heap) × (r.view ≡ joined_view v.view w.view)
+    × ViewStands layout r.view
+SideJoins layout (Pass v) (Pass w) (Shard n) = ⊥
+SideJoins layout (Pass v) (Pass w) Moving = ⊥
+SideJoins layout (Pass v) (Shard p) new = ⊥
+SideJoins layout (Pass v) Moving new = ⊥
+SideJoins layout (Shard o) other new = ⊥
+SideJoins layout Moving other new = ⊥
 
 -- ---- receipts
 

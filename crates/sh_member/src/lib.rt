@@ -6,10 +6,12 @@
 
 mod calls;
 mod counting;
+mod joining;
 pub mod member;
 mod moving;
 mod own_keys;
 mod receipts;
+mod standing;
 mod taking;
 mod warming;
 
