@@ -22,7 +22,7 @@ Fills does after into = (v w : Caller) (a : Result (Unit {0}) Refusal) → into 
 side_fills : (l : Layout) (does : Caller → Result (List ℕ) Refusal → Caller → Type 0)
     (into : Caller → Result (Unit {0}) Refusal → Caller → Type 0) (after : List ℕ) → Fills does after into
     → (a : Result (Unit {0}) Refusal) (m n : SeenSide) → SideDoes l into m a n → SideDoes l does m (read_in after a) n
-side_fills l does into after fills a (Pass v) (Pass w) did = fills v w a did
+side_fills l does into after fills a (Pass v) (Pass w) did = (fills v w a did.0, did.1)
 side_fills l does into after fills a (Shard o) (Shard n) did = (fills o.pages.owner n.pages.owner a did.0, did.1)
 side_fills l does into after fills a (Pass v) (Shard n) did = absurd did
 side_fills l does into after fills a (Pass v) Moving did = absurd did

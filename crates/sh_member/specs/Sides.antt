@@ -9,6 +9,7 @@ use Rattle.sh_table.specs.Tales.{ViewStands}
 use Rattle.sh_table.specs.Views.{joined_view}
 use Rattle.sh_pass.specs.Passes.{Caller, IsAtRest}
 use Rattle.sh_pass.specs.Receipts.{heeded, receipt_by}
+use Rattle.sh_pass.specs.Remaining.{Remains}
 use Rattle.sh_pass.specs.declared.next_key.NextKey.{NextKey}
 use Rattle.sh_readers.specs.OwnKeys.{NextOwnKeyDoes, StepsForPlaces}
 use Rattle.sh_shard.specs.Pages.{Paged}
@@ -55,10 +56,11 @@ SideStands layout Moving = ⊥
 
 -- ---- calls
 
--- a call that keeps the kind: a pass does as `does` says, and so does the owner of a shard, which it stays
+-- a call that keeps the kind: a pass does as `does` says, and so does the owner of a shard, which it stays; heap and
+-- shard are as before, and all that is known is true
 abbrev pub SideDoes : {A : Type 0} → Layout → (Caller → Result A Refusal → Caller → Type 0) → SeenSide
     → Result A Refusal → SeenSide → Type 0
-SideDoes layout does (Pass v) answer (Pass w) = does v answer w
+SideDoes layout does (Pass v) answer (Pass w) = does v answer w × Remains layout v w
 SideDoes layout does (Pass v) answer (Shard n) = ⊥
 SideDoes layout does (Pass v) answer Moving = ⊥
 SideDoes layout does (Shard o) answer (Shard n) = does o.pages.owner answer n.pages.owner × StaysOwner layout o n
