@@ -127,6 +127,7 @@ collects_all o m n q r g b s e z = record {
   pages = λ p l. collected_after (page_at o p) (page_at m p) (page_at n p) (sym (g.through.classes p))
       (g.through.met p) (g.through.takes p) (e.pages p l);
   opened = z.opened;
+  rising = z;
   steps = plain_then _ _ _ (o.count + 3) (51 * m.count) (52 * o.count + 3) (rings_most 3 o m s) e.steps
       (let c = g.through.count in omega arith);
 }
