@@ -155,7 +155,7 @@ used_at_front layout c p value o n (Some key) sorted front inside used names sam
   front = front;
   inside = inside;
   counted = let a = sorted.all in omega arith;
-  opened = ap (λ (q : PageQueues). q.opened) same;
+  queues = same;
   class = sorted.classes c p (front_has c p o.queues front);
   names = names;
   inserts = used;
@@ -170,7 +170,7 @@ served_at_front layout c key value o n s = stored layout c s.page key value o n 
   tried = o.pages;
   through = through_none o.pages;
   inserts = s.inserts;
-}) s.inside s.opened (inl (front_has c s.page o.queues s.front))
+}) s.inside (ap (λ (q : PageQueues). q.opened) s.queues) (inl (front_has c s.page o.queues s.front))
 
 module _ (layout : Layout) (c : ℕ) (value : List ℕ) where
   pub elsewhere_refused : (o n : Sharded) (r : Refusal) → PrepareServes c o (Err r) n
@@ -201,7 +201,7 @@ module _ (layout : Layout) (c : ℕ) (value : List ℕ) where
         given = n;
         prepares = k;
         inserts = subst (λ z. PageInserts z value key n.pages m.pages) is s.inserts;
-        opened = s.opened;
+        opened = ap (λ (q : PageQueues). q.opened) s.queues;
         steps = let a = k.gives.steps in let b = s.steps in omega arith;
       }
 

@@ -19,13 +19,13 @@ pub record StoresIn (layout : Layout) (c p key : ℕ) (value : List ℕ) (o n : 
   pub through : WorksThroughout o tried
   pub inserts : PageInserts p value key tried n
 
--- the value is in the front page of the class
+-- the value is in the front page of the class, and the queues are as they were
 pub record StoresAtFront (layout : Layout) (c key : ℕ) (value : List ℕ) (o n : Sharded) : Type 0 where
   pub page : ℕ
   pub front : slice_get (class_queue o.queues c) 0 ≡ Some page
   pub inside : page < o.queues.opened
   pub counted : page < o.pages.count
-  pub opened : n.queues.opened ≡ o.queues.opened
+  pub queues : n.queues ≡ o.queues
   pub class : (page_at o.pages page).class ≡ Some (c + 1)
   pub names : NamesSlot layout page key o.pages
   pub inserts : PageInserts page value key o.pages n.pages
