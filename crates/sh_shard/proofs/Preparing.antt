@@ -17,7 +17,7 @@ use Rattle.sh_shard.specs.Pages.{TakesSteps}
 use Rattle.sh_shard.specs.Works.{WorksThroughout}
 use Rattle.sh_shard.specs.Steps.{StepsAtMost}
 use Rattle.sh_shard.specs.Bounds.{PrepareIsBounded, InsertIsBounded}
-use Rattle.sh_shard.specs.Filing.{OpensFor}
+use Rattle.sh_shard.specs.Filing.{OpensFor, ComesInFront}
 use Rattle.sh_shard.specs.Shards.{Sharded, SortedPages, NoneLeft, NoRoom, IsSpare, NeedsSegment}
 use Rattle.sh_shard.specs.Shards.{IsBlank, NoneSpare, NoneOpenedBlank, IsLowest, IsNextFor, PreparesPage}
 use Rattle.sh_shard.specs.Shards.{PrepareServes, InsertServes, IsQuick}
@@ -55,6 +55,7 @@ prepared v w q q' c p sorted once class inside next other gives moved = record {
       ∙ (class_queue-at_front_same c p q (let m = once.classes in omega arith)
       ∙ ap (λ xs. p ∷ xs) (without_number-hasnt p (class_queue q c) (not_in_class v q c p sorted other)));
   opened = inl (inside, ap (λ (z : PageQueues). z.opened) moved);
+  queues = inl (inside, moved);
 }
 
 -- a segment was opened, since no opened page was blank
@@ -97,6 +98,10 @@ module _ (o m : Sharded) (sorted : SortedPages o.pages o.queues) (some : o.queue
     opens_more n next (inl k) = inr (first_is next, k.1 ∙ ap (λ (q : PageQueues). q.opened) moved)
     opens_more n next (inr k) = absurd (let e = first_is next in let f = k.0 in let g = first_inside in omega arith)
 
+    comes_more : (n : PageQueues) → IsNextFor c p m → ComesInFront c p m.queues n → ComesInFront c p o.queues n
+    comes_more n next (inl k) = inr (first_is next, k.1 ∙ ap (λ (q : PageQueues). at_front c p q) moved)
+    comes_more n next (inr k) = absurd (let e = first_is next in let f = k.0 in let g = first_inside in omega arith)
+
     -- the lowest blank page is the first of the segment
     pub prepared_from : (n : Sharded) → PreparesPage c p m n → PreparesPage c p o n
     prepared_from n k =
@@ -107,6 +112,7 @@ module _ (o m : Sharded) (sorted : SortedPages o.pages o.queues) (some : o.queue
           gives = all.1;
           front = k.front ∙ ap (λ (q : PageQueues). p ∷ class_queue q c) moved;
           opened = opens_more n.queues k.next k.opened;
+          queues = comes_more n.queues k.next k.queues;
         }
 
 -- memory was refused to the segment
@@ -201,7 +207,7 @@ module _ (layout : Layout) (c : ℕ) (value : List ℕ) where
         given = n;
         prepares = k;
         inserts = subst (λ z. PageInserts z value key n.pages m.pages) is s.inserts;
-        opened = ap (λ (q : PageQueues). q.opened) s.queues;
+        queues = s.queues;
         steps = let a = k.gives.steps in let b = s.steps in omega arith;
       }
 
@@ -222,14 +228,16 @@ module _ (layout : Layout) (c : ℕ) (value : List ℕ) where
           class = k.inserts.class ∙ ap (λ (g : SeenPage). g.class) gives.here;
           others = λ q ne. ap (λ (g : SeenPage). g.class) (k.inserts.others q ne)
               ∙ (ap (λ (g : SeenPage). g.class) (gives.others q ne) ∙ t.through.classes q);
-          opened = let P : ℕ × ℕ → Type 0 = λ z. ((k.page < z.0) × (z.1 ≡ z.0))
-              ⊎ ((k.page ≡ z.0) × (z.1 ≡ z.0 + 8)) in subst P (λ i. (t.opened i, sym k.opened i)) k.prepares.opened;
+          opened = let same : m.queues.opened ≡ k.given.queues.opened = ap (λ (q : PageQueues). q.opened) k.queues in
+              let P : ℕ × ℕ → Type 0 = λ z. ((k.page < z.0) × (z.1 ≡ z.0))
+              ⊎ ((k.page ≡ z.0) × (z.1 ≡ z.0 + 8)) in subst P (λ i. (t.opened i, sym same i)) k.prepares.opened;
           gained = inr (inr (record {
             searched = n;
             left = none_left c o n t sorted once;
             opened = t.opened;
             given = k.given;
             prepares = k.prepares;
+            queues = k.queues;
             inserts = k.inserts;
           }));
         },

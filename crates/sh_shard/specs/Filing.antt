@@ -1,12 +1,18 @@
 -- The number of pages that are opened, and the order of filed pages in their queues.
 use Rattle.std.specs.Prelude.{◌≡◌, ◌≢◌, ℕ, ◌+◌, ◌<◌, ◌≤◌, ◌⊎◌, List, ◌++◌, Some}
 use Rattle.sh_queue.specs.Numbers.{RisesFrom}
-use Rattle.sh_queue.specs.Queues.{PageQueues, class_queue}
+use Rattle.sh_queue.specs.Queues.{PageQueues, class_queue, at_front, one_more_segment}
 use Rattle.sh_shard.specs.Pages.{Paged, page_at}
 
 -- the number of opened pages is as before and p is one of them; or one segment more is opened and p is its first page
 abbrev pub OpensFor : ℕ → PageQueues → PageQueues → Type 0
 OpensFor p q r = ((p < q.opened) × (r.opened ≡ q.opened)) ⊎ ((p ≡ q.opened) × (r.opened ≡ q.opened + 8))
+
+-- page p, taken from where it was, is in front of class c, and no other page moved; if it was not opened, its segment was
+-- opened first
+abbrev pub ComesInFront : (c p : ℕ) → PageQueues → PageQueues → Type 0
+ComesInFront c p q r = ((p < q.opened) × (r ≡ at_front c p q))
+    ⊎ ((p ≡ q.opened) × (r ≡ at_front c p (one_more_segment q)))
 
 -- segments are opened up to the last page with a class, and no further
 pub record OpensClassed (v : Paged) (q : PageQueues) : Type 0 where

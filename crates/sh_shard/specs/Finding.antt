@@ -46,7 +46,7 @@ pub record StoresInNext (layout : Layout) (c key : ℕ) (value : List ℕ) (o n 
   pub given : Sharded
   pub prepares : PreparesPage c page o given
   pub inserts : PageInserts page value key given.pages n.pages
-  pub opened : n.queues.opened ≡ given.queues.opened
+  pub queues : n.queues ≡ given.queues
   pub steps : StepsAtMost (length value + 3) o.pages.owner n.pages.owner
 
 -- An insert of a value of class c into a page that had another class or none. If no page could take the value, or the

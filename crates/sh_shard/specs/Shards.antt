@@ -20,7 +20,7 @@ use Rattle.sh_shard.specs.Pages.{Paged, shard_page, page_at, seen_class, Nothing
 use Rattle.sh_shard.specs.Pages.{PageInserts, TakesSteps, AdoptsShard, AdoptRefused, ShardLeft}
 use Rattle.sh_shard.specs.Works.{WorksThroughout, BellDone, ClassDone, ReadFromBell}
 use Rattle.sh_shard.specs.Leaving.{Waiting}
-use Rattle.sh_shard.specs.Filing.{OpensFor, OpensClassed, FilesRising, ReturnsRising}
+use Rattle.sh_shard.specs.Filing.{OpensFor, ComesInFront, OpensClassed, FilesRising, ReturnsRising}
 
 pub record Sharded : Type 0 where
   pub pages : Paged
@@ -118,6 +118,7 @@ pub record PreparesPage (c p : ℕ) (o n : Sharded) : Type 0 where
   pub gives : GivesClass p c o.pages n.pages
   pub front : class_queue n.queues c ≡ p ∷ class_queue o.queues c
   pub opened : OpensFor p o.queues n.queues
+  pub queues : ComesInFront c p o.queues n.queues
 
 -- a page is prepared for class c; or no page can be; or the growth of the segment that has the next page was refused
 abbrev pub PrepareServes : ℕ → Sharded → Result ℕ Refusal → Sharded → Type 0
@@ -163,6 +164,7 @@ pub record NextAfterSearch (c p key : ℕ) (value : List ℕ) (o n : Sharded) : 
   pub opened : searched.queues.opened ≡ o.queues.opened
   pub given : Sharded
   pub prepares : PreparesPage c p searched given
+  pub queues : n.queues ≡ given.queues
   pub inserts : PageInserts p value key given.pages n.pages
 
 -- A value of class c went to a page that has the class, and no other page changed its class. The page was in the queue
