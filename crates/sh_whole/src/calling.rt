@@ -13,7 +13,7 @@ use sh_pass::{Pass, PassState};
 use sh_pool::{Pool, PoolSlot, Taken};
 use std::alloc::Global;
 
-// Passes that were taken, and a pool slot for each of them. It is not `Drop`, since a pool slot is not.
+// Passes that were taken, and in the same order the pool slot of each. It is not `Drop`, since a pool slot is not.
 pub(crate) struct Called<'p, L: KeyLayout> {
     passes: Vec<Pass<'p, L>>,
     pool_slots: Vec<PoolSlot<L>>,
@@ -59,7 +59,7 @@ fn call_one<'p, L: KeyLayout>(
     }
 }
 
-// Gives each pass back to one of the pool slots. A pass whose pool slot is not free is lost.
+// Gives each pass back to the pool slot that it was taken from. A pass whose pool slot is not free is lost.
 pub(crate) fn send_home<L: KeyLayout>(pool: &Pool<L>, called: Called<'_, L>)
     requires { AreCalled pool.now called.passes.items called.pool_slots.items }
 {
@@ -67,6 +67,8 @@ pub(crate) fn send_home<L: KeyLayout>(pool: &Pool<L>, called: Called<'_, L>)
         passes,
         mut pool_slots,
     } = called;
+    // The last one of a list is popped first, and the passes come in order.
+    pool_slots.reverse();
     for pass in passes {
         let Some(pool_slot) = pool_slots.pop() else {
             unreachable!()

@@ -11,10 +11,10 @@ use sh_pool::{Pool, PoolSlot, Taken};
 use std::alloc::Global;
 
 /// Takes all passes that are in their pool slots, and joins them in one. If their tales together name all passes of the
-/// heap, it returns the heap as a whole, and a pool slot for the pass that carries the tales.
+/// heap, it returns the heap as a whole, and the pool slot of the pass that carries the tales.
 ///
 /// So it succeeds if no pass is taken or lost, or if each that is missing was joined before. Otherwise it is refused as
-/// `Away`, and each pass that it took is back in a pool slot. It is refused as `Memory` before it takes any pass.
+/// `Away`, and each pass that it took is back in its pool slot. It is refused as `Memory` before it takes any pass.
 ///
 /// The joined passes are one pass from then on, which is the only one of the pool. It has its own holds. The holds of
 /// the others stay in their slots for ever.
@@ -36,7 +36,7 @@ pub fn whole_of<'p, L: KeyLayout>(
     }
 }
 
-/// Joins all passes of the pool as `whole_of` does, and gives the joined pass back to a pool slot. Refused as
+/// Joins all passes of the pool as `whole_of` does, and gives the joined pass back to its pool slot. Refused as
 /// `whole_of`.
 pub fn gather_pool<L: KeyLayout>(alloc: Global, pool: &Pool<L>) -> Result<(), NotTold>
     ensures { GathersPool pool.now result }
