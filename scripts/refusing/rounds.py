@@ -1,0 +1,113 @@
+"""Rounds: the wrong bodies of a crate that one check tries.
+
+A check loads every crate below, so few rounds are quick. No two edits of a round change one function, except those that
+are made in copies of it: the first such edit changes the function, and each further one a copy behind it, `NAME_copy_2`
+and so on, with the same contract and with a copy of its hand-written answers.
+"""
+import re
+
+from refusing.edits import FUNCTION, Function
+
+
+class Round:
+    """Edits that one check tries, and the crate that they make."""
+
+    def __init__(self, crate, edits=()):
+        self.crate, self.edits = crate, []
+        # (of each edit in a copy, the number of the copy; of each function, how many edits are its own or a copy's)
+        self.copies, self.changed = {}, {}
+        for edit in edits:
+            self.add(edit)
+
+    def add(self, edit):
+        for key in edit.functions:
+            self.changed[key] = self.changed.get(key, 0) + 1
+            if self.changed[key] > 1:
+                self.copies[edit] = self.changed[key]
+        self.edits.append(edit)
+
+    def has_room(self, edit):
+        return not edit.is_alone and not any(self.clashes(edit, other) for other in self.edits)
+
+    def clashes(self, edit, other):
+        if other.is_alone:
+            return True
+        if edit.functions.keys() & other.functions.keys():
+            return not (edit.fits_a_copy(self.crate) and other.fits_a_copy(self.crate))
+        return other.overlaps(edit)
+
+    def made(self):
+        """The files that the edits change, the copies of answers, and for each edit the functions that are wrong."""
+        if len(self.edits) == 1:
+            (edit,) = self.edits
+            return edit.texts, [], {edit: list(edit.functions.values())}
+        inserted = {}
+        for edit in self.edits:
+            for path, at, old, new in self.pairs(edit):
+                inserted.setdefault(path, []).append((at, old, new))
+        texts = {path: replaced(self.crate.text(path), pairs) for path, pairs in inserted.items()}
+        wrong = {
+            edit: [self.wrong_function(edit, it, inserted) for it in edit.functions.values()]
+            for edit in self.edits
+        }
+        folders = [self.folders(edit) for edit in self.copies]
+        return texts, [it for it in folders if (self.crate.folder / it[0]).is_dir()], wrong
+
+    def pairs(self, edit):
+        """What replaces what, and where: in the function itself, or all of a copy behind the function."""
+        if edit not in self.copies:
+            return edit.replaced
+        ((path, function),) = [(it.path, self.original(it)) for it in edit.functions.values()]
+        own = [(at - function.head, old, new) for _, at, old, new in edit.replaced]
+        body = replaced(self.crate.text(path)[function.head:function.end], own)
+        copy = re.sub(rf"\bfn {function.name}\b", f"fn {self.name_of_copy(edit, function)}", body, count=1)
+        return [(path, function.end, "", f"\n\n{copy}")]
+
+    def name_of_copy(self, edit, function):
+        return f"{function.name}_copy_{self.copies[edit]}"
+
+    def folders(self, edit):
+        """The folder of a function's answers, that of its copy's, and the name of the one and the other in them."""
+        (function,) = edit.functions.values()
+        here = function.answers()
+        there = here.removesuffix(function.name) + self.name_of_copy(edit, function)
+        return here, there, f"{here.replace('/', '.')}.", f"{there.replace('/', '.')}."
+
+    def original(self, function):
+        """The function in the crate's own text. (An edit's texts are of one line each, so they move no rows.)"""
+        text = self.crate.text(function.path)
+        found = (Function(function.path, text, it) for it in FUNCTION.finditer(text))
+        return next(it for it in found if it.key() == function.key())
+
+    def wrong_function(self, edit, function, inserted):
+        """The function with the wrong body, with the rows where it stands in the text that is checked."""
+        own, rows = self.original(function), 0
+        for at, _, new in inserted[own.path]:
+            # (only copies add rows)
+            rows += new.count("\n") if at < own.head else 0
+        if edit not in self.copies:
+            return function.moved(rows, function.name)
+        # (the copies of a function stand behind it in the order of their numbers)
+        own_rows = len(own.rows) + 1
+        return function.moved(rows + own_rows * (self.copies[edit] - 1), self.name_of_copy(edit, function))
+
+
+def replaced(text, pairs):
+    """A text with each pair's old text replaced at its place. Of what is inserted at one place, the first comes first."""
+    parts, behind = [], 0
+    for at, old, new in sorted(pairs, key=lambda it: it[0]):
+        parts += [text[behind:at], new]
+        behind = at + len(old)
+    return "".join([*parts, text[behind:]])
+
+
+def rounds_of(crate, edits):
+    """The edits in rounds, each in the first that has room; what lies outside each function is alone."""
+    rounds = []
+    for edit in edits:
+        room = next((it for it in rounds if it.has_room(edit)), None)
+        if room is None:
+            rounds.append(Round(crate, [edit]))
+        else:
+            room.add(edit)
+    return rounds
