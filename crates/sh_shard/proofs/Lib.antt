@@ -14,6 +14,7 @@ pub mod Trying
 pub mod Preparing
 pub mod Filing
 pub mod FullPages
+pub mod ComingBack
 pub mod PageLaws
 pub mod Keeping
 pub mod Working

@@ -1,5 +1,6 @@
 -- How pages come back from the full queue, and how the pages of an adopted shard are put into their queues.
 use Rattle.std.specs.Prelude.{◌≡◌, ◌≢◌, ℕ, ◌+◌, ◌-◌, ◌*◌, ◌<◌, ◌≤◌, ◌⊎◌, true, false, List, [], ◌++◌, length, Some}
+use Rattle.std.specs.Prelude.{Option, None}
 use Rattle.sh_queue.specs.Numbers.{has_number, RisesFrom}
 use Rattle.sh_queue.specs.Queues.{PageQueues, FilingQueues, class_queue, at_back}
 use Rattle.sh_shard.specs.Pages.{Paged, page_at, seen_class}
@@ -20,6 +21,11 @@ pub record SortedBut (named : ℕ → Type 0) (v : Paged) (q : PageQueues) : Typ
 abbrev pub ReturnsPage : ℕ → Paged → PageQueues → PageQueues → Type 0
 ReturnsPage p v q q' = ((q' ≡ q) × ((has_number p q.full ≡ false) ⊎ FullPage (page_at v p)))
     ⊎ ((has_number p q.full ≡ true) × (q' ≡ at_back (seen_class (page_at v p) - 1) p q))
+
+-- the same of the page that gained a slot, if there is one
+abbrev pub ReturnsGained : Option ℕ → Paged → PageQueues → PageQueues → Type 0
+ReturnsGained None v q q' = q' ≡ q
+ReturnsGained (Some p) v q q' = ReturnsPage p v q q'
 
 -- the pages that are filed so far are blank or in the queues of their classes, in ascending order; none is full
 pub record FiledPages (v : Paged) (q : PageQueues) : Type 0 where

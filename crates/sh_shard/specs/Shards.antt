@@ -1,6 +1,6 @@
 -- What a contract sees of an owner's shard, and what its calls do.
 use Rattle.std.specs.Prelude.{◌≡◌, ◌≢◌, ℕ, ◌+◌, ◌*◌, ◌<◌, ◌≤◌, ◌⊎◌, true, List, [], ◌∷◌, ◌++◌, length, None}
-use Rattle.std.specs.Prelude.{Some, Result, Ok, Err, slice_get}
+use Rattle.std.specs.Prelude.{Some, Option, Result, Ok, Err, slice_get}
 use Rattle.sh_history.specs.declared.entry.Entry.TheVariants as entry
 use Rattle.sh_history.specs.declared.log.LogEntry.TheVariants.{Known}
 use Rattle.sh_key.specs.Layout.{Layout}
@@ -17,7 +17,8 @@ use Rattle.sh_pass.specs.Growing.{SameTale}
 use Rattle.sh_pass.specs.Remaining.{Remains}
 use Rattle.sh_pass.specs.Owners.{SeenPage, Aside, NonePut, IsKeyIn, IsKeyOn, heap_page, own_body, seen_bell}
 use Rattle.sh_shard.specs.Pages.{Paged, shard_page, page_at, seen_class, NothingMine, WhollyMine, GivesClass, PageDone}
-use Rattle.sh_shard.specs.Pages.{PageInserts, TakesSteps, AdoptsShard, AdoptRefused, ShardLeft}
+use Rattle.sh_shard.specs.Pages.{PageInserts, TakesSteps, GainsSlot, AdoptsShard, AdoptRefused, ShardLeft}
+use Rattle.sh_shard.specs.Turning.{gained_back}
 use Rattle.sh_shard.specs.Works.{WorksThroughout, BellDone, ClassDone, ReadFromBell}
 use Rattle.sh_shard.specs.Leaving.{Waiting}
 use Rattle.sh_shard.specs.Filing.{OpensFor, ComesInFront, OpensClassed, FilesRising, ReturnsRising}
@@ -204,6 +205,19 @@ pub record IsQuick (c : ℕ) (o : Sharded) : Type 0 where
 abbrev pub DoneIn : ℕ → Sharded → Result ℕ Refusal → Sharded → Type 0
 DoneIn n o (Ok key) m = TakesSteps n o.pages m.pages
 DoneIn n o (Err _) m = ⊥
+
+-- ---- the four calls
+
+-- If the call freed a slot of the shard, its page has the slot, and came back if it was in the full queue. Nothing else
+-- moved, and all other pages and the bell are as they were.
+pub record ReturnsSlot (o n : Sharded) : Type 0 where
+  pub gained : Option ℕ
+  pub slot : GainsSlot gained o.pages n.pages
+  pub queues : n.queues ≡ gained_back gained n.pages o.queues
+
+-- no slot and no page moved
+abbrev pub MovesNothing : Sharded → Sharded → Type 0
+MovesNothing o n = GainsSlot None o.pages n.pages × (n.queues ≡ o.queues)
 
 -- ---- adopting and leaving a shard
 

@@ -3,7 +3,7 @@ ghost use Rattle.std.specs.Prelude.{◌≡◌, ℕ, ◌<◌, Some, MatchBool, If
 ghost use Rattle.sh_queue.specs.Numbers.{has_number};
 ghost use Rattle.sh_shard.specs.Pages.{page_at, seen_class};
 ghost use Rattle.sh_shard.specs.Shards.{FullPage, SortedPages};
-ghost use Rattle.sh_shard.specs.Returning.{SortedBut, ReturnsPage};
+ghost use Rattle.sh_shard.specs.Returning.{SortedBut, ReturnsPage, ReturnsGained};
 ghost use Rattle.sh_shard.specs.Filing.{ReturnsRising};
 
 use crate::pages::Pages;
@@ -33,7 +33,8 @@ pub(crate) fn return_one<L: KeyLayout, H: KeepsHeap<L>>(
 )
     requires sorted { SortedBut (λ p. gained ≡ Some p) pages.now queues.old }
     requires inside { IfSome gained (λ p. p < pages.now.count) }
-    ensures { SortedPages pages.now queues.new }
+    ensures sorted { SortedPages pages.now queues.new }
+    ensures moved { ReturnsGained gained pages.now queues.old queues.new }
 {
     let Some(page) = gained else {
         return;
