@@ -5,6 +5,7 @@ pub mod Counts
 pub mod ClassWords
 pub mod Waits
 pub mod Sorting
+pub mod Turning
 pub mod Searching
 pub mod Storing
 pub mod ClassDone

@@ -18,7 +18,7 @@ use Rattle.sh_pass.specs.Remaining.{Remains}
 use Rattle.sh_pass.specs.Owners.{SeenPage, Aside, NonePut, IsKeyIn, IsKeyOn, heap_page, own_body, seen_bell}
 use Rattle.sh_shard.specs.Pages.{Paged, shard_page, page_at, seen_class, NothingMine, WhollyMine, GivesClass, PageDone}
 use Rattle.sh_shard.specs.Pages.{PageInserts, TakesSteps, GainsSlot, AdoptsShard, AdoptRefused, ShardLeft}
-use Rattle.sh_shard.specs.Turning.{gained_back}
+use Rattle.sh_shard.specs.Turning.{turned_past, gained_back}
 use Rattle.sh_shard.specs.Works.{WorksThroughout, BellDone, ClassDone, ReadFromBell}
 use Rattle.sh_shard.specs.Leaving.{Waiting}
 use Rattle.sh_shard.specs.Filing.{OpensFor, ComesInFront, OpensClassed, FilesRising, ReturnsRising}
@@ -143,6 +143,21 @@ pub record Added (value : List ℕ) (key : ℕ) (o n : Paged) : Type 0 where
   pub log : n.owner.view.own.log ≡ o.owner.view.own.log ++ Known (entry.Insert o.owner.view.pass key value) ∷ []
   pub shard : n.shard ≡ o.shard
   pub count : n.count ≡ o.count
+
+-- nothing was left in any page in the queue of class c; they were tried in their order, and the queues are turned past
+-- them
+pub record SearchedInVain (c : ℕ) (o n : Sharded) : Type 0 where
+  pub vain : (p : ℕ) → has_number p (class_queue o.queues c) ≡ true → PageDone o.pages n.pages p
+  pub queues : n.queues ≡ turned_past c n.pages (class_queue o.queues c) o.queues
+
+-- page p was found in the queue of class c; nothing was left in the pages ahead of it, which were tried in their order,
+-- and the queues are turned past them
+pub record FoundInQueue (c p : ℕ) (o n : Sharded) : Type 0 where
+  pub ahead : List ℕ
+  pub behind : List ℕ
+  pub queue : class_queue o.queues c ≡ ahead ++ p ∷ behind
+  pub vain : (q : ℕ) → has_number q ahead ≡ true → PageDone o.pages n.pages q
+  pub queues : n.queues ≡ turned_past c n.pages ahead o.queues
 
 -- each page of class c was searched in vain; then page p, which has the class, was read from the bell and was searched
 -- again, and the value is there
