@@ -10,6 +10,7 @@ pub mod Searching
 pub mod Storing
 pub mod ClassDone
 pub mod BlankPages
+pub mod BellOrder
 pub mod Hearing
 pub mod Trying
 pub mod Preparing

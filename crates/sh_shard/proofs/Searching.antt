@@ -254,6 +254,8 @@ ended c p turn last o n m z s e once l same w d st four sorted is =
       opened = t.opened;
       stood = t.stood;
       vain = record {
+        through = t.since.through;
+        bell = t.since.bell;
         vain = λ r h. vain_more c p turn last o n m z s w d st r (sym (ap (has_number r) all) ∙ h);
         queues = past_more c p turn last o n m z s f.0 f.1 same w st
             ∙ ap (λ xs. turned_past c z.pages xs o.queues) (sym all);
@@ -293,6 +295,8 @@ no_pages c o e = record {
   opened = refl;
   stood = λ p h. h;
   vain = record {
+    through = through_none o.pages;
+    bell = refl;
     vain = λ p h. go (class_queue o.queues c) p e h;
     queues = sym (ap (λ xs. turned_past c o.pages xs o.queues) (no_queue (class_queue o.queues c) e));
   };

@@ -1,6 +1,6 @@
 -- The search, the bell, and the search again.
 use Rattle.std.proofs.Common.{◌≡◌, ℕ, ◌+◌, ◌*◌, ◌<◌, ◌≤◌, ◌||◌, inl, inr, ⊎_elim, Bool, true, false, Option, Some, None}
-use Rattle.std.proofs.Common.{MatchOption, IfSome, List, refl, ap, ◌∙◌, sym, subst, arith}
+use Rattle.std.proofs.Common.{MatchOption, IfSome, List, ◌++◌, refl, ap, ◌∙◌, sym, subst, arith}
 use Rattle.std.specs.Prelude.{Ok}
 use Rattle.sh_key.specs.Layout.{Layout}
 use Rattle.sh_queue.specs.Numbers.{has_number}
@@ -9,12 +9,14 @@ use Rattle.sh_pass.specs.Owners.{SeenPage, SeenBell}
 use Rattle.sh_shard.specs.Steps.{StepsAtMost}
 use Rattle.sh_shard.specs.Bounds.{InsertIsBounded}
 use Rattle.sh_shard.specs.Pages.{Paged, page_at, PageDone, BellTakes, StepsForRings}
+use Rattle.sh_shard.specs.Turning.{come_back_each, any_of_class}
 use Rattle.sh_shard.specs.Shards.{Sharded, SortedPages, InsertServes}
 use Rattle.sh_shard.specs.Works.{WorksThroughout, BellDone, ReadFromBell}
 use Rattle.sh_shard.specs.Finding.{StoresIn, StoresInQueue}
 use Rattle.sh_shard.specs.Searches.{Searched, Hears, BellWaits, RingsOut, Tried}
 use Rattle.sh_shard.proofs.Works.{through_more, through_takes, read_more, read_later}
 use Rattle.sh_shard.proofs.Bounding.{rings_then, rings_most}
+use Rattle.sh_shard.proofs.BellOrder.{each_same, any_same, each_append, any_append, alone_takes, reads_then, reads_both}
 use Rattle.sh_shard.proofs.Hearing.{through_hears}
 use Rattle.sh_shard.proofs.Working.{names_before}
 use Rattle.sh_shard.proofs.Waits.{waits_since}
@@ -29,6 +31,9 @@ rings_first c read o n h t w some = record {
   steps = omega arith;
   through = through_hears c read o n h;
   opened = h.opened;
+  rung = h.rung;
+  rings = h.rings;
+  heard = h.heard;
   gained = h.gained;
   bell = go n.pages.bell.cursor w some;
   pages = h.pages;
@@ -53,6 +58,16 @@ rings_both c a b read o n m z is h x t same k y w = record {
   through = through_more o.pages n.pages z.pages (through_hears c a o n h)
       (through_more n.pages m.pages z.pages (through_takes n.pages m.pages t) (through_hears c b m z k));
   opened = k.opened ∙ (ap (λ (x : PageQueues). x.opened) same ∙ h.opened);
+  rung = h.rung ++ k.rung;
+  rings = record {
+    reads = reads_both h.rung k.rung o.pages m.pages z.pages
+        (reads_then h.rung o.pages n.pages m.pages h.rings.reads (alone_takes n.pages m.pages t)) k.rings.reads;
+    queues = k.rings.queues ∙ (ap (λ (q : PageQueues). come_back_each z.pages k.rung q)
+        (same ∙ (h.rings.queues ∙ sym (each_same n.pages z.pages class h.rung o.queues)))
+        ∙ sym (each_append z.pages h.rung k.rung o.queues));
+  };
+  heard = is ∙ (ap (λ x. x || b) (h.heard ∙ sym (any_same n.pages z.pages class c h.rung))
+      ∙ (ap (λ x. any_of_class c z.pages h.rung || x) k.heard ∙ sym (any_append c z.pages h.rung k.rung)));
   gained = λ p e. ⊎_elim
       (λ (r : has_number p (class_queue m.queues c) ≡ true). ⊎_elim
       (λ (f : has_number p (class_queue o.queues c) ≡ true). inl f)
@@ -68,6 +83,9 @@ rings_both c a b read o n m z is h x t same k y w = record {
   queue = λ r q e. let f = either_none a b (sym is ∙ r) in h.queue f.0 q
       (ap (λ x. has_number q (class_queue x c)) (sym same) ∙ k.queue f.1 q e);
 } where
+  class : (r : ℕ) → (page_at z.pages r).class ≡ (page_at n.pages r).class
+  class r = k.classes r ∙ ap (λ (g : SeenPage). g.class) (t.pages r)
+
   go : (x : Option ℕ) → MatchOption x (Unit {0}) (λ _. m.pages.bell.met < z.pages.bell.met)
       → MatchOption x (o.pages.bell.takes < z.pages.bell.takes) (λ _. o.pages.bell.met < z.pages.bell.met)
   go None w = omega (arith, h.takes, t.takes, k.takes)

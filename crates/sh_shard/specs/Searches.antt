@@ -9,8 +9,8 @@ use Rattle.sh_pass.specs.Owners.{Aside, NonePut}
 use Rattle.sh_shard.specs.Steps.{StepsAtMost}
 use Rattle.sh_shard.specs.Pages.{Paged, page_at, PageDone, BellReads, StepsForRings}
 use Rattle.sh_shard.specs.Works.{WorksThroughout, BellDone, ReadFromBell}
-use Rattle.sh_shard.specs.Turning.{set_aside, turned_past}
-use Rattle.sh_shard.specs.Shards.{Sharded, SearchedInVain}
+use Rattle.sh_shard.specs.Turning.{set_aside, turned_past, come_back, any_of_class}
+use Rattle.sh_shard.specs.Shards.{Sharded, SearchedInVain, HeardInTurn}
 
 -- work on pages alone: the bell is as it was
 pub record WorkedSince (o n : Paged) : Type 0 where
@@ -63,6 +63,9 @@ StoodOrRead c o n = (p : ℕ) → has_number p (class_queue n.queues c) ≡ true
 pub record RingsOut (c : ℕ) (read : Bool) (o n : Sharded) : Type 0 where
   pub through : WorksThroughout o.pages n.pages
   pub opened : n.queues.opened ≡ o.queues.opened
+  pub rung : List ℕ
+  pub rings : HeardInTurn rung o n
+  pub heard : read ≡ any_of_class c n.pages rung
   pub gained : StoodOrRead c o n
   pub bell : BellDone o.pages n.pages
   pub pages : read ≡ false → (q : ℕ) → (page_at o.pages q).class ≡ Some (c + 1) → page_at n.pages q ≡ page_at o.pages q
@@ -84,10 +87,14 @@ pub record Heard (word : ℕ) (o n : Sharded) : Type 0 where
   pub reads : BellReads page o.pages n.pages
   pub class : (page_at n.pages page).class ≡ Some word
   pub queues : (n.queues ≡ o.queues) ⊎ (n.queues ≡ at_back (word - 1) page o.queues) × (0 < word) × (word ≤ 8)
+  pub back : n.queues ≡ come_back page n.pages o.queues
 
 -- pages were read from the bell; none of them is of class c, unless `read`
 pub record Hears (c : ℕ) (read : Bool) (o n : Sharded) : Type 0 where
   pub opened : n.queues.opened ≡ o.queues.opened
+  pub rung : List ℕ
+  pub rings : HeardInTurn rung o n
+  pub heard : read ≡ any_of_class c n.pages rung
   pub gained : StoodOrRead c o n
   pub aside : Aside o.pages.owner n.pages.owner
   pub put : NonePut o.pages.owner n.pages.owner

@@ -18,8 +18,8 @@ use Rattle.sh_pass.specs.Remaining.{Remains}
 use Rattle.sh_pass.specs.Owners.{SeenPage, Aside, NonePut, IsKeyIn, IsKeyOn, heap_page, own_body, seen_bell}
 use Rattle.sh_shard.specs.Pages.{Paged, shard_page, page_at, seen_class, NothingMine, WhollyMine, GivesClass, PageDone}
 use Rattle.sh_shard.specs.Pages.{PageInserts, TakesSteps, GainsSlot, AdoptsShard, AdoptRefused, ShardLeft}
-use Rattle.sh_shard.specs.Turning.{turned_past, gained_back}
-use Rattle.sh_shard.specs.Works.{WorksThroughout, BellDone, ClassDone, ReadFromBell}
+use Rattle.sh_shard.specs.Turning.{turned_past, come_back_each, gained_back}
+use Rattle.sh_shard.specs.Works.{WorksThroughout, BellDone, ClassDone, ReadFromBell, ReadInTurn}
 use Rattle.sh_shard.specs.Leaving.{Waiting}
 use Rattle.sh_shard.specs.Filing.{OpensFor, ComesInFront, OpensClassed, FilesRising, ReturnsRising}
 
@@ -128,14 +128,6 @@ PrepareServes c o (Err refusal.Full) n = (n ≡ o) × NoPageFor c o
 PrepareServes c o (Err refusal.Memory) n = (n ≡ o) × NeedsSegment c o
 PrepareServes c o (Err _) n = ⊥
 
--- The shard has no room for class c: each page of the class is done, and no page is blank. No page has all its slots
--- with its owner, and every segment is opened.
-pub record NoRoom (c : ℕ) (o n : Sharded) : Type 0 where
-  pub left : NoneLeft c o.pages n.pages
-  pub blank : (p : ℕ) → p < n.pages.count → (page_at n.pages p).class ≢ Some 0
-  pub whole : (p : ℕ) → p < n.pages.count → ¬ WhollyMine (page_at n.pages p)
-  pub unopened : n.queues.unopened ≡ 0
-
 -- the value was added to the log under this key; nothing was put
 pub record Added (value : List ℕ) (key : ℕ) (o n : Paged) : Type 0 where
   pub aside : Aside o.owner n.owner
@@ -147,6 +139,8 @@ pub record Added (value : List ℕ) (key : ℕ) (o n : Paged) : Type 0 where
 -- nothing was left in any page in the queue of class c; they were tried in their order, and the queues are turned past
 -- them
 pub record SearchedInVain (c : ℕ) (o n : Sharded) : Type 0 where
+  pub through : WorksThroughout o.pages n.pages
+  pub bell : n.pages.bell ≡ o.pages.bell
   pub vain : (p : ℕ) → has_number p (class_queue o.queues c) ≡ true → PageDone o.pages n.pages p
   pub queues : n.queues ≡ turned_past c n.pages (class_queue o.queues c) o.queues
 
@@ -158,6 +152,19 @@ pub record FoundInQueue (c p : ℕ) (o n : Sharded) : Type 0 where
   pub queue : class_queue o.queues c ≡ ahead ++ p ∷ behind
   pub vain : (q : ℕ) → has_number q ahead ≡ true → PageDone o.pages n.pages q
   pub queues : n.queues ≡ turned_past c n.pages ahead o.queues
+
+-- these pages were read from the bell, in this order, and each that was in the full queue came back to its class
+pub record HeardInTurn (rung : List ℕ) (o n : Sharded) : Type 0 where
+  pub reads : ReadInTurn rung o.pages n.pages
+  pub queues : n.queues ≡ come_back_each n.pages rung o.queues
+
+-- The shard has no room for class c: each page of the class is done, and no page is blank. No page has all its slots
+-- with its owner, and every segment is opened.
+pub record NoRoom (c : ℕ) (o n : Sharded) : Type 0 where
+  pub left : NoneLeft c o.pages n.pages
+  pub blank : (p : ℕ) → p < n.pages.count → (page_at n.pages p).class ≢ Some 0
+  pub whole : (p : ℕ) → p < n.pages.count → ¬ WhollyMine (page_at n.pages p)
+  pub unopened : n.queues.unopened ≡ 0
 
 -- each page of class c was searched in vain; then page p, which has the class, was read from the bell and was searched
 -- again, and the value is there
