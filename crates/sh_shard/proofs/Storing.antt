@@ -11,7 +11,7 @@ use Rattle.sh_key.specs.Layout.{Layout}
 use Rattle.sh_pass.specs.Owners.{SeenPage}
 use Rattle.sh_shard.specs.Pages.{Paged, page_at, PageInserts, GivesClass, NamesSlot}
 use Rattle.sh_shard.specs.Shards.{Sharded, SortedPages, Added, InsertServes, CameByBell, NextAfterSearch}
-use Rattle.sh_shard.specs.Shards.{FoundInQueue}
+use Rattle.sh_shard.specs.Shards.{FoundInQueue, TurnsTo}
 use Rattle.sh_shard.specs.Steps.{StepsAtMost}
 use Rattle.sh_shard.specs.Works.{WorksThroughout}
 use Rattle.sh_shard.specs.Finding.{StoresIn, StoresInQueue}
@@ -102,8 +102,8 @@ pub stored : (layout : Layout) (c p key : ℕ) (value : List ℕ) (o n : Sharded
     → StoresIn layout c p key value o.pages n.pages → p < o.queues.opened → n.queues.opened ≡ o.queues.opened
     → (has_number p (class_queue o.queues c) ≡ true)
     ⊎ (CameByBell c p key value o.pages n.pages ⊎ NextAfterSearch c p key value o n)
-    → InsertServes layout c value o (Ok key) n
-stored layout c p key value o n s inside same gained = (
+    → TurnsTo c p o n → InsertServes layout c value o (Ok key) n
+stored layout c p key value o n s inside same gained turned = (
   added_since key value o.pages s.tried n.pages s.through (added_here p key value s.tried n.pages s.inserts),
   s.names.shard,
   record {
@@ -114,5 +114,6 @@ stored layout c p key value o n s inside same gained = (
     others = λ q ne. ap (λ (g : SeenPage). g.class) (s.inserts.others q ne) ∙ s.through.classes q;
     opened = inl (inside, same);
     gained = gained;
+    turned = turned;
   },
 )

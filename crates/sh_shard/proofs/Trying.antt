@@ -1,7 +1,7 @@
 -- The search, the bell, and the search again.
 use Rattle.std.proofs.Common.{◌≡◌, ℕ, ◌+◌, ◌*◌, ◌<◌, ◌≤◌, ◌||◌, inl, inr, ⊎_elim, Bool, true, false, Option, Some, None}
 use Rattle.std.proofs.Common.{MatchOption, IfSome, List, ◌++◌, refl, ap, ◌∙◌, sym, subst, arith}
-use Rattle.std.specs.Prelude.{Ok}
+use Rattle.std.specs.Prelude.{Ok, MatchBool}
 use Rattle.sh_key.specs.Layout.{Layout}
 use Rattle.sh_queue.specs.Numbers.{has_number}
 use Rattle.sh_queue.specs.Queues.{PageQueues, EachOnce, class_queue}
@@ -10,7 +10,7 @@ use Rattle.sh_shard.specs.Steps.{StepsAtMost}
 use Rattle.sh_shard.specs.Bounds.{InsertIsBounded}
 use Rattle.sh_shard.specs.Pages.{Paged, page_at, PageDone, BellTakes, StepsForRings}
 use Rattle.sh_shard.specs.Turning.{come_back_each, any_of_class}
-use Rattle.sh_shard.specs.Shards.{Sharded, SortedPages, InsertServes}
+use Rattle.sh_shard.specs.Shards.{Sharded, SortedPages, InsertServes, SearchedInVain}
 use Rattle.sh_shard.specs.Works.{WorksThroughout, BellDone, ReadFromBell}
 use Rattle.sh_shard.specs.Finding.{StoresIn, StoresInQueue}
 use Rattle.sh_shard.specs.Searches.{Searched, Hears, BellWaits, RingsOut, Tried}
@@ -117,20 +117,36 @@ tried_once c o n m s k r = record {
       s.since.through.count;
   through = through_more o.pages n.pages m.pages s.since.through r.through;
   opened = r.opened ∙ s.opened;
+  looks = record {
+    searched = n;
+    first = s.vain;
+    rung = r.rung;
+    heard = m;
+    rings = r.rings;
+    again = subst (λ (b : Bool). MatchBool b (SearchedInVain c m m) (m ≡ m)) r.heard refl;
+  };
   bell = bell_since o.pages n.pages m.pages s.since.through r.bell;
   done = λ p h. let there = r.queue refl p h in done_still o.pages n.pages m.pages p
       (r.pages refl p (k.classes c p there)) (s.done p there);
 }
 
 -- a page of the class was read: the second search decides
-pub tried_twice : (c : ℕ) (read : Bool) (o n m z : Sharded) → Searched c o n → RingsOut c read n m → Searched c m z
-    → Tried c o z
-tried_twice c read o n m z s r t =
+pub tried_twice : (c : ℕ) (read : Bool) (o n m z : Sharded) → read ≡ true → Searched c o n → RingsOut c read n m
+    → Searched c m z → Tried c o z
+tried_twice c read o n m z did s r t =
     let before = through_more o.pages n.pages m.pages s.since.through r.through in record {
       steps = tried_in_two _ _ _ _ o.pages.count n.pages.count m.pages.count s.steps
           (rings_most 3 n.pages m.pages r.steps) t.steps s.since.through.count r.through.count;
       through = through_more o.pages m.pages z.pages before t.since.through;
       opened = t.opened ∙ (r.opened ∙ s.opened);
+      looks = record {
+        searched = n;
+        first = s.vain;
+        rung = r.rung;
+        heard = m;
+        rings = r.rings;
+        again = subst (λ (b : Bool). MatchBool b (SearchedInVain c m z) (z ≡ m)) (sym did ∙ r.heard) t.vain;
+      };
       bell = let d : BellDone o.pages m.pages = bell_since o.pages n.pages m.pages
           s.since.through r.bell in
           let P : SeenBell → Type 0 = λ b. MatchOption b.cursor (o.pages.bell.takes < b.takes)
@@ -142,13 +158,13 @@ tried_twice c read o n m z s r t =
 pub looked_once : (layout : Layout) (c key : ℕ) (value : List ℕ) (o n : Sharded)
     → StoresInQueue layout c key value o n → InsertServes layout c value o (Ok key) n
 looked_once layout c key value o n s = stored layout c s.page key value o n s.stores s.inside s.opened
-    (inl s.here)
+    (inl s.here) (inl s.finds)
 
 -- the second search found a page, which was in the queue or was read from the bell
-found_again : (layout : Layout) (c key : ℕ) (value : List ℕ) (read : Bool) (o n m z : Sharded) → Searched c o n
-    → SortedPages n.pages n.queues → EachOnce n.queues → RingsOut c read n m → StoresInQueue layout c key value m z
-    → InsertServes layout c value o (Ok key) z
-found_again layout c key value read o n m z s sorted once r t =
+found_again : (layout : Layout) (c key : ℕ) (value : List ℕ) (read : Bool) (o n m z : Sharded) → read ≡ true
+    → Searched c o n → SortedPages n.pages n.queues → EachOnce n.queues → RingsOut c read n m
+    → StoresInQueue layout c key value m z → InsertServes layout c value o (Ok key) z
+found_again layout c key value read o n m z did s sorted once r t =
     let before : WorksThroughout o.pages m.pages = through_more o.pages n.pages m.pages s.since.through r.through in
     let class : (page_at o.pages t.page).class ≡ Some (c + 1) = sym (before.classes t.page) ∙ t.stores.class in
     let stores : StoresIn layout c t.page key value o.pages z.pages = record {
@@ -175,14 +191,23 @@ found_again layout c key value read o n m z s sorted once r t =
       inserts = t.stores.inserts;
     })))
     (r.gained t.page t.here))
+    (inr (inl (record {
+      searched = n;
+      first = s.vain;
+      rung = r.rung;
+      heard = m;
+      rings = r.rings;
+      some = sym r.heard ∙ did;
+      finds = t.finds;
+    })))
 
 pub looked_again : (layout : Layout) (c : ℕ) (value : List ℕ) (read : Bool) (o n m z : Sharded) (r : Option ℕ)
-    → Searched c o n → SortedPages n.pages n.queues → EachOnce n.queues → RingsOut c read n m
+    → read ≡ true → Searched c o n → SortedPages n.pages n.queues → EachOnce n.queues → RingsOut c read n m
     → MatchOption r (Searched c m z) (λ key. StoresInQueue layout c key value m z)
     → MatchOption r (Tried c o z) (λ key. InsertServes layout c value o (Ok key) z)
-looked_again layout c value read o n m z None s sorted once k t = tried_twice c read o n m z s k t
-looked_again layout c value read o n m z (Some key) s sorted once k t = found_again layout c key value read o n m z s
-    sorted once k t
+looked_again layout c value read o n m z None did s sorted once k t = tried_twice c read o n m z did s k t
+looked_again layout c value read o n m z (Some key) did s sorted once k t = found_again layout c key value read o n m z
+    did s sorted once k t
 
 -- the number of steps
 found_in_two : (a b c d k l j w : ℕ) → b ≤ a + 4 * k → c ≤ b + (l + 3) → d ≤ c + (4 * j + w + 50) → l ≡ k → j ≡ l

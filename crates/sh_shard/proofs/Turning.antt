@@ -1,6 +1,6 @@
 -- The queues of an owner after pages of a class were tried in vain.
 use Rattle.std.proofs.Common.{◌≡◌, ◌≢◌, ℕ, ◌⊎◌, inl, inr, ⊎_elim, true, Option, Some, None, List, [], ◌∷◌, ◌++◌}
-use Rattle.std.proofs.Common.{refl, ap, ◌∙◌, sym, subst}
+use Rattle.std.proofs.Common.{slice_get, refl, ap, ◌∙◌, sym, subst}
 use Rattle.std.proofs.lemmas.Bool.{cases_eq, false≢true}
 use Rattle.sh_lists.specs.Numbers.{Distinct}
 use Rattle.sh_lists.proofs.Distincts.{Misses-right}
@@ -55,3 +55,8 @@ apart_ahead p r (x ∷ xs) ys distinct here same = ⊎_elim
     (λ (is : x ≡ r). (Misses-right x xs (p ∷ ys) distinct.0).0 (is ∙ same))
     (λ (other : x ≢ r). apart_ahead p r xs ys distinct.1 (has_number-rest r x xs other here) same)
     (cases_eq x r)
+
+-- the front page, and those behind it
+pub front_split : (p : ℕ) (xs : List ℕ) → slice_get xs 0 ≡ Some p → (ys : List ℕ) × (xs ≡ p ∷ ys)
+front_split p [] is = absurd (let z : None ≡ Some p = is in cc)
+front_split p (x ∷ xs) is = let same : x ≡ p = cc in (xs, ap (λ z. z ∷ xs) same)

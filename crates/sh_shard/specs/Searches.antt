@@ -10,7 +10,7 @@ use Rattle.sh_shard.specs.Steps.{StepsAtMost}
 use Rattle.sh_shard.specs.Pages.{Paged, page_at, PageDone, BellReads, StepsForRings}
 use Rattle.sh_shard.specs.Works.{WorksThroughout, BellDone, ReadFromBell}
 use Rattle.sh_shard.specs.Turning.{set_aside, turned_past, come_back, any_of_class}
-use Rattle.sh_shard.specs.Shards.{Sharded, SearchedInVain, HeardInTurn}
+use Rattle.sh_shard.specs.Shards.{Sharded, SearchedInVain, HeardInTurn, LooksInVain}
 
 -- work on pages alone: the bell is as it was
 pub record WorkedSince (o n : Paged) : Type 0 where
@@ -77,6 +77,7 @@ pub record RingsOut (c : ℕ) (read : Bool) (o n : Sharded) : Type 0 where
 pub record Tried (c : ℕ) (o n : Sharded) : Type 0 where
   pub through : WorksThroughout o.pages n.pages
   pub opened : n.queues.opened ≡ o.queues.opened
+  pub looks : LooksInVain c o n
   pub bell : BellDone o.pages n.pages
   pub done : (p : ℕ) → has_number p (class_queue n.queues c) ≡ true → PageDone o.pages n.pages p
   pub steps : StepsAtMost (9 * o.pages.count + 3) o.pages.owner n.pages.owner

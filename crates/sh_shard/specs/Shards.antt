@@ -1,6 +1,6 @@
 -- What a contract sees of an owner's shard, and what its calls do.
 use Rattle.std.specs.Prelude.{◌≡◌, ◌≢◌, ℕ, ◌+◌, ◌*◌, ◌<◌, ◌≤◌, ◌⊎◌, true, List, [], ◌∷◌, ◌++◌, length, None}
-use Rattle.std.specs.Prelude.{Some, Option, Result, Ok, Err, slice_get}
+use Rattle.std.specs.Prelude.{Some, Option, Result, Ok, Err, slice_get, MatchBool}
 use Rattle.sh_history.specs.declared.entry.Entry.TheVariants as entry
 use Rattle.sh_history.specs.declared.log.LogEntry.TheVariants.{Known}
 use Rattle.sh_key.specs.Layout.{Layout}
@@ -18,7 +18,7 @@ use Rattle.sh_pass.specs.Remaining.{Remains}
 use Rattle.sh_pass.specs.Owners.{SeenPage, Aside, NonePut, IsKeyIn, IsKeyOn, heap_page, own_body, seen_bell}
 use Rattle.sh_shard.specs.Pages.{Paged, shard_page, page_at, seen_class, NothingMine, WhollyMine, GivesClass, PageDone}
 use Rattle.sh_shard.specs.Pages.{PageInserts, TakesSteps, GainsSlot, AdoptsShard, AdoptRefused, ShardLeft}
-use Rattle.sh_shard.specs.Turning.{turned_past, come_back_each, gained_back}
+use Rattle.sh_shard.specs.Turning.{turned_past, come_back_each, any_of_class, gained_back}
 use Rattle.sh_shard.specs.Works.{WorksThroughout, BellDone, ClassDone, ReadFromBell, ReadInTurn}
 use Rattle.sh_shard.specs.Leaving.{Waiting}
 use Rattle.sh_shard.specs.Filing.{OpensFor, ComesInFront, OpensClassed, FilesRising, ReturnsRising}
@@ -158,13 +158,45 @@ pub record HeardInTurn (rung : List ℕ) (o n : Sharded) : Type 0 where
   pub reads : ReadInTurn rung o.pages n.pages
   pub queues : n.queues ≡ come_back_each n.pages rung o.queues
 
+-- the queue of class c was searched in vain; then the bell was read; if a page of the class was among those read, the
+-- queue was searched in vain once more
+pub record LooksInVain (c : ℕ) (o n : Sharded) : Type 0 where
+  pub searched : Sharded
+  pub first : SearchedInVain c o searched
+  pub rung : List ℕ
+  pub heard : Sharded
+  pub rings : HeardInTurn rung searched heard
+  pub again : MatchBool (any_of_class c heard.pages rung) (SearchedInVain c heard n) (n ≡ heard)
+
+-- the queue of class c was searched in vain; then the bell was read, and a page of the class was among those read; then
+-- page p was found in the queue
+pub record FoundAfterBell (c p : ℕ) (o n : Sharded) : Type 0 where
+  pub searched : Sharded
+  pub first : SearchedInVain c o searched
+  pub rung : List ℕ
+  pub heard : Sharded
+  pub rings : HeardInTurn rung searched heard
+  pub some : any_of_class c heard.pages rung ≡ true
+  pub finds : FoundInQueue c p heard n
+
+-- the queues and the bell were looked at in vain, and then page p came in front of class c
+pub record FoundNext (c p : ℕ) (o n : Sharded) : Type 0 where
+  pub looked : Sharded
+  pub looks : LooksInVain c o looked
+  pub queues : ComesInFront c p looked.queues n.queues
+
 -- The shard has no room for class c: each page of the class is done, and no page is blank. No page has all its slots
 -- with its owner, and every segment is opened.
 pub record NoRoom (c : ℕ) (o n : Sharded) : Type 0 where
   pub left : NoneLeft c o.pages n.pages
+  pub looks : LooksInVain c o n
   pub blank : (p : ℕ) → p < n.pages.count → (page_at n.pages p).class ≢ Some 0
   pub whole : (p : ℕ) → p < n.pages.count → ¬ WhollyMine (page_at n.pages p)
   pub unopened : n.queues.unopened ≡ 0
+
+-- how the queues were turned until page p was found for class c
+abbrev pub TurnsTo : (c p : ℕ) → Sharded → Sharded → Type 0
+TurnsTo c p o n = FoundInQueue c p o n ⊎ (FoundAfterBell c p o n ⊎ FoundNext c p o n)
 
 -- each page of class c was searched in vain; then page p, which has the class, was read from the bell and was searched
 -- again, and the value is there
@@ -201,6 +233,7 @@ pub record FindsPage (layout : Layout) (c key : ℕ) (value : List ℕ) (o n : S
   pub opened : OpensFor page o.queues n.queues
   pub gained : (has_number page (class_queue o.queues c) ≡ true)
       ⊎ (CameByBell c page key value o.pages n.pages ⊎ NextAfterSearch c page key value o n)
+  pub turned : TurnsTo c page o n
 
 -- An insert of a value of class c. The value is added to the log, or there is no room. Or nothing of the class is left,
 -- and the growth of the segment that has the next page was refused.
@@ -209,7 +242,7 @@ InsertServes layout c value o (Ok key) n = Added value key o.pages n.pages
     × IsKeyIn layout o.pages.owner o.pages.shard key × FindsPage layout c key value o n
 InsertServes layout c value o (Err refusal.Full) n = NoRoom c o n
 InsertServes layout c value o (Err refusal.Memory) n = WorksThroughout o.pages n.pages × NoneLeft c o.pages n.pages
-    × NeedsSegment c n
+    × NeedsSegment c n × LooksInVain c o n
 InsertServes layout c value o (Err _) n = ⊥
 
 -- the class of a value
