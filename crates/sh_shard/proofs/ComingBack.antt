@@ -7,8 +7,8 @@ use Rattle.sh_queue.specs.Queues.{PageQueues, at_back}
 use Rattle.sh_pass.specs.Owners.{SeenPage}
 use Rattle.sh_shard.specs.Pages.{Paged, page_at, seen_class, GainsSlot}
 use Rattle.sh_shard.specs.Turning.{come_back}
-use Rattle.sh_shard.specs.Shards.{FullPage, ReturnsSlot}
-use Rattle.sh_shard.specs.Returning.{ReturnsPage, ReturnsGained}
+use Rattle.sh_shard.specs.Shards.{FullPage, ReturnsPage, ReturnsSlot}
+use Rattle.sh_shard.specs.Returning.{ReturnsGained}
 
 -- a page that gained a slot is not full
 gained_not_full : (p : ℕ) (o n : Paged) → GainsSlot (Some p) o n → FullPage (page_at n p) → ⊥
@@ -24,7 +24,8 @@ came_back p o n q r k why = ⊎_elim
     h.0 ∙ sym (ap (λ b. cond b (at_back (seen_class (page_at n p) - 1) p q) q) no))
     (λ (f : FullPage (page_at n p)). absurd (gained_not_full p o n k f))
     h.1)
-    (λ (h : (has_number p q.full ≡ true) × (r ≡ at_back (seen_class (page_at n p) - 1) p q)).
+    (λ (h : (has_number p q.full ≡ true) × (r ≡ at_back (seen_class (page_at n p) - 1) p q)
+    × (¬ FullPage (page_at n p))).
     h.1 ∙ sym (ap (λ b. cond b (at_back (seen_class (page_at n p) - 1) p q) q) h.0))
     why
 

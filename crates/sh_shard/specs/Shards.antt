@@ -1,11 +1,12 @@
 -- What a contract sees of an owner's shard, and what its calls do.
-use Rattle.std.specs.Prelude.{◌≡◌, ◌≢◌, ℕ, ◌+◌, ◌*◌, ◌<◌, ◌≤◌, ◌⊎◌, true, List, [], ◌∷◌, ◌++◌, length, None}
+use Rattle.std.specs.Prelude.{◌≡◌, ◌≢◌, ℕ, zero, suc, ◌+◌, ◌-◌, ◌*◌, ◌<◌, ◌≤◌, ◌⊎◌, true, false, List, [], ◌∷◌}
+use Rattle.std.specs.Prelude.{◌++◌, length, None}
 use Rattle.std.specs.Prelude.{Some, Option, Result, Ok, Err, slice_get, MatchBool}
 use Rattle.sh_history.specs.declared.entry.Entry.TheVariants as entry
 use Rattle.sh_history.specs.declared.log.LogEntry.TheVariants.{Known}
 use Rattle.sh_key.specs.Layout.{Layout}
 use Rattle.sh_queue.specs.Numbers.{has_number}
-use Rattle.sh_queue.specs.Queues.{PageQueues, class_queue}
+use Rattle.sh_queue.specs.Queues.{PageQueues, class_queue, at_back}
 use Rattle.sh_value.specs.declared.refusal.Refusal.{Refusal}
 use Rattle.sh_value.specs.declared.refusal.Refusal.TheVariants as refusal
 use Rattle.sh_shape.specs.Classes.{class_of}
@@ -44,6 +45,22 @@ pub record SortedPages (v : Paged) (q : PageQueues) : Type 0 where
   pub classes : (c p : ℕ) → has_number p (class_queue q c) ≡ true → (page_at v p).class ≡ Some (c + 1)
   pub full : (p : ℕ) → has_number p q.full ≡ true → FullPage (page_at v p)
   pub blank : (p : ℕ) → has_number p q.blank ≡ true → (page_at v p).class ≡ Some 0
+
+-- page p goes to the back of its class exactly if it was in the full queue and is not a full page
+abbrev pub ReturnsPage : ℕ → Paged → PageQueues → PageQueues → Type 0
+ReturnsPage p v q r = ((r ≡ q) × ((has_number p q.full ≡ false) ⊎ FullPage (page_at v p)))
+    ⊎ ((has_number p q.full ≡ true) × (r ≡ at_back (seen_class (page_at v p) - 1) p q) × (¬ FullPage (page_at v p)))
+
+-- so do the pages below k, in ascending order
+abbrev pub ReturnsBelow : ℕ → Paged → PageQueues → PageQueues → Type 0
+ReturnsBelow zero v q r = r ≡ q
+ReturnsBelow (suc k) v q r = (s : PageQueues) × ReturnsBelow k v q s × ReturnsPage k v s r
+
+-- and so do all opened pages
+pub record ReturnsEach (v : Paged) (q r : PageQueues) : Type 0 where
+  pub below : ℕ
+  pub all : q.opened ≤ below
+  pub each : ReturnsBelow below v q r
 
 -- Nothing is begun, the shard is the owner's, and all that it knows is true in the heap's shape. The bell is that of
 -- its shard as the owner sees it.
@@ -287,3 +304,4 @@ AdoptServes k v (Err r) = AdoptRefused k v r.0 r.1
 abbrev pub LeaveServes : Sharded → Result Caller (Sharded × Refusal) → Type 0
 LeaveServes o (Ok w) = ShardLeft o.pages.owner w
 LeaveServes o (Err r) = (r.1 ≡ refusal.Waiting) × Waiting o.pages r.0.pages × ReturnsRising o.queues r.0.queues
+    × ReturnsEach r.0.pages o.queues r.0.queues
