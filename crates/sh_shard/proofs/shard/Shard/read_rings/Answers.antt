@@ -21,7 +21,7 @@ pub loop-turn-preserved : goal.loop-turn-preserved
 loop-turn-preserved g c =
     let i = c.loop-turn.invariant in
     let once : EachOnce c.loop-turn.self.queues = subst (λ (z : Sharded). EachOnce z.queues) c.self-in-loop-turn.view_is
-    c.opened-known-in-loop-turn.ensures.once in record {
+    c.opened-known.ensures.once in record {
       hears = hears_more c.args.c c.in-Some.word c.loop-turn.read c.is_heard-read.result c.args.self.now
           c.loop-turn.self c.read_bell.new.self c.requires.class i.hears once c.in-Some.ensures
           c.is_heard-read.ensures;
