@@ -6,7 +6,7 @@ use Rattle.sh_history.specs.declared.entry.Entry.TheVariants as entry
 use Rattle.sh_history.specs.declared.log.LogEntry.TheVariants.{Known}
 use Rattle.sh_key.specs.Layout.{Layout}
 use Rattle.sh_queue.specs.Numbers.{has_number}
-use Rattle.sh_queue.specs.Queues.{PageQueues, class_queue, at_back}
+use Rattle.sh_queue.specs.Queues.{PageQueues, EachOnce, class_queue, at_back}
 use Rattle.sh_value.specs.declared.refusal.Refusal.{Refusal}
 use Rattle.sh_value.specs.declared.refusal.Refusal.TheVariants as refusal
 use Rattle.sh_shape.specs.Classes.{class_of}
@@ -293,11 +293,11 @@ MovesNothing o n = GainsSlot None o.pages n.pages × (n.queues ≡ o.queues)
 
 -- ---- adopting and leaving a shard
 
--- Shard k is the pass's own, and its pages that have a class are in their queues. Or no shard has this number, or it
--- has an owner, or memory was refused.
+-- Shard k is the pass's own. Each page that has a class is in the queue of the class, once, and no other page is; each
+-- queue rises. Or no shard has this number, or it has an owner, or memory was refused.
 abbrev pub AdoptServes : ℕ → Caller → Result Sharded (Caller × Refusal) → Type 0
 AdoptServes k v (Ok n) = (k < v.view.shape.shards) × AdoptsShard v k n.pages × OpensClassed n.pages n.queues
-    × FilesRising n.queues
+    × FilesRising n.queues × SortedPages n.pages n.queues × EachOnce n.queues
 AdoptServes k v (Err r) = AdoptRefused k v r.0 r.1
 
 -- the shard is left, or leaving waits for others and the shard is returned
