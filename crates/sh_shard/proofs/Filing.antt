@@ -10,9 +10,9 @@ use Rattle.sh_queue.proofs.PutBack.{has_number-only, without_number-hasnt}
 use Rattle.sh_queue.proofs.ClassQueues.{class_queue-at_back_same, class_queue-at_back_other}
 use Rattle.sh_queue.proofs.PagePlaces.{class_apart}
 use Rattle.sh_shard.specs.Pages.{Paged, page_at, seen_class}
-use Rattle.sh_shard.specs.Shards.{FullPage}
+use Rattle.sh_shard.specs.Shards.{FullPage, ReturnsPage, ReturnsBelow}
 use Rattle.sh_shard.specs.Filing.{ReturnsRising}
-use Rattle.sh_shard.specs.Returning.{ReturnsPage, ReturnedBelow}
+use Rattle.sh_shard.specs.Returning.{ReturnedBelow}
 
 -- a number above all others goes behind them
 pub rises_append : (low k : ℕ) (xs : List ℕ) → RisesFrom low xs → low ≤ k
@@ -80,7 +80,8 @@ returned_more k v q r t b once word why = ⊎_elim
       opened = b.opened;
       classes = λ c. let z = b.classes c in (z.0, z.1, z.2, λ p here. let l = z.3 p here in omega arith);
     }))
-    (λ (h : (has_number k r.full ≡ true) × (t ≡ at_back (seen_class (page_at v k) - 1) k r)).
+    (λ (h : (has_number k r.full ≡ true) × (t ≡ at_back (seen_class (page_at v k) - 1) k r)
+    × (¬ FullPage (page_at v k))).
     subst (ReturnedBelow (k + 1) q) (sym h.1) (went h.0))
     why
   where
@@ -116,3 +117,9 @@ returns_rising k q r b = record {
   opened = b.opened;
   classes = λ c. let z = b.classes c in (z.0, z.1, z.2);
 }
+
+-- one page more was looked at
+pub returns_below_more : (k : ℕ) (v : Paged) (q r t : PageQueues) → ReturnsBelow k v q r → ReturnsPage k v r t
+    → ReturnsBelow (k + 1) v q t
+returns_below_more k v q r t below here =
+    let is : suc k ≡ k + 1 = omega arith in subst (λ (z : ℕ). ReturnsBelow z v q t) is (r, below, here)

@@ -12,8 +12,8 @@ use Rattle.sh_queue.proofs.ClassQueues.{has_number-at_back}
 use Rattle.sh_queue.proofs.PagePlaces.{full_opened}
 use Rattle.sh_pass.specs.Owners.{SeenPage}
 use Rattle.sh_shard.specs.Pages.{Paged, page_at, seen_class, GainsSlot}
-use Rattle.sh_shard.specs.Shards.{SortedPages, FullPage}
-use Rattle.sh_shard.specs.Returning.{SortedBut, ReturnsPage, FiledPages, FilesFirst}
+use Rattle.sh_shard.specs.Shards.{SortedPages, FullPage, ReturnsPage}
+use Rattle.sh_shard.specs.Returning.{SortedBut, FiledPages, FilesFirst}
 use Rattle.sh_shard.proofs.Sorting.{stands_at_back}
 use Rattle.sh_shard.proofs.Filing.{rises_append, below_append, is_behind}
 use Rattle.sh_shard.proofs.ClassWords.{classed_is}
@@ -126,7 +126,8 @@ module _ (v : Paged) (q q' : PageQueues) (p : ℕ) (named named' : ℕ → Type 
       → ReturnsPage p v q q' → SortedBut named' v q'
   but_returned class why = ⊎_elim
       (λ (h : (q' ≡ q) × ((has_number p q.full ≡ false) ⊎ FullPage (page_at v p))). stayed h.0 h.1)
-      (λ (h : (has_number p q.full ≡ true) × (q' ≡ at_back (seen_class (page_at v p) - 1) p q)). went h.0 h.1 (⊎_elim
+      (λ (h : (has_number p q.full ≡ true) × (q' ≡ at_back (seen_class (page_at v p) - 1) p q)
+      × (¬ FullPage (page_at v p))). went h.0 h.1 (⊎_elim
       (λ (k : (page_at v p).class ≡ Some (seen_class (page_at v p))). k)
       (λ (k : has_number p q.full ≡ false). absurd (false≢true (sym k ∙ h.0)))
       class))
@@ -144,8 +145,8 @@ full_classed v q p named s = go (has_number p q.full) refl where
 pub returns_opened : (p : ℕ) (v : Paged) (q q' : PageQueues) → ReturnsPage p v q q' → q'.opened ≡ q.opened
 returns_opened p v q q' k = ⊎_elim
     (λ (h : (q' ≡ q) × ((has_number p q.full ≡ false) ⊎ FullPage (page_at v p))). ap (λ (z : PageQueues). z.opened) h.0)
-    (λ (h : (has_number p q.full ≡ true) × (q' ≡ at_back (seen_class (page_at v p) - 1) p q)). ap
-    (λ (z : PageQueues). z.opened) h.1)
+    (λ (h : (has_number p q.full ≡ true) × (q' ≡ at_back (seen_class (page_at v p) - 1) p q)
+    × (¬ FullPage (page_at v p))). ap (λ (z : PageQueues). z.opened) h.1)
     k
 
 -- ---- the pages of an adopted shard

@@ -1,7 +1,7 @@
 -- A page is given another class, and an insert goes to that page.
 use Rattle.std.proofs.Common.{◌≡◌, ◌≢◌, ℕ, suc, ◌+◌, ◌*◌, ◌<◌, ◌≤◌, ◌⊎◌, inl, inr, ⊎_elim, Bool, true, false}
-use Rattle.std.proofs.Common.{Option, Some, None, MatchOption, IfSome, List, ◌∷◌, length, slice_get, refl, ap, ◌∙◌}
-use Rattle.std.proofs.Common.{sym, subst, arith}
+use Rattle.std.proofs.Common.{Option, Some, None, MatchOption, IfSome, List, [], ◌∷◌, length, slice_get, refl, ap}
+use Rattle.std.proofs.Common.{◌∙◌, sym, subst, arith}
 use Rattle.std.specs.Prelude.{Result, Ok, Err}
 use Rattle.std.proofs.lemmas.Bool.{cases_eq, cases_lt, false≢true}
 use Rattle.sh_value.specs.declared.refusal.Refusal.TheVariants as refusal
@@ -20,13 +20,14 @@ use Rattle.sh_shard.specs.Bounds.{PrepareIsBounded, InsertIsBounded}
 use Rattle.sh_shard.specs.Filing.{OpensFor, ComesInFront}
 use Rattle.sh_shard.specs.Shards.{Sharded, SortedPages, NoneLeft, NoRoom, IsSpare, NeedsSegment}
 use Rattle.sh_shard.specs.Shards.{IsBlank, NoneSpare, NoneOpenedBlank, IsLowest, IsNextFor, PreparesPage}
-use Rattle.sh_shard.specs.Shards.{PrepareServes, InsertServes, IsQuick}
+use Rattle.sh_shard.specs.Shards.{PrepareServes, InsertServes, IsQuick, FoundInQueue, LooksInVain}
 use Rattle.sh_shard.specs.Finding.{StoresAtFront, InsertsElsewhere}
 use Rattle.sh_shard.specs.Searches.{Tried}
 use Rattle.sh_shard.proofs.Works.{through_none}
 use Rattle.sh_shard.proofs.Bounding.{steps_none}
 use Rattle.sh_shard.proofs.Working.{names_before}
 use Rattle.sh_shard.proofs.Storing.{added_since, added_given, stored}
+use Rattle.sh_shard.proofs.Turning.{front_split}
 use Rattle.sh_shard.proofs.Searching.{front_has}
 use Rattle.sh_shard.proofs.ClassDone.{none_left}
 use Rattle.sh_shard.proofs.BlankPages.{some_given, not_whole}
@@ -167,6 +168,18 @@ used_at_front layout c p value o n (Some key) sorted front inside used names sam
   inserts = used;
 }
 
+-- no page is ahead of the front page
+found_at_front : (c p : ℕ) (o n : Sharded) → slice_get (class_queue o.queues c) 0 ≡ Some p → n.queues ≡ o.queues
+    → FoundInQueue c p o n
+found_at_front c p o n front same =
+    let f = front_split p (class_queue o.queues c) front in record {
+      ahead = [];
+      behind = f.0;
+      queue = f.1;
+      vain = λ q here. absurd (false≢true here);
+      queues = same;
+    }
+
 pub served_at_front : (layout : Layout) (c key : ℕ) (value : List ℕ) (o n : Sharded)
     → StoresAtFront layout c key value o n → InsertServes layout c value o (Ok key) n
 served_at_front layout c key value o n s = stored layout c s.page key value o n (record {
@@ -177,6 +190,7 @@ served_at_front layout c key value o n s = stored layout c s.page key value o n 
   through = through_none o.pages;
   inserts = s.inserts;
 }) s.inside (ap (λ (q : PageQueues). q.opened) s.queues) (inl (front_has c s.page o.queues s.front))
+    (inl (found_at_front c s.page o n s.front s.queues))
 
 module _ (layout : Layout) (c : ℕ) (value : List ℕ) where
   pub elsewhere_refused : (o n : Sharded) (r : Refusal) → PrepareServes c o (Err r) n
@@ -240,11 +254,17 @@ module _ (layout : Layout) (c : ℕ) (value : List ℕ) where
             queues = k.queues;
             inserts = k.inserts;
           }));
+          turned = inr (inr (record {
+            looked = n;
+            looks = t.looks;
+            queues = subst (ComesInFront c k.page n.queues) (sym k.queues) k.prepares.queues;
+          }));
         },
       )
   served_after o n m class t sorted once (Err refusal.Full) k = subst (NoRoom c o) (sym k.0)
       (let left = none_left c o n t sorted once in record {
         left = left;
+        looks = t.looks;
         blank = k.1.blank;
         whole = λ p inside whole. ⊎_elim
             (λ (is : whole.class ≡ c). not_whole c p n.pages class
@@ -261,8 +281,8 @@ module _ (layout : Layout) (c : ℕ) (value : List ℕ) where
         suc_is : (d : ℕ) → d ≡ c → suc d ≡ c + 1
         suc_is d is = omega arith
   served_after o n m class t sorted once (Err refusal.Memory) k = subst
-      (λ (z : Sharded). WorksThroughout o.pages z.pages × NoneLeft c o.pages z.pages × NeedsSegment c z) (sym k.0)
-      (t.through, none_left c o n t sorted once, k.1)
+      (λ (z : Sharded). WorksThroughout o.pages z.pages × NoneLeft c o.pages z.pages × NeedsSegment c z
+      × LooksInVain c o z) (sym k.0) (t.through, none_left c o n t sorted once, k.1, t.looks)
   served_after o n m class t sorted once (Err refusal.BadKey) k = absurd k
   served_after o n m class t sorted once (Err refusal.Gone) k = absurd k
   served_after o n m class t sorted once (Err refusal.Crowded) k = absurd k

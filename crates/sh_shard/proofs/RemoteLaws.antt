@@ -11,6 +11,7 @@ use Rattle.sh_shard.specs.Steps.{StepsAtMost}
 use Rattle.sh_shard.specs.Filing.{ReturnsRising}
 use Rattle.sh_shard.specs.Works.{BellDone}
 use Rattle.sh_shard.specs.Leaving.{Collecting}
+use Rattle.sh_shard.specs.Shards.{ReturnsEach}
 use Rattle.sh_shard.specs.RemoteFrees.{PageCollected, CollectsWhole, PagesCollected, CollectServes}
 use Rattle.sh_shard.proofs.Works.{through_works}
 use Rattle.sh_shard.proofs.Working.{works_more}
@@ -118,9 +119,9 @@ pages_collected opened page o n f blank none l most = record {
 
 -- the bell, then the pages, and then the queues
 pub collects_all : (o m n : Paged) (q r : PageQueues) → Collecting o m → BellDone o m → StepsForRings 3 o m
-    → PagesCollected m n → ReturnsRising q r
+    → PagesCollected m n → ReturnsRising q r → ReturnsEach n q r
     → CollectServes (record { pages = o; queues = q }) (record { pages = n; queues = r })
-collects_all o m n q r g b s e z = record {
+collects_all o m n q r g b s e z each = record {
   collects = collecting_more o m n g e.collects;
   bell = subst (λ (x : SeenBell). MatchOption x.cursor (o.bell.takes < x.takes) (λ _. o.bell.met < x.met))
       (sym e.bell) b;
@@ -128,6 +129,7 @@ collects_all o m n q r g b s e z = record {
       (g.through.met p) (g.through.takes p) (e.pages p l);
   opened = z.opened;
   rising = z;
+  returns = each;
   steps = plain_then _ _ _ (o.count + 3) (51 * m.count) (52 * o.count + 3) (rings_most 3 o m s) e.steps
       (let c = g.through.count in omega arith);
 }

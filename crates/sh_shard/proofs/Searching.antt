@@ -18,7 +18,9 @@ use Rattle.sh_pass.specs.Owners.{SeenPage}
 use Rattle.sh_shard.specs.Pages.{Paged, page_at, WorksOn, PageDone}
 use Rattle.sh_shard.specs.Shards.{Sharded, SortedPages}
 use Rattle.sh_shard.specs.Steps.{StepsAtMost}
+use Rattle.sh_shard.specs.Turning.{set_aside, turned_past}
 use Rattle.sh_shard.specs.Searches.{WorkedSince, SetsAside, Stood, Searched, Searching}
+use Rattle.sh_shard.proofs.Turning.{aside_either, turned_last, turned_same, apart_ahead}
 use Rattle.sh_shard.proofs.Works.{through_none, through_more, through_works}
 use Rattle.sh_shard.proofs.Bounding.{steps_none, plain_then}
 use Rattle.sh_shard.proofs.Waits.{waits_since}
@@ -71,7 +73,12 @@ begins c last o once e = record {
   steps = steps_none 0 o.pages.owner;
   opened = refl;
   stood = λ p h. h;
+  apart = class_distinct o.queues once c;
+  tried = [];
   rest = class_queue o.queues c;
+  whole = refl;
+  vain = λ p h. absurd (false≢true h);
+  past = refl;
   waited = [];
   queue = sym (append-nil (class_queue o.queues c));
   ends = e;
@@ -94,7 +101,8 @@ front_has c p q e = has_number-first p (class_queue q c) e
 
 pub settled_opened : (c p : ℕ) (o n : Sharded) → SetsAside c p o n → n.queues.opened ≡ o.queues.opened
 settled_opened c p o n s = ⊎_elim (λ (b : n.queues ≡ at_back c p o.queues). ap (λ (q : PageQueues). q.opened) b)
-    (λ (b : n.queues ≡ among_full p o.queues). ap (λ (q : PageQueues). q.opened) b) s.queues
+    (λ (b : n.queues ≡ among_full p o.queues). ap (λ (q : PageQueues). q.opened) b)
+    (aside_either c p o.pages o.queues n.queues s.queues)
 
 -- every page in the class then was there before
 settled_stood : (c p : ℕ) (n m z : Sharded) → EachOnce n.queues → c < 8 → m.queues ≡ n.queues
@@ -106,7 +114,7 @@ settled_stood c p n m z once l same here st r h = ⊎_elim
     (has_number-at_back c p m.queues c r inside (sym (ap (λ (k : PageQueues). has_number r (class_queue k c)) b) ∙ h)))
     (λ (b : z.queues ≡ among_full p m.queues). before (has_number-among_full c p m.queues c r
     (sym (ap (λ (k : PageQueues). has_number r (class_queue k c)) b) ∙ h)))
-    st.queues
+    (aside_either c p m.pages m.queues z.queues st.queues)
   where
     before : has_number r (class_queue m.queues c) ≡ true → has_number r (class_queue n.queues c) ≡ true
     before t = sym (ap (λ (k : PageQueues). has_number r (class_queue k c)) same) ∙ t
@@ -167,7 +175,30 @@ turned c p turn last o n m z s ys is once l same w d st =
           q';
       done = old;
     } in out)
-    st.queues
+    (aside_either c p m.pages m.queues z.queues st.queues)
+
+-- the pages that were tried, and one more
+vain_more : (c p turn last : ℕ) (o n m z : Sharded) (s : Searching c turn last o n) → WorksOn p n.pages m.pages
+    → PageDone n.pages m.pages p → SetsAside c p m z → (r : ℕ) → has_number r (s.tried ++ p ∷ []) ≡ true
+    → PageDone o.pages z.pages r
+vain_more c p turn last o n m z s w d st r h = subst (λ (k : Paged). PageDone o.pages k r) (sym st.pages) (⊎_elim
+    (λ (t : has_number r s.tried ≡ true). done_kept p o.pages n.pages m.pages r s.since w d (s.vain r t))
+    (λ (t : has_number r (p ∷ []) ≡ true). subst (PageDone o.pages m.pages) (sym (has_number-only r p t))
+    (done_here p o.pages n.pages m.pages s.since d))
+    (or_cases (has_number r s.tried) (has_number r (p ∷ [])) (sym (has_number-append r s.tried (p ∷ [])) ∙ h)))
+
+past_more : (c p turn last : ℕ) (o n m z : Sharded) (s : Searching c turn last o n) (ys : List ℕ) → s.rest ≡ p ∷ ys
+    → m.queues ≡ n.queues → WorksOn p n.pages m.pages → SetsAside c p m z
+    → z.queues ≡ turned_past c z.pages (s.tried ++ p ∷ []) o.queues
+past_more c p turn last o n m z s ys is same w st =
+    let apart : (r : ℕ) → has_number r s.tried ≡ true → r ≢ p = λ r h. apart_ahead p r s.tried ys
+    (subst Distinct (s.whole ∙ ap (λ xs. s.tried ++ xs) is) s.apart) h in
+    let still : (r : ℕ) → has_number r s.tried ≡ true → page_at z.pages r ≡ page_at n.pages r = λ r h.
+    ap (λ (v : Paged). page_at v r) st.pages ∙ w.others r (apart r h) in
+    let before : m.queues ≡ turned_past c z.pages s.tried o.queues = same
+    ∙ (s.past ∙ sym (turned_same c n.pages z.pages s.tried o.queues still)) in
+    st.queues ∙ (ap (λ (v : Paged). set_aside c p v m.queues) (sym st.pages)
+    ∙ (ap (λ (q : PageQueues). set_aside c p z.pages q) before ∙ sym (turned_last c p z.pages s.tried o.queues)))
 
 pub searching_more : (c p turn last : ℕ) (o n m z : Sharded) → Searching c turn last o n
     → slice_get (class_queue n.queues c) 0 ≡ Some p → EachOnce n.queues → c < 8 → m.queues ≡ n.queues
@@ -184,7 +215,12 @@ searching_more c p turn last o n m z s e once l same w d st opened four ne =
           (plain_then _ _ _ (4 * turn) 4 (4 * (turn + 1)) s.steps four (omega arith));
       opened = t.opened;
       stood = t.stood;
+      apart = s.apart;
+      tried = s.tried ++ p ∷ [];
       rest = f.0;
+      whole = s.whole ∙ (ap (λ xs. s.tried ++ xs) f.1 ∙ sym (append_assoc s.tried (p ∷ []) f.0));
+      vain = vain_more c p turn last o n m z s w d st;
+      past = past_more c p turn last o n m z s f.0 f.1 same w st;
       waited = t.waited;
       queue = t.queue;
       ends = i.0;
@@ -207,6 +243,8 @@ ended c p turn last o n m z s e once l same w d st four sorted is =
     let q : class_queue n.queues c ≡ p ∷ (f.0 ++ s.waited) = s.queue ∙ ap (λ xs. xs ++ s.waited) f.1 in
     let none : f.0 ≡ [] = none_behind p f.0 s.waited (subst Distinct q (class_distinct n.queues once c))
     (sym (ap (last_or None) f.1) ∙ (s.ends ∙ ap (λ (k : ℕ). Some k) (sym is))) in
+    let all : class_queue o.queues c ≡ s.tried ++ p ∷ [] = s.whole
+    ∙ ap (λ xs. s.tried ++ xs) (f.1 ∙ ap (λ ys. p ∷ ys) none) in
     record {
       since = t.since;
       steps = subst (λ (v : Paged). StepsAtMost (4 * o.pages.count) o.pages.owner v.owner) (sym st.pages)
@@ -215,6 +253,13 @@ ended c p turn last o n m z s e once l same w d st four sorted is =
           let h = s.since.through.count in omega arith));
       opened = t.opened;
       stood = t.stood;
+      vain = record {
+        through = t.since.through;
+        bell = t.since.bell;
+        vain = λ r h. vain_more c p turn last o n m z s w d st r (sym (ap (has_number r) all) ∙ h);
+        queues = past_more c p turn last o n m z s f.0 f.1 same w st
+            ∙ ap (λ xs. turned_past c z.pages xs o.queues) (sym all);
+      };
       done = λ r h. t.done r (sym (ap (has_number r) (t.queue ∙ ap (λ xs. xs ++ t.waited) none))
           ∙ h);
     }
@@ -239,12 +284,22 @@ none_last : (x : ℕ) (xs : List ℕ) → last_or (Some x) xs ≡ None → ⊥
 none_last x [] e = let z : Some x ≡ None = e in cc
 none_last x (y ∷ ys) e = none_last y ys e
 
+no_queue : (xs : List ℕ) → last_or None xs ≡ None → xs ≡ []
+no_queue [] e = refl
+no_queue (x ∷ xs) e = absurd (none_last x xs e)
+
 pub no_pages : (c : ℕ) (o : Sharded) → last_or None (class_queue o.queues c) ≡ None → Searched c o o
 no_pages c o e = record {
   since = since_none o.pages;
   steps = steps_none (4 * o.pages.count) o.pages.owner;
   opened = refl;
   stood = λ p h. h;
+  vain = record {
+    through = through_none o.pages;
+    bell = refl;
+    vain = λ p h. go (class_queue o.queues c) p e h;
+    queues = sym (ap (λ xs. turned_past c o.pages xs o.queues) (no_queue (class_queue o.queues c) e));
+  };
   done = λ p h. go (class_queue o.queues c) p e h;
 } where
   go : (xs : List ℕ) (p : ℕ) → last_or None xs ≡ None → has_number p xs ≡ true → PageDone o.pages o.pages p

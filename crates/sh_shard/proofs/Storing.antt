@@ -1,22 +1,25 @@
 -- A value was added: what follows for the work before, and the number of steps that led there.
 use Rattle.std.proofs.Common.{◌≡◌, ℕ, suc, ◌+◌, ◌*◌, ◌<◌, ◌≤◌, ◌⊎◌, inl, true, Some, List, [], ◌∷◌, ◌++◌, length}
-use Rattle.std.proofs.Common.{slice_get, ap, ◌∙◌, sym, arith}
+use Rattle.std.proofs.Common.{slice_get, ap, ◌∙◌, sym, subst, arith}
 use Rattle.std.specs.Prelude.{Ok}
+use Rattle.sh_lists.specs.Numbers.{Distinct}
 use Rattle.sh_queue.specs.Numbers.{has_number}
 use Rattle.sh_queue.specs.Queues.{PageQueues, class_queue}
 use Rattle.sh_history.specs.declared.entry.Entry.TheVariants as entry
 use Rattle.sh_history.specs.declared.log.LogEntry.TheVariants.{Known}
 use Rattle.sh_key.specs.Layout.{Layout}
 use Rattle.sh_pass.specs.Owners.{SeenPage}
-use Rattle.sh_shard.specs.Pages.{Paged, PageInserts, GivesClass, NamesSlot}
+use Rattle.sh_shard.specs.Pages.{Paged, page_at, PageInserts, GivesClass, NamesSlot}
 use Rattle.sh_shard.specs.Shards.{Sharded, SortedPages, Added, InsertServes, CameByBell, NextAfterSearch}
+use Rattle.sh_shard.specs.Shards.{FoundInQueue, TurnsTo}
 use Rattle.sh_shard.specs.Steps.{StepsAtMost}
 use Rattle.sh_shard.specs.Works.{WorksThroughout}
 use Rattle.sh_shard.specs.Finding.{StoresIn, StoresInQueue}
 use Rattle.sh_shard.specs.Searches.{Searching}
 use Rattle.sh_shard.proofs.Sides.{aside_then}
 use Rattle.sh_shard.proofs.Working.{names_before}
-use Rattle.sh_shard.proofs.Searching.{front_is}
+use Rattle.sh_shard.proofs.Turning.{turned_same, apart_ahead}
+use Rattle.sh_shard.proofs.Searching.{front_is, front_has, done_still}
 
 pub added_here : (p key : ℕ) (value : List ℕ) (o n : Paged) → PageInserts p value key o n → Added value key o n
 added_here p key value o n i = record { aside = i.aside; put = i.put; log = i.log; shard = i.shard; count = i.count }
@@ -42,19 +45,36 @@ added_given p c q key value o n m g i = record {
   count = i.count ∙ g.count;
 }
 
+-- where the search found page p
+found_ahead : (c p key turn last : ℕ) (value : List ℕ) (o n m : Sharded) (s : Searching c turn last o n)
+    → slice_get (class_queue n.queues c) 0 ≡ Some p → PageInserts p value key n.pages m.pages → m.queues ≡ n.queues
+    → FoundInQueue c p o m
+found_ahead c p key turn last value o n m s front i same =
+    let f = front_is c p turn last o n s front in
+    let all : class_queue o.queues c ≡ s.tried ++ p ∷ f.0 = s.whole ∙ ap (λ xs. s.tried ++ xs) f.1 in
+    let still : (r : ℕ) → has_number r s.tried ≡ true → page_at m.pages r ≡ page_at n.pages r = λ r h. i.others r
+    (apart_ahead p r s.tried f.0 (subst Distinct all s.apart) h) in record {
+      ahead = s.tried;
+      behind = f.0;
+      queue = all;
+      vain = λ r h. done_still o.pages n.pages m.pages r (still r h) (s.vain r h);
+      queues = same ∙ (s.past ∙ sym (turned_same c n.pages m.pages s.tried o.queues still));
+    }
+
 -- a search found page p of the class, where the value is now
 pub found : (layout : Layout) (c p key turn last : ℕ) (value : List ℕ) (o n m : Sharded) → Searching c turn last o n
-    → SortedPages n.pages n.queues → has_number p (class_queue n.queues c) ≡ true → p < n.queues.opened
+    → SortedPages n.pages n.queues → slice_get (class_queue n.queues c) 0 ≡ Some p → p < n.queues.opened
     → NamesSlot layout p key n.pages → PageInserts p value key n.pages m.pages → m.queues ≡ n.queues
     → StoresInQueue layout c key value o m
-found layout c p key turn last value o n m s sorted here inside names i same = record {
+found layout c p key turn last value o n m s sorted front inside names i same = record {
   page = p;
-  here = s.stood p here;
+  here = s.stood p (front_has c p n.queues front);
   inside = let e = s.opened in omega arith;
   opened = ap (λ (k : PageQueues). k.opened) same ∙ s.opened;
+  finds = found_ahead c p key turn last value o n m s front i same;
   stores = record {
     inside = let a = sorted.all in let e = s.since.through.count in omega arith;
-    class = sym (s.since.through.classes p) ∙ sorted.classes c p here;
+    class = sym (s.since.through.classes p) ∙ sorted.classes c p (front_has c p n.queues front);
     names = names_before layout p key o.pages n.pages s.since.through.aside s.since.through.shard names;
     tried = n.pages;
     through = s.since.through;
@@ -82,8 +102,8 @@ pub stored : (layout : Layout) (c p key : ℕ) (value : List ℕ) (o n : Sharded
     → StoresIn layout c p key value o.pages n.pages → p < o.queues.opened → n.queues.opened ≡ o.queues.opened
     → (has_number p (class_queue o.queues c) ≡ true)
     ⊎ (CameByBell c p key value o.pages n.pages ⊎ NextAfterSearch c p key value o n)
-    → InsertServes layout c value o (Ok key) n
-stored layout c p key value o n s inside same gained = (
+    → TurnsTo c p o n → InsertServes layout c value o (Ok key) n
+stored layout c p key value o n s inside same gained turned = (
   added_since key value o.pages s.tried n.pages s.through (added_here p key value s.tried n.pages s.inserts),
   s.names.shard,
   record {
@@ -94,5 +114,6 @@ stored layout c p key value o n s inside same gained = (
     others = λ q ne. ap (λ (g : SeenPage). g.class) (s.inserts.others q ne) ∙ s.through.classes q;
     opened = inl (inside, same);
     gained = gained;
+    turned = turned;
   },
 )

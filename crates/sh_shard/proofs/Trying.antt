@@ -1,7 +1,7 @@
 -- The search, the bell, and the search again.
 use Rattle.std.proofs.Common.{◌≡◌, ℕ, ◌+◌, ◌*◌, ◌<◌, ◌≤◌, ◌||◌, inl, inr, ⊎_elim, Bool, true, false, Option, Some, None}
-use Rattle.std.proofs.Common.{MatchOption, IfSome, List, refl, ap, ◌∙◌, sym, subst, arith}
-use Rattle.std.specs.Prelude.{Ok}
+use Rattle.std.proofs.Common.{MatchOption, IfSome, List, ◌++◌, refl, ap, ◌∙◌, sym, subst, arith}
+use Rattle.std.specs.Prelude.{Ok, MatchBool}
 use Rattle.sh_key.specs.Layout.{Layout}
 use Rattle.sh_queue.specs.Numbers.{has_number}
 use Rattle.sh_queue.specs.Queues.{PageQueues, EachOnce, class_queue}
@@ -9,12 +9,14 @@ use Rattle.sh_pass.specs.Owners.{SeenPage, SeenBell}
 use Rattle.sh_shard.specs.Steps.{StepsAtMost}
 use Rattle.sh_shard.specs.Bounds.{InsertIsBounded}
 use Rattle.sh_shard.specs.Pages.{Paged, page_at, PageDone, BellTakes, StepsForRings}
-use Rattle.sh_shard.specs.Shards.{Sharded, SortedPages, InsertServes}
+use Rattle.sh_shard.specs.Turning.{come_back_each, any_of_class}
+use Rattle.sh_shard.specs.Shards.{Sharded, SortedPages, InsertServes, SearchedInVain}
 use Rattle.sh_shard.specs.Works.{WorksThroughout, BellDone, ReadFromBell}
 use Rattle.sh_shard.specs.Finding.{StoresIn, StoresInQueue}
 use Rattle.sh_shard.specs.Searches.{Searched, Hears, BellWaits, RingsOut, Tried}
 use Rattle.sh_shard.proofs.Works.{through_more, through_takes, read_more, read_later}
 use Rattle.sh_shard.proofs.Bounding.{rings_then, rings_most}
+use Rattle.sh_shard.proofs.BellOrder.{each_same, any_same, each_append, any_append, alone_takes, reads_then, reads_both}
 use Rattle.sh_shard.proofs.Hearing.{through_hears}
 use Rattle.sh_shard.proofs.Working.{names_before}
 use Rattle.sh_shard.proofs.Waits.{waits_since}
@@ -29,6 +31,9 @@ rings_first c read o n h t w some = record {
   steps = omega arith;
   through = through_hears c read o n h;
   opened = h.opened;
+  rung = h.rung;
+  rings = h.rings;
+  heard = h.heard;
   gained = h.gained;
   bell = go n.pages.bell.cursor w some;
   pages = h.pages;
@@ -53,6 +58,16 @@ rings_both c a b read o n m z is h x t same k y w = record {
   through = through_more o.pages n.pages z.pages (through_hears c a o n h)
       (through_more n.pages m.pages z.pages (through_takes n.pages m.pages t) (through_hears c b m z k));
   opened = k.opened ∙ (ap (λ (x : PageQueues). x.opened) same ∙ h.opened);
+  rung = h.rung ++ k.rung;
+  rings = record {
+    reads = reads_both h.rung k.rung o.pages m.pages z.pages
+        (reads_then h.rung o.pages n.pages m.pages h.rings.reads (alone_takes n.pages m.pages t)) k.rings.reads;
+    queues = k.rings.queues ∙ (ap (λ (q : PageQueues). come_back_each z.pages k.rung q)
+        (same ∙ (h.rings.queues ∙ sym (each_same n.pages z.pages class h.rung o.queues)))
+        ∙ sym (each_append z.pages h.rung k.rung o.queues));
+  };
+  heard = is ∙ (ap (λ x. x || b) (h.heard ∙ sym (any_same n.pages z.pages class c h.rung))
+      ∙ (ap (λ x. any_of_class c z.pages h.rung || x) k.heard ∙ sym (any_append c z.pages h.rung k.rung)));
   gained = λ p e. ⊎_elim
       (λ (r : has_number p (class_queue m.queues c) ≡ true). ⊎_elim
       (λ (f : has_number p (class_queue o.queues c) ≡ true). inl f)
@@ -68,6 +83,9 @@ rings_both c a b read o n m z is h x t same k y w = record {
   queue = λ r q e. let f = either_none a b (sym is ∙ r) in h.queue f.0 q
       (ap (λ x. has_number q (class_queue x c)) (sym same) ∙ k.queue f.1 q e);
 } where
+  class : (r : ℕ) → (page_at z.pages r).class ≡ (page_at n.pages r).class
+  class r = k.classes r ∙ ap (λ (g : SeenPage). g.class) (t.pages r)
+
   go : (x : Option ℕ) → MatchOption x (Unit {0}) (λ _. m.pages.bell.met < z.pages.bell.met)
       → MatchOption x (o.pages.bell.takes < z.pages.bell.takes) (λ _. o.pages.bell.met < z.pages.bell.met)
   go None w = omega (arith, h.takes, t.takes, k.takes)
@@ -99,20 +117,36 @@ tried_once c o n m s k r = record {
       s.since.through.count;
   through = through_more o.pages n.pages m.pages s.since.through r.through;
   opened = r.opened ∙ s.opened;
+  looks = record {
+    searched = n;
+    first = s.vain;
+    rung = r.rung;
+    heard = m;
+    rings = r.rings;
+    again = subst (λ (b : Bool). MatchBool b (SearchedInVain c m m) (m ≡ m)) r.heard refl;
+  };
   bell = bell_since o.pages n.pages m.pages s.since.through r.bell;
   done = λ p h. let there = r.queue refl p h in done_still o.pages n.pages m.pages p
       (r.pages refl p (k.classes c p there)) (s.done p there);
 }
 
 -- a page of the class was read: the second search decides
-pub tried_twice : (c : ℕ) (read : Bool) (o n m z : Sharded) → Searched c o n → RingsOut c read n m → Searched c m z
-    → Tried c o z
-tried_twice c read o n m z s r t =
+pub tried_twice : (c : ℕ) (read : Bool) (o n m z : Sharded) → read ≡ true → Searched c o n → RingsOut c read n m
+    → Searched c m z → Tried c o z
+tried_twice c read o n m z did s r t =
     let before = through_more o.pages n.pages m.pages s.since.through r.through in record {
       steps = tried_in_two _ _ _ _ o.pages.count n.pages.count m.pages.count s.steps
           (rings_most 3 n.pages m.pages r.steps) t.steps s.since.through.count r.through.count;
       through = through_more o.pages m.pages z.pages before t.since.through;
       opened = t.opened ∙ (r.opened ∙ s.opened);
+      looks = record {
+        searched = n;
+        first = s.vain;
+        rung = r.rung;
+        heard = m;
+        rings = r.rings;
+        again = subst (λ (b : Bool). MatchBool b (SearchedInVain c m z) (z ≡ m)) (sym did ∙ r.heard) t.vain;
+      };
       bell = let d : BellDone o.pages m.pages = bell_since o.pages n.pages m.pages
           s.since.through r.bell in
           let P : SeenBell → Type 0 = λ b. MatchOption b.cursor (o.pages.bell.takes < b.takes)
@@ -124,13 +158,13 @@ tried_twice c read o n m z s r t =
 pub looked_once : (layout : Layout) (c key : ℕ) (value : List ℕ) (o n : Sharded)
     → StoresInQueue layout c key value o n → InsertServes layout c value o (Ok key) n
 looked_once layout c key value o n s = stored layout c s.page key value o n s.stores s.inside s.opened
-    (inl s.here)
+    (inl s.here) (inl s.finds)
 
 -- the second search found a page, which was in the queue or was read from the bell
-found_again : (layout : Layout) (c key : ℕ) (value : List ℕ) (read : Bool) (o n m z : Sharded) → Searched c o n
-    → SortedPages n.pages n.queues → EachOnce n.queues → RingsOut c read n m → StoresInQueue layout c key value m z
-    → InsertServes layout c value o (Ok key) z
-found_again layout c key value read o n m z s sorted once r t =
+found_again : (layout : Layout) (c key : ℕ) (value : List ℕ) (read : Bool) (o n m z : Sharded) → read ≡ true
+    → Searched c o n → SortedPages n.pages n.queues → EachOnce n.queues → RingsOut c read n m
+    → StoresInQueue layout c key value m z → InsertServes layout c value o (Ok key) z
+found_again layout c key value read o n m z did s sorted once r t =
     let before : WorksThroughout o.pages m.pages = through_more o.pages n.pages m.pages s.since.through r.through in
     let class : (page_at o.pages t.page).class ≡ Some (c + 1) = sym (before.classes t.page) ∙ t.stores.class in
     let stores : StoresIn layout c t.page key value o.pages z.pages = record {
@@ -157,14 +191,23 @@ found_again layout c key value read o n m z s sorted once r t =
       inserts = t.stores.inserts;
     })))
     (r.gained t.page t.here))
+    (inr (inl (record {
+      searched = n;
+      first = s.vain;
+      rung = r.rung;
+      heard = m;
+      rings = r.rings;
+      some = sym r.heard ∙ did;
+      finds = t.finds;
+    })))
 
 pub looked_again : (layout : Layout) (c : ℕ) (value : List ℕ) (read : Bool) (o n m z : Sharded) (r : Option ℕ)
-    → Searched c o n → SortedPages n.pages n.queues → EachOnce n.queues → RingsOut c read n m
+    → read ≡ true → Searched c o n → SortedPages n.pages n.queues → EachOnce n.queues → RingsOut c read n m
     → MatchOption r (Searched c m z) (λ key. StoresInQueue layout c key value m z)
     → MatchOption r (Tried c o z) (λ key. InsertServes layout c value o (Ok key) z)
-looked_again layout c value read o n m z None s sorted once k t = tried_twice c read o n m z s k t
-looked_again layout c value read o n m z (Some key) s sorted once k t = found_again layout c key value read o n m z s
-    sorted once k t
+looked_again layout c value read o n m z None did s sorted once k t = tried_twice c read o n m z did s k t
+looked_again layout c value read o n m z (Some key) did s sorted once k t = found_again layout c key value read o n m z
+    did s sorted once k t
 
 -- the number of steps
 found_in_two : (a b c d k l j w : ℕ) → b ≤ a + 4 * k → c ≤ b + (l + 3) → d ≤ c + (4 * j + w + 50) → l ≡ k → j ≡ l

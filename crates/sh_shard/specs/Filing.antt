@@ -8,8 +8,8 @@ use Rattle.sh_shard.specs.Pages.{Paged, page_at}
 abbrev pub OpensFor : ℕ → PageQueues → PageQueues → Type 0
 OpensFor p q r = ((p < q.opened) × (r.opened ≡ q.opened)) ⊎ ((p ≡ q.opened) × (r.opened ≡ q.opened + 8))
 
--- page p, taken from where it was, is in front of class c, and no other page moved; if it was not opened, its segment was
--- opened first
+-- page p, taken from where it was, is in front of class c, and no other page moved; if it was not opened, its segment
+-- was opened first
 abbrev pub ComesInFront : (c p : ℕ) → PageQueues → PageQueues → Type 0
 ComesInFront c p q r = ((p < q.opened) × (r ≡ at_front c p q))
     ⊎ ((p ≡ q.opened) × (r ≡ at_front c p (one_more_segment q)))

@@ -8,7 +8,7 @@ use Rattle.sh_value.specs.declared.refusal.Refusal.TheVariants as refusal
 use Rattle.sh_shard.specs.Steps.{StepsAtMost}
 use Rattle.sh_shard.specs.Pages.{Paged, page_at, NamesSlot, PageInserts, TakesSteps}
 use Rattle.sh_shard.specs.Works.{WorksThroughout}
-use Rattle.sh_shard.specs.Shards.{Sharded, PreparesPage, NoPageFor, NeedsSegment}
+use Rattle.sh_shard.specs.Shards.{Sharded, FoundInQueue, PreparesPage, NoPageFor, NeedsSegment}
 
 -- the value is in page p of class c, after work on the pages of the shard
 pub record StoresIn (layout : Layout) (c p key : ℕ) (value : List ℕ) (o n : Paged) : Type 0 where
@@ -37,6 +37,7 @@ pub record StoresInQueue (layout : Layout) (c key : ℕ) (value : List ℕ) (o n
   pub here : has_number page (class_queue o.queues c) ≡ true
   pub inside : page < o.queues.opened
   pub opened : n.queues.opened ≡ o.queues.opened
+  pub finds : FoundInQueue c page o n
   pub stores : StoresIn layout c page key value o.pages n.pages
 
 -- the value is in the next page for the class, which was given that class

@@ -1,5 +1,6 @@
 pub mod Steps
 pub mod Pages
+pub mod Turning
 pub mod Places
 pub mod Kept
 pub mod Works

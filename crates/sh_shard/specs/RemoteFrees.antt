@@ -6,7 +6,7 @@ use Rattle.sh_shard.specs.Steps.{StepsAtMost}
 use Rattle.sh_shard.specs.Works.{BellDone}
 use Rattle.sh_shard.specs.Leaving.{Collecting}
 use Rattle.sh_shard.specs.Filing.{ReturnsRising}
-use Rattle.sh_shard.specs.Shards.{Sharded}
+use Rattle.sh_shard.specs.Shards.{Sharded, ReturnsEach}
 
 -- Nothing that was put and tied before is left on the page's stack. The stack was taken in this work and followed to
 -- its end, or a link was not written in this work. A page without a class has nothing.
@@ -33,11 +33,12 @@ abbrev pub collect_steps : ℕ → ℕ
 collect_steps n = 52 * n + 3
 
 -- The bell and each page were collected: the log is as it was, nothing was put or armed, and no page changed its class.
--- Pages came back from the full queue to their classes, in ascending order, and nothing else moved there.
+-- The pages of the full queue that are no longer full came back to their classes, in ascending order, and no others.
 pub record CollectServes (o n : Sharded) : Type 0 where
   pub collects : Collecting o.pages n.pages
   pub bell : BellDone o.pages n.pages
   pub pages : (p : ℕ) → p < n.pages.count → PageCollected (page_at o.pages p) (page_at n.pages p)
   pub opened : n.queues.opened ≡ o.queues.opened
   pub rising : ReturnsRising o.queues n.queues
+  pub returns : ReturnsEach n.pages o.queues n.queues
   pub steps : StepsAtMost (collect_steps o.pages.count) o.pages.owner n.pages.owner

@@ -1,10 +1,10 @@
 -- How pages come back from the full queue, and how the pages of an adopted shard are put into their queues.
-use Rattle.std.specs.Prelude.{◌≡◌, ◌≢◌, ℕ, ◌+◌, ◌-◌, ◌*◌, ◌<◌, ◌≤◌, ◌⊎◌, true, false, List, [], ◌++◌, length, Some}
+use Rattle.std.specs.Prelude.{◌≡◌, ◌≢◌, ℕ, ◌+◌, ◌*◌, ◌<◌, ◌≤◌, ◌⊎◌, true, List, [], ◌++◌, length, Option, Some, None}
 use Rattle.sh_queue.specs.Numbers.{has_number, RisesFrom}
-use Rattle.sh_queue.specs.Queues.{PageQueues, FilingQueues, class_queue, at_back}
+use Rattle.sh_queue.specs.Queues.{PageQueues, FilingQueues, class_queue}
 use Rattle.sh_shard.specs.Pages.{Paged, page_at, seen_class}
 use Rattle.sh_shard.specs.Filing.{FilesRising}
-use Rattle.sh_shard.specs.Shards.{FullPage}
+use Rattle.sh_shard.specs.Shards.{FullPage, ReturnsPage}
 
 -- each page is in the queue where it belongs, except that a named page in the full queue may have a slot or a cursor,
 -- or not be armed
@@ -16,10 +16,10 @@ pub record SortedBut (named : ℕ → Type 0) (v : Paged) (q : PageQueues) : Typ
   pub word : (p : ℕ) → has_number p q.full ≡ true → (0 < seen_class (page_at v p)) × (seen_class (page_at v p) ≤ 8)
   pub blank : (p : ℕ) → has_number p q.blank ≡ true → (page_at v p).class ≡ Some 0
 
--- if page p was in the full queue and is not a full page, it went to the back of its class
-abbrev pub ReturnsPage : ℕ → Paged → PageQueues → PageQueues → Type 0
-ReturnsPage p v q q' = ((q' ≡ q) × ((has_number p q.full ≡ false) ⊎ FullPage (page_at v p)))
-    ⊎ ((has_number p q.full ≡ true) × (q' ≡ at_back (seen_class (page_at v p) - 1) p q))
+-- the page that gained a slot, if there is one, comes back if it was in the full queue and is not a full page
+abbrev pub ReturnsGained : Option ℕ → Paged → PageQueues → PageQueues → Type 0
+ReturnsGained None v q q' = q' ≡ q
+ReturnsGained (Some p) v q q' = ReturnsPage p v q q'
 
 -- the pages that are filed so far are blank or in the queues of their classes, in ascending order; none is full
 pub record FiledPages (v : Paged) (q : PageQueues) : Type 0 where

@@ -3,12 +3,14 @@ use Rattle.std.specs.Prelude.{◌≡◌, ℕ, ◌+◌, ◌-◌, ◌*◌, ◌<◌
 use Rattle.std.specs.Prelude.{MatchOption}
 use Rattle.std.specs.List.{last_or}
 use Rattle.sh_queue.specs.Numbers.{has_number}
-use Rattle.sh_queue.specs.Queues.{class_queue, at_back, among_full}
+use Rattle.sh_lists.specs.Numbers.{Distinct}
+use Rattle.sh_queue.specs.Queues.{class_queue, at_back}
 use Rattle.sh_pass.specs.Owners.{Aside, NonePut}
 use Rattle.sh_shard.specs.Steps.{StepsAtMost}
 use Rattle.sh_shard.specs.Pages.{Paged, page_at, PageDone, BellReads, StepsForRings}
 use Rattle.sh_shard.specs.Works.{WorksThroughout, BellDone, ReadFromBell}
-use Rattle.sh_shard.specs.Shards.{Sharded}
+use Rattle.sh_shard.specs.Turning.{set_aside, turned_past, come_back, any_of_class}
+use Rattle.sh_shard.specs.Shards.{Sharded, SearchedInVain, HeardInTurn, LooksInVain}
 
 -- work on pages alone: the bell is as it was
 pub record WorkedSince (o n : Paged) : Type 0 where
@@ -18,7 +20,7 @@ pub record WorkedSince (o n : Paged) : Type 0 where
 -- a page was tried in vain, and went to the back or to the full queue
 pub record SetsAside (c p : ℕ) (o n : Sharded) : Type 0 where
   pub pages : n.pages ≡ o.pages
-  pub queues : (n.queues ≡ at_back c p o.queues) ⊎ (n.queues ≡ among_full p o.queues)
+  pub queues : n.queues ≡ set_aside c p o.pages o.queues
 
 -- every page in the queue of class c was there before
 abbrev pub Stood : ℕ → Sharded → Sharded → Type 0
@@ -29,16 +31,22 @@ pub record Searched (c : ℕ) (o n : Sharded) : Type 0 where
   pub since : WorkedSince o.pages n.pages
   pub opened : n.queues.opened ≡ o.queues.opened
   pub stood : Stood c o n
+  pub vain : SearchedInVain c o n
   pub done : (p : ℕ) → has_number p (class_queue n.queues c) ≡ true → PageDone o.pages n.pages p
   pub steps : StepsAtMost (4 * o.pages.count) o.pages.owner n.pages.owner
 
--- After this number of turns, `rest` is yet to be tried, and ends in the page that was last when the search began. The
--- pages that were tried wait behind it.
+-- After this number of turns, the pages of `tried` were tried in vain, in this order. `rest` is yet to be tried, and
+-- ends in the page that was last when the search began. The pages that were tried and wait are behind it.
 pub record Searching (c turn last : ℕ) (o n : Sharded) : Type 0 where
   pub since : WorkedSince o.pages n.pages
   pub opened : n.queues.opened ≡ o.queues.opened
   pub stood : Stood c o n
+  pub apart : Distinct (class_queue o.queues c)
+  pub tried : List ℕ
   pub rest : List ℕ
+  pub whole : class_queue o.queues c ≡ tried ++ rest
+  pub vain : (p : ℕ) → has_number p tried ≡ true → PageDone o.pages n.pages p
+  pub past : n.queues ≡ turned_past c n.pages tried o.queues
   pub waited : List ℕ
   pub queue : class_queue n.queues c ≡ rest ++ waited
   pub ends : last_or None rest ≡ Some last
@@ -55,6 +63,9 @@ StoodOrRead c o n = (p : ℕ) → has_number p (class_queue n.queues c) ≡ true
 pub record RingsOut (c : ℕ) (read : Bool) (o n : Sharded) : Type 0 where
   pub through : WorksThroughout o.pages n.pages
   pub opened : n.queues.opened ≡ o.queues.opened
+  pub rung : List ℕ
+  pub rings : HeardInTurn rung o n
+  pub heard : read ≡ any_of_class c n.pages rung
   pub gained : StoodOrRead c o n
   pub bell : BellDone o.pages n.pages
   pub pages : read ≡ false → (q : ℕ) → (page_at o.pages q).class ≡ Some (c + 1) → page_at n.pages q ≡ page_at o.pages q
@@ -66,6 +77,7 @@ pub record RingsOut (c : ℕ) (read : Bool) (o n : Sharded) : Type 0 where
 pub record Tried (c : ℕ) (o n : Sharded) : Type 0 where
   pub through : WorksThroughout o.pages n.pages
   pub opened : n.queues.opened ≡ o.queues.opened
+  pub looks : LooksInVain c o n
   pub bell : BellDone o.pages n.pages
   pub done : (p : ℕ) → has_number p (class_queue n.queues c) ≡ true → PageDone o.pages n.pages p
   pub steps : StepsAtMost (9 * o.pages.count + 3) o.pages.owner n.pages.owner
@@ -76,10 +88,14 @@ pub record Heard (word : ℕ) (o n : Sharded) : Type 0 where
   pub reads : BellReads page o.pages n.pages
   pub class : (page_at n.pages page).class ≡ Some word
   pub queues : (n.queues ≡ o.queues) ⊎ (n.queues ≡ at_back (word - 1) page o.queues) × (0 < word) × (word ≤ 8)
+  pub back : n.queues ≡ come_back page n.pages o.queues
 
 -- pages were read from the bell; none of them is of class c, unless `read`
 pub record Hears (c : ℕ) (read : Bool) (o n : Sharded) : Type 0 where
   pub opened : n.queues.opened ≡ o.queues.opened
+  pub rung : List ℕ
+  pub rings : HeardInTurn rung o n
+  pub heard : read ≡ any_of_class c n.pages rung
   pub gained : StoodOrRead c o n
   pub aside : Aside o.pages.owner n.pages.owner
   pub put : NonePut o.pages.owner n.pages.owner

@@ -1,11 +1,12 @@
 -- What a contract sees of an owner's shard, and what its calls do.
-use Rattle.std.specs.Prelude.{◌≡◌, ◌≢◌, ℕ, ◌+◌, ◌*◌, ◌<◌, ◌≤◌, ◌⊎◌, true, List, [], ◌∷◌, ◌++◌, length, None}
-use Rattle.std.specs.Prelude.{Some, Result, Ok, Err, slice_get}
+use Rattle.std.specs.Prelude.{◌≡◌, ◌≢◌, ℕ, zero, suc, ◌+◌, ◌-◌, ◌*◌, ◌<◌, ◌≤◌, ◌⊎◌, true, false, List, [], ◌∷◌}
+use Rattle.std.specs.Prelude.{◌++◌, length, None}
+use Rattle.std.specs.Prelude.{Some, Option, Result, Ok, Err, slice_get, MatchBool}
 use Rattle.sh_history.specs.declared.entry.Entry.TheVariants as entry
 use Rattle.sh_history.specs.declared.log.LogEntry.TheVariants.{Known}
 use Rattle.sh_key.specs.Layout.{Layout}
 use Rattle.sh_queue.specs.Numbers.{has_number}
-use Rattle.sh_queue.specs.Queues.{PageQueues, class_queue}
+use Rattle.sh_queue.specs.Queues.{PageQueues, EachOnce, class_queue, at_back}
 use Rattle.sh_value.specs.declared.refusal.Refusal.{Refusal}
 use Rattle.sh_value.specs.declared.refusal.Refusal.TheVariants as refusal
 use Rattle.sh_shape.specs.Classes.{class_of}
@@ -17,8 +18,9 @@ use Rattle.sh_pass.specs.Growing.{SameTale}
 use Rattle.sh_pass.specs.Remaining.{Remains}
 use Rattle.sh_pass.specs.Owners.{SeenPage, Aside, NonePut, IsKeyIn, IsKeyOn, heap_page, own_body, seen_bell}
 use Rattle.sh_shard.specs.Pages.{Paged, shard_page, page_at, seen_class, NothingMine, WhollyMine, GivesClass, PageDone}
-use Rattle.sh_shard.specs.Pages.{PageInserts, TakesSteps, AdoptsShard, AdoptRefused, ShardLeft}
-use Rattle.sh_shard.specs.Works.{WorksThroughout, BellDone, ClassDone, ReadFromBell}
+use Rattle.sh_shard.specs.Pages.{PageInserts, TakesSteps, GainsSlot, AdoptsShard, AdoptRefused, ShardLeft}
+use Rattle.sh_shard.specs.Turning.{turned_past, come_back_each, any_of_class, gained_back}
+use Rattle.sh_shard.specs.Works.{WorksThroughout, BellDone, ClassDone, ReadFromBell, ReadInTurn}
 use Rattle.sh_shard.specs.Leaving.{Waiting}
 use Rattle.sh_shard.specs.Filing.{OpensFor, ComesInFront, OpensClassed, FilesRising, ReturnsRising}
 
@@ -43,6 +45,22 @@ pub record SortedPages (v : Paged) (q : PageQueues) : Type 0 where
   pub classes : (c p : ℕ) → has_number p (class_queue q c) ≡ true → (page_at v p).class ≡ Some (c + 1)
   pub full : (p : ℕ) → has_number p q.full ≡ true → FullPage (page_at v p)
   pub blank : (p : ℕ) → has_number p q.blank ≡ true → (page_at v p).class ≡ Some 0
+
+-- page p goes to the back of its class exactly if it was in the full queue and is not a full page
+abbrev pub ReturnsPage : ℕ → Paged → PageQueues → PageQueues → Type 0
+ReturnsPage p v q r = ((r ≡ q) × ((has_number p q.full ≡ false) ⊎ FullPage (page_at v p)))
+    ⊎ ((has_number p q.full ≡ true) × (r ≡ at_back (seen_class (page_at v p) - 1) p q) × (¬ FullPage (page_at v p)))
+
+-- so do the pages below k, in ascending order
+abbrev pub ReturnsBelow : ℕ → Paged → PageQueues → PageQueues → Type 0
+ReturnsBelow zero v q r = r ≡ q
+ReturnsBelow (suc k) v q r = (s : PageQueues) × ReturnsBelow k v q s × ReturnsPage k v s r
+
+-- and so do all opened pages
+pub record ReturnsEach (v : Paged) (q r : PageQueues) : Type 0 where
+  pub below : ℕ
+  pub all : q.opened ≤ below
+  pub each : ReturnsBelow below v q r
 
 -- Nothing is begun, the shard is the owner's, and all that it knows is true in the heap's shape. The bell is that of
 -- its shard as the owner sees it.
@@ -127,14 +145,6 @@ PrepareServes c o (Err refusal.Full) n = (n ≡ o) × NoPageFor c o
 PrepareServes c o (Err refusal.Memory) n = (n ≡ o) × NeedsSegment c o
 PrepareServes c o (Err _) n = ⊥
 
--- The shard has no room for class c: each page of the class is done, and no page is blank. No page has all its slots
--- with its owner, and every segment is opened.
-pub record NoRoom (c : ℕ) (o n : Sharded) : Type 0 where
-  pub left : NoneLeft c o.pages n.pages
-  pub blank : (p : ℕ) → p < n.pages.count → (page_at n.pages p).class ≢ Some 0
-  pub whole : (p : ℕ) → p < n.pages.count → ¬ WhollyMine (page_at n.pages p)
-  pub unopened : n.queues.unopened ≡ 0
-
 -- the value was added to the log under this key; nothing was put
 pub record Added (value : List ℕ) (key : ℕ) (o n : Paged) : Type 0 where
   pub aside : Aside o.owner n.owner
@@ -142,6 +152,68 @@ pub record Added (value : List ℕ) (key : ℕ) (o n : Paged) : Type 0 where
   pub log : n.owner.view.own.log ≡ o.owner.view.own.log ++ Known (entry.Insert o.owner.view.pass key value) ∷ []
   pub shard : n.shard ≡ o.shard
   pub count : n.count ≡ o.count
+
+-- nothing was left in any page in the queue of class c; they were tried in their order, and the queues are turned past
+-- them
+pub record SearchedInVain (c : ℕ) (o n : Sharded) : Type 0 where
+  pub through : WorksThroughout o.pages n.pages
+  pub bell : n.pages.bell ≡ o.pages.bell
+  pub vain : (p : ℕ) → has_number p (class_queue o.queues c) ≡ true → PageDone o.pages n.pages p
+  pub queues : n.queues ≡ turned_past c n.pages (class_queue o.queues c) o.queues
+
+-- page p was found in the queue of class c; nothing was left in the pages ahead of it, which were tried in their order,
+-- and the queues are turned past them
+pub record FoundInQueue (c p : ℕ) (o n : Sharded) : Type 0 where
+  pub ahead : List ℕ
+  pub behind : List ℕ
+  pub queue : class_queue o.queues c ≡ ahead ++ p ∷ behind
+  pub vain : (q : ℕ) → has_number q ahead ≡ true → PageDone o.pages n.pages q
+  pub queues : n.queues ≡ turned_past c n.pages ahead o.queues
+
+-- these pages were read from the bell, in this order, and each that was in the full queue came back to its class
+pub record HeardInTurn (rung : List ℕ) (o n : Sharded) : Type 0 where
+  pub reads : ReadInTurn rung o.pages n.pages
+  pub queues : n.queues ≡ come_back_each n.pages rung o.queues
+
+-- the queue of class c was searched in vain; then the bell was read; if a page of the class was among those read, the
+-- queue was searched in vain once more
+pub record LooksInVain (c : ℕ) (o n : Sharded) : Type 0 where
+  pub searched : Sharded
+  pub first : SearchedInVain c o searched
+  pub rung : List ℕ
+  pub heard : Sharded
+  pub rings : HeardInTurn rung searched heard
+  pub again : MatchBool (any_of_class c heard.pages rung) (SearchedInVain c heard n) (n ≡ heard)
+
+-- the queue of class c was searched in vain; then the bell was read, and a page of the class was among those read; then
+-- page p was found in the queue
+pub record FoundAfterBell (c p : ℕ) (o n : Sharded) : Type 0 where
+  pub searched : Sharded
+  pub first : SearchedInVain c o searched
+  pub rung : List ℕ
+  pub heard : Sharded
+  pub rings : HeardInTurn rung searched heard
+  pub some : any_of_class c heard.pages rung ≡ true
+  pub finds : FoundInQueue c p heard n
+
+-- the queues and the bell were looked at in vain, and then page p came in front of class c
+pub record FoundNext (c p : ℕ) (o n : Sharded) : Type 0 where
+  pub looked : Sharded
+  pub looks : LooksInVain c o looked
+  pub queues : ComesInFront c p looked.queues n.queues
+
+-- The shard has no room for class c: each page of the class is done, and no page is blank. No page has all its slots
+-- with its owner, and every segment is opened.
+pub record NoRoom (c : ℕ) (o n : Sharded) : Type 0 where
+  pub left : NoneLeft c o.pages n.pages
+  pub looks : LooksInVain c o n
+  pub blank : (p : ℕ) → p < n.pages.count → (page_at n.pages p).class ≢ Some 0
+  pub whole : (p : ℕ) → p < n.pages.count → ¬ WhollyMine (page_at n.pages p)
+  pub unopened : n.queues.unopened ≡ 0
+
+-- how the queues were turned until page p was found for class c
+abbrev pub TurnsTo : (c p : ℕ) → Sharded → Sharded → Type 0
+TurnsTo c p o n = FoundInQueue c p o n ⊎ (FoundAfterBell c p o n ⊎ FoundNext c p o n)
 
 -- each page of class c was searched in vain; then page p, which has the class, was read from the bell and was searched
 -- again, and the value is there
@@ -178,6 +250,7 @@ pub record FindsPage (layout : Layout) (c key : ℕ) (value : List ℕ) (o n : S
   pub opened : OpensFor page o.queues n.queues
   pub gained : (has_number page (class_queue o.queues c) ≡ true)
       ⊎ (CameByBell c page key value o.pages n.pages ⊎ NextAfterSearch c page key value o n)
+  pub turned : TurnsTo c page o n
 
 -- An insert of a value of class c. The value is added to the log, or there is no room. Or nothing of the class is left,
 -- and the growth of the segment that has the next page was refused.
@@ -186,7 +259,7 @@ InsertServes layout c value o (Ok key) n = Added value key o.pages n.pages
     × IsKeyIn layout o.pages.owner o.pages.shard key × FindsPage layout c key value o n
 InsertServes layout c value o (Err refusal.Full) n = NoRoom c o n
 InsertServes layout c value o (Err refusal.Memory) n = WorksThroughout o.pages n.pages × NoneLeft c o.pages n.pages
-    × NeedsSegment c n
+    × NeedsSegment c n × LooksInVain c o n
 InsertServes layout c value o (Err _) n = ⊥
 
 -- the class of a value
@@ -205,16 +278,30 @@ abbrev pub DoneIn : ℕ → Sharded → Result ℕ Refusal → Sharded → Type 
 DoneIn n o (Ok key) m = TakesSteps n o.pages m.pages
 DoneIn n o (Err _) m = ⊥
 
+-- ---- the four calls
+
+-- If the call freed a slot of the shard, its page has the slot, and came back if it was in the full queue. Nothing else
+-- moved, and all other pages and the bell are as they were.
+pub record ReturnsSlot (o n : Sharded) : Type 0 where
+  pub gained : Option ℕ
+  pub slot : GainsSlot gained o.pages n.pages
+  pub queues : n.queues ≡ gained_back gained n.pages o.queues
+
+-- no slot and no page moved
+abbrev pub MovesNothing : Sharded → Sharded → Type 0
+MovesNothing o n = GainsSlot None o.pages n.pages × (n.queues ≡ o.queues)
+
 -- ---- adopting and leaving a shard
 
--- Shard k is the pass's own, and its pages that have a class are in their queues. Or no shard has this number, or it
--- has an owner, or memory was refused.
+-- Shard k is the pass's own. Each page that has a class is in the queue of the class, once, and no other page is; each
+-- queue rises. Or no shard has this number, or it has an owner, or memory was refused.
 abbrev pub AdoptServes : ℕ → Caller → Result Sharded (Caller × Refusal) → Type 0
 AdoptServes k v (Ok n) = (k < v.view.shape.shards) × AdoptsShard v k n.pages × OpensClassed n.pages n.queues
-    × FilesRising n.queues
+    × FilesRising n.queues × SortedPages n.pages n.queues × EachOnce n.queues
 AdoptServes k v (Err r) = AdoptRefused k v r.0 r.1
 
 -- the shard is left, or leaving waits for others and the shard is returned
 abbrev pub LeaveServes : Sharded → Result Caller (Sharded × Refusal) → Type 0
 LeaveServes o (Ok w) = ShardLeft o.pages.owner w
 LeaveServes o (Err r) = (r.1 ≡ refusal.Waiting) × Waiting o.pages r.0.pages × ReturnsRising o.queues r.0.queues
+    × ReturnsEach r.0.pages o.queues r.0.queues

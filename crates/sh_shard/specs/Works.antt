@@ -1,5 +1,5 @@
 -- Work on many pages and on the bell: what an insert, a prepare and a leave do before they put anything.
-use Rattle.std.specs.Prelude.{◌≡◌, ℕ, ◌+◌, ◌<◌, ◌≤◌, Some, MatchOption}
+use Rattle.std.specs.Prelude.{◌≡◌, ℕ, ◌+◌, ◌<◌, ◌≤◌, List, [], ◌∷◌, Some, MatchOption}
 use Rattle.sh_pass.specs.Owners.{Aside, NonePut}
 use Rattle.sh_shard.specs.Pages.{Paged, page_at, PageDone, BellReads}
 
@@ -32,3 +32,14 @@ pub record ReadFromBell (p : ℕ) (o n : Paged) : Type 0 where
   pub first : WorksThroughout o before
   pub reads : BellReads p before after
   pub rest : WorksThroughout after n
+
+-- work on the bell that left each page as it was
+pub record BellAlone (o n : Paged) : Type 0 where
+  pub through : WorksThroughout o n
+  pub pages : (q : ℕ) → page_at n q ≡ page_at o q
+
+-- these pages were read from the bell, in this order, and nothing else was done to any page
+abbrev pub ReadInTurn : List ℕ → Paged → Paged → Type 0
+ReadInTurn [] o n = BellAlone o n
+ReadInTurn (p ∷ ps) o n = (before : Paged) × (after : Paged) × BellAlone o before × BellReads p before after
+    × ReadInTurn ps after n

@@ -2,8 +2,8 @@
 ghost use Rattle.std.specs.Prelude.{◌≡◌, ℕ, ◌<◌, Some, MatchBool, IfSome, true};
 ghost use Rattle.sh_queue.specs.Numbers.{has_number};
 ghost use Rattle.sh_shard.specs.Pages.{page_at, seen_class};
-ghost use Rattle.sh_shard.specs.Shards.{FullPage, SortedPages};
-ghost use Rattle.sh_shard.specs.Returning.{SortedBut, ReturnsPage};
+ghost use Rattle.sh_shard.specs.Shards.{FullPage, SortedPages, ReturnsPage, ReturnsEach};
+ghost use Rattle.sh_shard.specs.Returning.{SortedBut, ReturnsGained};
 ghost use Rattle.sh_shard.specs.Filing.{ReturnsRising};
 
 use crate::pages::Pages;
@@ -16,6 +16,7 @@ pub(crate) fn return_all<L: KeyLayout, H: KeepsHeap<L>>(pages: &Pages<L, H>, que
     requires { SortedBut (λ p. Unit {0}) pages.now queues.old }
     ensures sorted { SortedPages pages.now queues.new }
     ensures rising { ReturnsRising queues.old queues.new }
+    ensures each { ReturnsEach pages.now queues.old queues.new }
 {
     let opened = queues.opened();
     for page in 0..opened {
@@ -33,7 +34,8 @@ pub(crate) fn return_one<L: KeyLayout, H: KeepsHeap<L>>(
 )
     requires sorted { SortedBut (λ p. gained ≡ Some p) pages.now queues.old }
     requires inside { IfSome gained (λ p. p < pages.now.count) }
-    ensures { SortedPages pages.now queues.new }
+    ensures sorted { SortedPages pages.now queues.new }
+    ensures moved { ReturnsGained gained pages.now queues.old queues.new }
 {
     let Some(page) = gained else {
         return;
@@ -66,7 +68,7 @@ fn return_page<L: KeyLayout, H: KeepsHeap<L>>(pages: &Pages<L, H>, queues: &mut 
 fn is_full<L: KeyLayout, H: KeepsHeap<L>>(pages: &Pages<L, H>, page: u64) -> bool
     requires inside { page < pages.now.count }
     requires classed { 0 < seen_class (page_at pages.now page) }
-    ensures { MatchBool result (FullPage (page_at pages.now page)) (Unit {0}) }
+    ensures { MatchBool result (FullPage (page_at pages.now page)) (¬ FullPage (page_at pages.now page)) }
 {
     let _known = pages.class_word(page);
     if !pages.is_armed(page) {
@@ -75,5 +77,8 @@ fn is_full<L: KeyLayout, H: KeepsHeap<L>>(pages: &Pages<L, H>, page: u64) -> boo
     if pages.has_cursor(page) {
         return false;
     }
-    !pages.has_slot(page)
+    if pages.has_slot(page) {
+        return false;
+    }
+    true
 }

@@ -43,7 +43,6 @@ impl<L: KeyLayout, H: KeepsHeap<L>> Shard<L, H> {
         ensures steps { StepsForRings 1 self.old.pages self.new.pages }
     {
         let mut read = false;
-        let _known = self.queues.opened();
         let count = self.pages.count();
         for _turn in 0..count + 1 {
             let _known = self.queues.opened();

@@ -4,6 +4,7 @@ ghost use Rattle.sh_queue.specs.Queues.{EachOnce};
 ghost use Rattle.sh_pass.specs.Passes.{GetDoes, ReadDoes, ReadIntoDoes, RemoveDoes, ReleaseDoes};
 ghost use Rattle.sh_shard.specs.Bounds.{InsertIsBounded};
 ghost use Rattle.sh_shard.specs.Shards.{SortedPages, StaysOwner, InsertServes, IsQuick, DoneIn, value_class};
+ghost use Rattle.sh_shard.specs.Shards.{ReturnsSlot, MovesNothing};
 
 use crate::pages::Pages;
 use crate::returning::return_one;
@@ -66,6 +67,7 @@ impl<L: KeyLayout, H: KeepsHeap<L>> Shard<L, H> {
     #[inline(always)]
     pub fn get(&mut self, key: u64) -> Result<Hold, Refusal>
         ensures does { GetDoes L.layout key self.old.pages.owner result self.new.pages.owner }
+        ensures returned { ReturnsSlot self.old self.new }
         ensures stays { StaysOwner L.layout self.old self.new }
     {
         let _known = &self.queues;
@@ -92,6 +94,7 @@ impl<L: KeyLayout, H: KeepsHeap<L>> Shard<L, H> {
     /// The same as `get`, but the hold keeps the place of the key's slot, for `read_guard` and `release_guard`.
     pub fn get_guard(&mut self, key: u64) -> Result<Guard<L>, Refusal>
         ensures does { GetDoes L.layout key self.old.pages.owner result self.new.pages.owner }
+        ensures returned { ReturnsSlot self.old self.new }
         ensures stays { StaysOwner L.layout self.old self.new }
     {
         let _known = &self.queues;
@@ -104,6 +107,7 @@ impl<L: KeyLayout, H: KeepsHeap<L>> Shard<L, H> {
     /// The value of a key that the owner holds. Refused as `NotHeld`.
     pub fn read(&mut self, hold: Hold) -> Result<Value, Refusal>
         ensures does { ReadDoes hold.key self.old.pages.owner result self.new.pages.owner }
+        ensures moved { MovesNothing self.old self.new }
         ensures stays { StaysOwner L.layout self.old self.new }
     {
         // (It has one word, as most values have: reading such a value into it is one store.)
@@ -116,6 +120,7 @@ impl<L: KeyLayout, H: KeepsHeap<L>> Shard<L, H> {
     /// between. Refused as `NotHeld`: then the caller's value stays as it was.
     pub fn read_into(&mut self, hold: Hold, value: &mut Value) -> Result<(), Refusal>
         ensures does { ReadIntoDoes hold.key self.old.pages.owner value.old result value.new self.new.pages.owner }
+        ensures moved { MovesNothing self.old self.new }
         ensures stays { StaysOwner L.layout self.old self.new }
     {
         let _known = &self.queues;
@@ -127,6 +132,7 @@ impl<L: KeyLayout, H: KeepsHeap<L>> Shard<L, H> {
     /// The same as `read_into`, by a hold that keeps its place.
     pub fn read_guard(&mut self, guard: &Guard<L>, value: &mut Value) -> Result<(), Refusal>
         ensures does { ReadIntoDoes guard.now.key self.old.pages.owner value.old result value.new self.new.pages.owner }
+        ensures moved { MovesNothing self.old self.new }
         ensures stays { StaysOwner L.layout self.old self.new }
     {
         let _known = &self.queues;
@@ -138,6 +144,7 @@ impl<L: KeyLayout, H: KeepsHeap<L>> Shard<L, H> {
     /// Removes a key. Refused as `BadKey` or `Gone`.
     pub fn remove(&mut self, key: u64) -> Result<(), Refusal>
         ensures does { RemoveDoes L.layout key self.old.pages.owner result self.new.pages.owner }
+        ensures returned { ReturnsSlot self.old self.new }
         ensures stays { StaysOwner L.layout self.old self.new }
     {
         let _known = &self.queues;
@@ -150,6 +157,7 @@ impl<L: KeyLayout, H: KeepsHeap<L>> Shard<L, H> {
     /// Gives one hold on a key back. Refused as `NotHeld`.
     pub fn release(&mut self, hold: Hold) -> Result<(), Refusal>
         ensures does { ReleaseDoes L.layout hold.key self.old.pages.owner result self.new.pages.owner }
+        ensures returned { ReturnsSlot self.old self.new }
         ensures stays { StaysOwner L.layout self.old self.new }
     {
         let _known = &self.queues;
@@ -162,6 +170,7 @@ impl<L: KeyLayout, H: KeepsHeap<L>> Shard<L, H> {
     /// The same as `release`, of a hold that keeps its place.
     pub fn release_guard(&mut self, guard: Guard<L>) -> Result<(), Refusal>
         ensures does { ReleaseDoes L.layout guard.key self.old.pages.owner result self.new.pages.owner }
+        ensures returned { ReturnsSlot self.old self.new }
         ensures stays { StaysOwner L.layout self.old self.new }
     {
         let _known = &self.queues;

@@ -1,8 +1,8 @@
-use Rattle.std.proofs.Common.{ℕ, ◌≢◌, ◌+◌, ◌<◌, ◌≤◌, ⊎_elim, ◌∙◌, sym, arith}
+use Rattle.std.proofs.Common.{ℕ, ◌≢◌, ◌+◌, ◌<◌, ◌≤◌, ⊎_elim, refl, ◌∙◌, sym, arith}
 use Rattle.std.proofs.lemmas.Bool.{cases_lt}
 use Rattle.sh_queue.proofs.PagePlaces.{full_opened}
 use Rattle.sh_shard.proofs.FullPages.{but_none, but_fewer, but_returned, full_classed, returns_opened}
-use Rattle.sh_shard.proofs.Filing.{returned_none, returned_more, returns_rising}
+use Rattle.sh_shard.proofs.Filing.{returned_none, returned_more, returns_rising, returns_below_more}
 use Rattle.sh_shard.proofs.returning.return_all.Goals as goal
 
 pub loop-page-init : goal.loop-page-init
@@ -10,6 +10,7 @@ loop-page-init g c = record {
   sorted = but_fewer c.args.pages.now c.args.queues.now _ _ c.requires (λ p _. omega arith);
   opened = sym c.opened-opened.ensures.opened;
   rising = returned_none c.args.queues.now;
+  each = refl;
 }
 
 pub return_page-requires-clause-inside : goal.return_page-requires-clause-inside
@@ -35,11 +36,20 @@ loop-page-preserved g c =
       rising = returned_more c.loop-page.page c.args.pages.now c.args.queues.now c.loop-page.queues
           c.return_page.new.queues i.rising c.opened-known.ensures.once
           (λ here. i.sorted.word c.loop-page.page here) c.return_page.ensures;
+      each = returns_below_more c.loop-page.page c.args.pages.now c.args.queues.now c.loop-page.queues
+          c.return_page.new.queues i.each c.return_page.ensures;
     }
 
 pub returns-clause-rising : goal.returns-clause-rising
 returns-clause-rising g c = returns_rising c.loop-page.page c.args.queues.now c.loop-page.queues
     c.loop-page.invariant.rising
+
+pub returns-clause-each : goal.returns-clause-each
+returns-clause-each g c = record {
+  below = c.loop-page.page;
+  all = let o = c.opened-opened.ensures.opened in let l = c.loop-page-test.false in omega arith;
+  each = c.loop-page.invariant.each;
+}
 
 pub returns-clause-sorted : goal.returns-clause-sorted
 returns-clause-sorted g c = but_none c.args.pages.now c.loop-page.queues (λ p. c.loop-page.page ≤ p)

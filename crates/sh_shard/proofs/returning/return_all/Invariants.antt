@@ -1,4 +1,5 @@
 use Rattle.std.proofs.Common.{◌≡◌, ◌≤◌}
+use Rattle.sh_shard.specs.Shards.{ReturnsBelow}
 use Rattle.sh_shard.specs.Returning.{SortedBut, ReturnedBelow}
 use Rattle.sh_shard.proofs.returning.return_all.Given as goal
 
@@ -8,4 +9,5 @@ invariant-loop-page g l = record {
   opened : l.queues.opened
       ≡ l.opened;
   rising : ReturnedBelow l.page l.fn.queues l.queues;
+  each : ReturnsBelow l.page l.pages l.fn.queues l.queues;
 }

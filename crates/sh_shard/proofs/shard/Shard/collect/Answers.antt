@@ -9,4 +9,4 @@ returns-clause-serves g c = subst (λ o. CollectServes o (record {
   queues = c.return_all.new.queues;
 })) c.self.view_is (collects_all c.self.inside.pages c.empty_bell.new.self c.collect_pages.new.self
     c.self.inside.queues c.return_all.new.queues c.empty_bell.ensures.through c.empty_bell.ensures.bell
-    c.empty_bell.ensures.steps c.collect_pages.ensures c.return_all.ensures.rising)
+    c.empty_bell.ensures.steps c.collect_pages.ensures c.return_all.ensures.rising c.return_all.ensures.each)

@@ -1,7 +1,7 @@
 use Rattle.std.proofs.Common.{◌≡◌, refl, ap, ◌∙◌, subst, arith}
 use Rattle.sh_queue.specs.Queues.{EachOnce}
 use Rattle.sh_shard.specs.Shards.{Sharded}
-use Rattle.sh_shard.proofs.Hearing.{hears_none, hears_more, hears_stops, not_either}
+use Rattle.sh_shard.proofs.Hearing.{hears_none, hears_more, hears_stops}
 use Rattle.sh_shard.proofs.Counts.{armed_less, armed_few}
 use Rattle.sh_shard.proofs.Bounding.{rings_none, rings_then}
 use Rattle.sh_shard.proofs.BellEmptying.{read_steps}
@@ -21,10 +21,10 @@ pub loop-turn-preserved : goal.loop-turn-preserved
 loop-turn-preserved g c =
     let i = c.loop-turn.invariant in
     let once : EachOnce c.loop-turn.self.queues = subst (λ (z : Sharded). EachOnce z.queues) c.self-in-loop-turn.view_is
-    c.opened-known-in-loop-turn.ensures.once in record {
+    c.opened-known.ensures.once in record {
       hears = hears_more c.args.c c.in-Some.word c.loop-turn.read c.is_heard-read.result c.args.self.now
           c.loop-turn.self c.read_bell.new.self c.requires.class i.hears once c.in-Some.ensures
-          (not_either c.loop-turn.read c.is_heard-read.result c.in-Some.word c.args.c c.is_heard-read.ensures);
+          c.is_heard-read.ensures;
       met = c.in-Some.ensures.reads.met ∙ i.met;
       armed = let a = armed_less c.in-Some.ensures.page c.loop-turn.self.pages c.read_bell.new.self.pages
           c.in-Some.ensures.reads in let b = i.armed in omega arith;

@@ -54,7 +54,7 @@ returns-in-Some-try_page-clause-searched g c =
     c.in-Some-front.ensures.opened in
     found g.L.KeyLayout.layout c.args.c c.in-Some-front.page c.in-Some-try_page.key c.loop-turn._turn c.in-Some.last
     c.args.value.now c.args.self.now c.loop-turn.self c.try_page.new.self c.loop-turn.invariant.searching sorted
-    (front_has c.args.c c.in-Some-front.page c.loop-turn.self.queues front) inside c.in-Some-try_page.ensures.key
+    front inside c.in-Some-try_page.ensures.key
     c.in-Some-try_page.ensures.tried c.try_page.ensures.queues
 
 pub returns-in-Some-try_page-clause-steps : goal.returns-in-Some-try_page-clause-steps
