@@ -41,6 +41,18 @@ run() {
   return "$status"
 }
 
+# threaded COMPILER ROUNDS FLAG..: compiles the tests of threads and runs them: those that hand values over for ROUNDS
+# rounds, and those that fill a growing heap with ten times as many values.
+threaded() {
+  local compiler=$1 rounds=$2
+  shift 2
+  compiled "$compiler" threads "$@"
+  run threads 1 "$rounds"
+  run threads 2 "$rounds"
+  compiled "$compiler" refill "$@"
+  run refill "$((10 * rounds))"
+}
+
 # all COMPILER ROUNDS FLAG..: compiles each test but that of Waiting and runs it, the threads for ROUNDS rounds.
 all() {
   local compiler=$1 rounds=$2 name
@@ -50,9 +62,7 @@ all() {
     compiled "$compiler" "$name" "$@"
     run "$name"
   done
-  compiled "$compiler" threads "$@"
-  run threads 1 "$rounds"
-  run threads 2 "$rounds"
+  threaded "$compiler" "$rounds" "$@"
 }
 
 # in_checked_mode COMPILER ROUNDS FLAG..: the tests whose use is right, in checked mode: it reports nothing.
@@ -63,8 +73,7 @@ in_checked_mode() {
     compiled "$compiler" "$name" -DSHARDHEAP_CHECKED "$@"
     run "$name"
   done
-  compiled "$compiler" threads -DSHARDHEAP_CHECKED "$@"
-  run threads 2 "$rounds"
+  threaded "$compiler" "$rounds" -DSHARDHEAP_CHECKED "$@"
 }
 
 # waits COMPILER TIMES FLAG..: compiles the test of Waiting, and runs it until a leave was refused TIMES times.
