@@ -2,7 +2,7 @@
 """Fills the tables of measured times in documents from kept outputs of the bench.
 
     bench/tables.py RESULTS .. --write DOCUMENT ..    fills the blocks of these documents
-    bench/tables.py RESULTS .. --missed               prints each ratio that is above its aim
+    bench/tables.py RESULTS .. --missed               prints each number that is above its aim
     bench/tables.py --self-test                       fills a block of a small document, and plants faults
 
 RESULTS are files with what `cargo run --release --offline -- ..` printed, named by date and commit:
@@ -18,7 +18,8 @@ columns name a row, and the head of each other column is that of the output. A c
 one whose head ends in `(aim)` keeps the aims. With `NAME, all` the block has all rows of the output's table that has
 the same head. All rows of a block come from one file. A block of which the files have no row stays as it is.
 
-Between these two lines are the ratios that are above their aims, unless no file has a ratio with an aim:
+Between these two lines are the numbers that are above their aims, most of them ratios, unless no file has one with an
+aim:
 
     <!-- bench missed -->
     <!-- end of bench missed -->
@@ -41,12 +42,12 @@ ABOVE = re.compile(r"(<!-- bench missed -->\n).*?(<!-- end of bench missed -->)"
 KEYS = ("Workload", "Threads", "Call", "Map", "Values", "Words")
 OPENING = "ns a word"
 AIM = " (aim)"
-RATIO = re.compile(r"(?:[\d.]+-)?([\d.]+) / \S+ \(([\d.]+)\)")
+AIMED = re.compile(r"(?:[\d.]+-)?([\d.]+) / \S+ \(([\d.]+)\)")
 
 Table = collections.namedtuple("Table", "head rows")
 Output = collections.namedtuple("Output", "path about tables")
-# A ratio with an aim: of which row, to which side, and the cell with both.
-Ratio = collections.namedtuple("Ratio", "output key side cell is_missed")
+# A number with an aim: of which row, in which column (a ratio is to a side), and the cell with both.
+Aimed = collections.namedtuple("Aimed", "output key column cell is_missed")
 
 
 class Fault(Exception):
@@ -208,33 +209,34 @@ def written(text, document, outputs):
 
 
 def aimed(outputs):
-    """Each ratio that has an aim."""
+    """Each number that has an aim."""
     found = []
     for output in outputs:
         for table in output.tables:
             for row in table.rows:
                 for head, cell in zip(table.head, row):
-                    ratio = RATIO.fullmatch(cell)
-                    if ratio:
-                        is_missed = float(ratio[1]) > float(ratio[2])
-                        found.append(Ratio(output, key(row, table.head), head.removesuffix(AIM), cell, is_missed))
+                    number = AIMED.fullmatch(cell)
+                    if number:
+                        is_missed = float(number[1]) > float(number[2])
+                        found.append(Aimed(output, key(row, table.head), head.removesuffix(AIM), cell, is_missed))
     return found
 
 
 def missed(outputs):
-    return [ratio for ratio in aimed(outputs) if ratio.is_missed]
+    return [it for it in aimed(outputs) if it.is_missed]
 
 
 def missed_text(outputs, document):
-    """The caption and the table of the ratios that are above their aims. A row without threads has one."""
+    """The caption and the table of the numbers that are above their aims. A row without threads has one."""
     sources = []
-    for ratio in aimed(outputs):
-        if ratio.output not in sources:
-            sources.append(ratio.output)
+    for it in aimed(outputs):
+        if it.output not in sources:
+            sources.append(it.output)
     links = [f"{date_and_commit(output)} ({link('raw output', output, document)})" for output in sources]
-    rows = [[it.key[0], (*it.key[1:], "1")[0], it.side, it.cell] for it in missed(outputs)]
-    about = f"{len(rows)} of {len(aimed(outputs))} ratios with an aim are above it, by the runs of {' and '.join(links)}."
-    return f"{wrapped(about)}\n\n{table_text(Table(['Workload', 'Threads', 'Side', 'Ratio (aim)'], rows))}"
+    rows = [[it.key[0], (*it.key[1:], "1")[0], it.column, it.cell] for it in missed(outputs)]
+    runs = " and ".join(links)
+    about = f"{len(rows)} of {len(aimed(outputs))} numbers with an aim are above it, by the runs of {runs}."
+    return f"{wrapped(about)}\n\n{table_text(Table(['Workload', 'Threads', 'Column', 'Number (aim)'], rows))}"
 
 
 PRINTED = """program: a
@@ -304,7 +306,7 @@ def main(words):
         outputs = [output_of(pathlib.Path(word)) for word in words[:at]]
         if options == ["--missed"]:
             for it in missed(outputs):
-                print(f"{it.output.path.name}: {' | '.join(it.key)} | {it.side}: {it.cell}")
+                print(f"{it.output.path.name}: {' | '.join(it.key)} | {it.column}: {it.cell}")
             return 0
         documents = [pathlib.Path(word) for word in words[at + 1:]]
         texts = [(document, *written(document.read_text(), document, outputs)) for document in documents]

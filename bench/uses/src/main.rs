@@ -1,6 +1,6 @@
 //! Measures concurrent maps in whole uses: `uses [--rows WORD] [ROUNDS]` prints a table of times, and `uses latency`,
-//! `uses memory` and `uses room` one each. `uses picture RESULTS FILE` draws a kept table of latencies. ../README.md
-//! says what they are.
+//! `uses memory` and `uses room` one each. `uses growing [ROUNDS]` prints those of heaps that grow. `uses picture
+//! RESULTS FILE` draws a kept table of latencies. ../README.md says what they are.
 #[path = "../../src/gate.rs"]
 mod gate;
 #[path = "../../src/machine.rs"]
@@ -18,6 +18,7 @@ mod times;
 mod waiting;
 
 mod dice;
+mod growing;
 mod map;
 mod maps;
 mod picture;
@@ -37,7 +38,7 @@ use turning::{row_of, waited_line};
 
 const USAGE: &str = "\
 usage: uses [--rows WORD] [ROUNDS]
-       uses latency | uses memory | uses room
+       uses latency | uses memory | uses room | uses growing [ROUNDS]
        uses picture RESULTS FILE";
 const ROUNDS: usize = 3;
 
@@ -81,10 +82,13 @@ fn draw(results: &str, file: &str) -> Result<(), String> {
 fn printed(words: &[&str]) -> Result<String, String> {
     let about = |rounds: usize| format!("{}\nrounds: {rounds}\n\n", machine::text());
     match words {
+        ["turn", growing::NAME, words @ ..] => growing::report(words).ok_or_else(|| USAGE.to_string()),
         ["turn", side, words @ ..] => report(side, words).ok_or_else(|| USAGE.to_string()),
         ["latency"] => Ok(format!("{}\n\n{}\n", machine::text(), tables::latency()?)),
         ["memory"] => Ok(format!("{}\n", tables::memory()?)),
         ["room"] => Ok(format!("{}\n", tables::room())),
+        ["growing"] => Ok(format!("{}{}\n", about(ROUNDS), growing::tables(ROUNDS)?)),
+        ["growing", count] => Ok(format!("{}{}\n", about(rounds(count)?), growing::tables(rounds(count)?)?)),
         ["picture", results, file] => draw(results, file).map(|()| String::new()),
         ["--rows", word] => Ok(format!("{}{}\n", about(ROUNDS), tables::uses(ROUNDS, word)?)),
         ["--rows", word, count] => Ok(format!("{}{}\n", about(rounds(count)?), tables::uses(rounds(count)?, word)?)),

@@ -49,20 +49,21 @@ pub fn waited_line(side: Side, row: Row, spent: &Spent) -> String {
     share.map_or(String::new(), |share| format!("waited {share:.4}\n"))
 }
 
-fn once(side: Side, words: &[String]) -> Result<Report, String> {
+/// What a turn of this name and these words printed.
+pub fn report_of(name: &str, words: &[String]) -> Result<Report, String> {
     let program = env::current_exe().map_err(|why| format!("this program's file: {why}"))?;
-    let run = Command::new(program).args(["turn", side.name()]).args(words).output();
-    let run = run.map_err(|why| format!("a turn of {}: {why}", side.name()))?;
+    let run = Command::new(program).args(["turn", name]).args(words).output();
+    let run = run.map_err(|why| format!("a turn of {name}: {why}"))?;
     match run.status.success() {
         true => Ok(Report(String::from_utf8_lossy(&run.stdout).into_owned())),
-        false => Err(format!("a turn of {}: {}", side.name(), String::from_utf8_lossy(&run.stderr).trim())),
+        false => Err(format!("a turn of {name}: {}", String::from_utf8_lossy(&run.stderr).trim())),
     }
 }
 
 /// A turn of this side in which all threads ran at once; none if there was none in some tries.
 pub fn turn(side: Side, words: &[String]) -> Result<Option<Report>, String> {
     for _try in 0..TRIES {
-        let report = once(side, words)?;
+        let report = report_of(side.name(), words)?;
         if report.ran_at_once() {
             return Ok(Some(report));
         }
