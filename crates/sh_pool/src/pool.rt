@@ -87,6 +87,13 @@ impl<L: KeyLayout> Pool<L> {
         &self.heap
     }
 
+    /// The shape of the heap.
+    pub fn shape(&self) -> &Shape
+        ensures { result.now ≡ self.now.shape }
+    {
+        self.heap.shape()
+    }
+
     /// The number of pool slots: one for each pass, taken or not.
     pub fn pool_slots(&self) -> usize
         ensures { result ≡ self.now.shape.passes }
