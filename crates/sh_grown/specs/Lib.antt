@@ -3,3 +3,4 @@ pub mod ChunkShapes
 pub mod Growing
 pub mod Inserts
 pub mod Keeping
+pub mod Shares

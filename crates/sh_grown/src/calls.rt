@@ -21,7 +21,7 @@ fn chunk_of(key: u64) -> usize
     chunk as usize
 }
 
-impl<'a> Caller<'a> {
+impl Caller {
     // Whether it has a member in this chunk.
     pub(crate) fn has_met(&self, chunk: usize) -> bool
         ensures { MatchBool result
@@ -41,7 +41,7 @@ impl<'a> Caller<'a> {
     /// does no such load. `Taken` comes if the caller's pass is not in the chunk's pool, which no caller brings about.
     pub fn get(&mut self, key: u64) -> Result<Hold, Refusal>
         ensures does { GrownDoes (SideDoes chunked (GetsIn key))
-            self.old.growing.now.cells.items self.old.number (chunk_of key) self.old.met.items result
+            self.old.growing.cells.items self.old.number (chunk_of key) self.old.met.items result
             self.new.met.items }
         ensures hold { IfOk result (λ hold. hold.key ≡ key) }
         ensures stays { Stays self.old self.new }
@@ -93,7 +93,7 @@ impl<'a> Caller<'a> {
     /// The value of a key: a get, a read and a release in one. Refused as a get is. It leaves the holds as they were.
     pub fn fetch(&mut self, key: u64) -> Result<Value, Refusal>
         ensures does { GrownDoes (SideDoes chunked (FetchDoes chunked (key_within key)))
-            self.old.growing.now.cells.items self.old.number (chunk_of key) self.old.met.items result
+            self.old.growing.cells.items self.old.number (chunk_of key) self.old.met.items result
             self.new.met.items }
         ensures stays { Stays self.old self.new }
     {
@@ -106,7 +106,7 @@ impl<'a> Caller<'a> {
     pub fn fetch_into(&mut self, key: u64, value: &mut Value) -> Result<(), Refusal>
         ensures does { GrownDoes (SideDoes chunked (λ v answer w. FetchIntoDoes chunked (key_within key) v value.old
             answer value.new w))
-            self.old.growing.now.cells.items self.old.number (chunk_of key) self.old.met.items result
+            self.old.growing.cells.items self.old.number (chunk_of key) self.old.met.items result
             self.new.met.items }
         ensures stays { Stays self.old self.new }
     {
@@ -121,7 +121,7 @@ impl<'a> Caller<'a> {
     pub fn take_into(&mut self, key: u64, most: usize, value: &mut Value) -> Result<(), Refusal>
         ensures does { GrownDoes (SideDoes chunked (λ v answer w. TakeIntoDoes chunked (key_within key) most v answer
             value.new w))
-            self.old.growing.now.cells.items self.old.number (chunk_of key) self.old.met.items result
+            self.old.growing.cells.items self.old.number (chunk_of key) self.old.met.items result
             self.new.met.items }
         ensures stays { Stays self.old self.new }
     {
@@ -134,7 +134,7 @@ impl<'a> Caller<'a> {
     /// `Gone`.
     pub fn remove(&mut self, key: u64) -> Result<(), Refusal>
         ensures does { GrownDoes (SideDoes chunked (RemoveDoes chunked (key_within key)))
-            self.old.growing.now.cells.items self.old.number (chunk_of key) self.old.met.items result
+            self.old.growing.cells.items self.old.number (chunk_of key) self.old.met.items result
             self.new.met.items }
         ensures stays { Stays self.old self.new }
     {

@@ -11,7 +11,7 @@ use crate::met::{collect_at, insert_at, meet, move_to, shards_at};
 use sh_value::{Refusal, Value};
 use std::alloc::Global;
 
-impl<'a> Caller<'a> {
+impl Caller {
     /// Stores a value under a new key, and returns the key.
     ///
     /// It tries the chunk of its last insert, and then each chunk in which it owns a shard. Then it collects in the
@@ -26,7 +26,7 @@ impl<'a> Caller<'a> {
     /// its holds as they were.
     #[tactic(auto, using(crate::proofs::Keeping::inserts_then))]
     pub fn insert(&mut self, alloc: Global, value: &Value) -> Result<u64, Refusal>
-        ensures inserts { Inserts (length self.old.growing.now.cells.items) value.now self.old.met.items result
+        ensures inserts { Inserts (length self.old.growing.cells.items) value.now self.old.met.items result
             self.new.met.items }
         ensures stays { Stays self.old self.new }
     {
@@ -62,6 +62,18 @@ impl<'a> Caller<'a> {
             return Err(Refusal::NoShard);
         }
         collect_at(&mut self.met[chunk as usize])
+    }
+
+    /// Collects what others freed in each shard that it owns. The caller's logs and holds stay as they were.
+    #[tactic(auto, using(crate::proofs::Keeping::keeps_then))]
+    pub fn collect(&mut self)
+        ensures keeps { KeepsMembers self.old.met.items self.new.met.items }
+        ensures stays { Stays self.old self.new }
+    {
+        for number in 0..self.growing.chunks_allowed() {
+            // Refused if it owns no shard there: then there is nothing to collect.
+            self.collect_in(number as u8).ok();
+        }
     }
 
     // Stores a value in the shard that it owns in this chunk, which is then the first to be tried. `None` if it owns
@@ -125,7 +137,7 @@ impl<'a> Caller<'a> {
 
     // Stores a value in the first chunk that has room for it. A chunk that is not open is opened.
     fn insert_in_any(&mut self, alloc: Global, value: &Value) -> Result<u64, Refusal>
-        ensures inserts { Inserts (length self.old.growing.now.cells.items) value.now self.old.met.items result
+        ensures inserts { Inserts (length self.old.growing.cells.items) value.now self.old.met.items result
             self.new.met.items }
         ensures stays { Stays self.old self.new }
     {

@@ -12,7 +12,9 @@ pub mod growing;
 mod inserting;
 mod leaving;
 pub mod met;
+pub mod share;
 
 pub use caller::Caller;
 pub use chunk_shapes::chunk_shape;
 pub use growing::Growing;
+pub use share::GrowingShare;
