@@ -1,4 +1,5 @@
-// The calls of a caller on keys: each is the call of its member in the key's chunk.
+// The calls of a caller on keys: each is the call of its member in the key's chunk. They are never inlined, so that a
+// handle that may have a caller saves no registers for them in the calls of other heaps.
 ghost use Rattle.std.specs.Prelude.{◌≡◌, ◌<◌, IfOk, IsSome, MatchBool, None, get_or, length};
 ghost use Rattle.sh_chunk.specs.Chunks.{chunked, chunk_of, key_within};
 ghost use Rattle.sh_pass.specs.Passes.{ReadDoes, ReadIntoDoes, RemoveDoes, ReleaseDoes};
@@ -39,6 +40,7 @@ impl Caller {
     /// As for each call on a key, `BadKey` comes if the heap may not have the key's chunk, or if the chunk returns it.
     /// It also comes if the load of that chunk's cell in this call finds it not open. A caller that has met the chunk
     /// does no such load. `Taken` comes if the caller's pass is not in the chunk's pool, which no caller brings about.
+    #[inline(never)]
     pub fn get(&mut self, key: u64) -> Result<Hold, Refusal>
         ensures does { GrownDoes (SideDoes chunked (GetsIn key))
             self.old.growing.cells.items self.old.number (chunk_of key) self.old.met.items result
@@ -52,6 +54,7 @@ impl Caller {
     }
 
     /// The value of a key that it holds. Refused as `NotHeld`.
+    #[inline(never)]
     pub fn read(&mut self, hold: Hold) -> Result<Value, Refusal>
         ensures does { HeldDoes (SideDoes chunked (ReadDoes (key_within hold.key))) (chunk_of hold.key)
             self.old.met.items result self.new.met.items }
@@ -65,6 +68,7 @@ impl Caller {
     }
 
     /// The same into a value of the caller's. A refusal leaves that value as it was.
+    #[inline(never)]
     pub fn read_into(&mut self, hold: Hold, value: &mut Value) -> Result<(), Refusal>
         ensures does { HeldDoes (SideDoes chunked (λ v answer w. ReadIntoDoes (key_within hold.key) v value.old
             answer value.new w)) (chunk_of hold.key) self.old.met.items result self.new.met.items }
@@ -78,6 +82,7 @@ impl Caller {
     }
 
     /// Gives one hold on a key back. Refused as `NotHeld`.
+    #[inline(never)]
     pub fn release(&mut self, hold: Hold) -> Result<(), Refusal>
         ensures does { HeldDoes (SideDoes chunked (ReleaseDoes chunked (key_within hold.key))) (chunk_of hold.key)
             self.old.met.items result self.new.met.items }
@@ -91,6 +96,7 @@ impl Caller {
     }
 
     /// The value of a key: a get, a read and a release in one. Refused as a get is. It leaves the holds as they were.
+    #[inline(never)]
     pub fn fetch(&mut self, key: u64) -> Result<Value, Refusal>
         ensures does { GrownDoes (SideDoes chunked (FetchDoes chunked (key_within key)))
             self.old.growing.cells.items self.old.number (chunk_of key) self.old.met.items result
@@ -103,6 +109,7 @@ impl Caller {
     }
 
     /// The same into a value of the caller's. A refusal leaves that value as it was.
+    #[inline(never)]
     pub fn fetch_into(&mut self, key: u64, value: &mut Value) -> Result<(), Refusal>
         ensures does { GrownDoes (SideDoes chunked (λ v answer w. FetchIntoDoes chunked (key_within key) v value.old
             answer value.new w))
@@ -118,6 +125,7 @@ impl Caller {
     /// The value of a key, which this call removes, into a value of the caller's. A value of more than `most` words
     /// goes there too, but its key is not removed. Refused as a get is, and as `Gone` if another thread removed the key
     /// after the get.
+    #[inline(never)]
     pub fn take_into(&mut self, key: u64, most: usize, value: &mut Value) -> Result<(), Refusal>
         ensures does { GrownDoes (SideDoes chunked (λ v answer w. TakeIntoDoes chunked (key_within key) most v answer
             value.new w))
@@ -132,6 +140,7 @@ impl Caller {
 
     /// Removes a key: no later get finds it, and its value stays until the last hold goes. Refused as `BadKey` or
     /// `Gone`.
+    #[inline(never)]
     pub fn remove(&mut self, key: u64) -> Result<(), Refusal>
         ensures does { GrownDoes (SideDoes chunked (RemoveDoes chunked (key_within key)))
             self.old.growing.cells.items self.old.number (chunk_of key) self.old.met.items result

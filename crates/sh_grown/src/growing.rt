@@ -40,7 +40,7 @@ fn new_chunk(alloc: Global, shape: Shape) -> Result<Box<Share<Chunked>>, Refusal
 }
 
 impl Growing {
-    ghost use Rattle.sh_grown.specs.Growing.{OpensGrowing, WhyUnopened};
+    ghost use Rattle.sh_grown.specs.Growing.{OpensGrowing, OpensGrowingFor, WhyUnopened};
 
     /// A growing heap of at most `chunks` chunks, from 1 to 256, with this many passes, from 1 to 64. The first chunk
     /// is opened. Refused as `BadShape` exactly if a number is outside its limits, and as `Memory` if memory is
@@ -56,6 +56,48 @@ impl Growing {
             return Err(Refusal::BadShape);
         }
         let first = new_chunk(alloc, chunk_shape(0, passes))?;
+        Growing::of_first(alloc, first, passes, chunks)
+    }
+
+    /// The same with another first chunk: the least one in which each of `owners` owners has a shard with room for
+    /// `values` values of `words` words. It is refused as `BadShape` also if no chunk has the room. Later chunks have
+    /// the shapes of their numbers.
+    ///
+    /// ```text
+    /// let growing = Growing::open_for(alloc, 4, 10_000, 1, 64, 256)?;   // 10,000 values for each of 4 owners
+    /// ```
+    pub fn open_for(
+        alloc: Global,
+        owners: u32,
+        values: u64,
+        words: usize,
+        passes: u32,
+        chunks: usize,
+    ) -> Result<Growing, Refusal>
+        ensures { OpensGrowingFor owners values words passes chunks result }
+    {
+        if passes < 1 || 64 < passes || chunks < 1 || CHUNKS < chunks {
+            return Err(Refusal::BadShape);
+        }
+        let shape = Shape::with_room::<Chunked>(owners, values, words, passes)?;
+        let first = new_chunk(alloc, shape)?;
+        Growing::of_first(alloc, first, passes, chunks)
+    }
+
+    // A growing heap that may have this many chunks, of which the first one is open.
+    fn of_first(
+        alloc: Global,
+        first: Box<Share<Chunked>>,
+        passes: u32,
+        chunks: usize,
+    ) -> Result<Growing, Refusal>
+        requires some_pass { 1 ≤ passes }
+        requires few_passes { passes ≤ 64 }
+        requires some_chunk { 1 ≤ chunks }
+        requires few_chunks { chunks ≤ 256 }
+        ensures { MatchResult result (λ growing. (growing.passes ≡ passes) × (length growing.cells.items ≡ chunks))
+            (λ why. why ≡ Memory) }
+    {
         let mut cells = Vec::new(alloc);
         if cells.push(OnceBox::with_value(first)).is_err() {
             return Err(Refusal::Memory);

@@ -2,7 +2,7 @@
 ghost use Rattle.std.specs.Prelude.{◌≡◌, ◌≤◌, IfSome, MatchResult, None, Some, length, slice_get};
 ghost use Rattle.once_cell.specs.Once.{cell_name, Agrees};
 ghost use Rattle.sh_value.specs.declared.refusal.Refusal.TheVariants.{Memory};
-ghost use Rattle.sh_grown.specs.Growing.{OpensGrowing, WhyUnopened};
+ghost use Rattle.sh_grown.specs.Growing.{OpensGrowing, OpensGrowingFor, WhyUnopened};
 
 use crate::growing::Growing;
 use once_cell::race::Note;
@@ -53,6 +53,21 @@ impl GrowingShare {
         ensures { OpensGrowing passes chunks result }
     {
         let growing = Growing::open(alloc, passes, chunks)?;
+        GrowingShare::new(alloc, growing)
+    }
+
+    /// The same with another first chunk, as by `Growing::open_for`.
+    pub fn open_for(
+        alloc: Global,
+        owners: u32,
+        values: u64,
+        words: usize,
+        passes: u32,
+        chunks: usize,
+    ) -> Result<GrowingShare, Refusal>
+        ensures { OpensGrowingFor owners values words passes chunks result }
+    {
+        let growing = Growing::open_for(alloc, owners, values, words, passes, chunks)?;
         GrowingShare::new(alloc, growing)
     }
 

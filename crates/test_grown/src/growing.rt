@@ -208,6 +208,39 @@ fn numbers_outside_the_limits_are_refused(rt: HostRuntime) {
     );
 }
 
+// 384 slots a segment: two owners of 500 values each get two segments each, so 1,536 values fit before chunk 1 opens.
+#[test]
+fn the_first_chunk_has_the_room_that_is_asked_for(rt: HostRuntime) {
+    let growing = GrowingShare::open_for(rt.alloc(), 2, 500, 1, 2, 3).expect(&rt, "a heap");
+    let mut caller = growing.claim(rt.alloc()).expect(&rt, "a caller");
+    let keys = stored(&rt, rt.alloc(), &mut caller, 0, THREE);
+    agree(&rt, growing.heap().chunks(), 1);
+    let more = stored(&rt, rt.alloc(), &mut caller, THREE, 1);
+    agree(&rt, growing.heap().chunks(), 2);
+    has_all(&rt, &mut caller, &keys, 0);
+    has_all(&rt, &mut caller, &more, THREE);
+}
+
+// A chunk has at most 64 shards, and at most 512 segments a shard, of 24 slots for 16 words each.
+#[test]
+fn no_first_chunk_has_more_room_than_a_chunk(rt: HostRuntime) {
+    agree(
+        &rt,
+        GrowingShare::open_for(rt.alloc(), 65, 1, 1, 1, 1).err(),
+        Some(Refusal::BadShape),
+    );
+    agree(
+        &rt,
+        GrowingShare::open_for(rt.alloc(), 1, 12_289, 16, 1, 1).err(),
+        Some(Refusal::BadShape),
+    );
+    agree(
+        &rt,
+        GrowingShare::open_for(rt.alloc(), 1, 1, 1, 1, 257).err(),
+        Some(Refusal::BadShape),
+    );
+}
+
 // A thread's work: its caller stores numbers, and comes back with their keys.
 fn fills(rt: &impl Abort, alloc: Global, mut caller: Caller, from: u64) -> (Caller, Vec<u64>) {
     let keys = stored(rt, alloc, &mut caller, from, 700);
