@@ -19,11 +19,13 @@ use Rattle.sh_grown.specs.Keeping.{SamePlace}
 abbrev pub Cell : Type 0
 Cell = Global × ℕ
 
--- what a caller has at first in a chunk that has this heap: the pass of the pool slot of this number, at rest
+-- what a caller has at first in a chunk that has this heap: the pass of this number, at rest, from its pool slot
 pub record IsPooled (heap : Heap) (number : ℕ) (m : Met) : Type 0 where
   pub pass : Caller
   pub member : m.member ≡ side.Pass pass
   pub of : pass.heap ≡ heap
+  pub own : pass.view.pass ≡ number
+  pub below : number < heap.shape.passes
   pub rest : IsAtRest pass
   pub pool_slot : m.pool_slot ≡ number
   pub shards : m.shards ≡ heap.shape.shards
@@ -35,8 +37,7 @@ pub record IsNewcomer (cells : List Cell) (number chunk : ℕ) (m : Met) : Type 
   pub seen : m.note.known ≡ Some heap
   pub cell : IfSome (slice_get cells chunk) (λ c. m.note.cell ≡ cell_name c)
 
--- what a caller has that was just claimed: the pass of the pool slot of its number in the first chunk, and nothing in
--- any other
+-- what a caller has that was just claimed: the pass of its number in the first chunk, and nothing in any other
 pub record IsClaimed (cells : List Cell) (number : ℕ) (members : List (Option Met)) : Type 0 where
   pub first : Met
   pub newcomer : IsNewcomer cells number 0 first

@@ -121,7 +121,9 @@ impl Growing {
 
     /// How many passes it has, from 1 to 64: as many callers may be claimed at a time.
     pub fn passes(&self) -> u32
-        ensures { result ≡ self.now.passes }
+        ensures count { result ≡ self.now.passes }
+        ensures some { 1 ≤ result }
+        ensures few { result ≤ 64 }
     {
         self.passes
     }

@@ -1,5 +1,5 @@
 //! What a caller has in a chunk that it has met, and the calls of its member there.
-ghost use Rattle.std.specs.Prelude.{◌≡◌, IfErr, IfOk, IfSome, IsSome, OnErr, OnOk, Some};
+ghost use Rattle.std.specs.Prelude.{◌≡◌, ◌<◌, IfErr, IfOk, IfSome, IsSome, OnErr, OnOk, Some};
 ghost use Rattle.sh_value.specs.declared.refusal.Refusal.TheVariants.{Waiting};
 ghost use Rattle.sh_chunk.specs.Chunks.{chunked, chunk_of, key_within};
 ghost use Rattle.sh_pass.specs.Passes.{IsAtRest, ReadDoes, ReadIntoDoes, RemoveDoes, ReleaseDoes};
@@ -61,6 +61,8 @@ impl Met {
 // What a caller has in a chunk of which it has just taken this pass. The note knows the chunk.
 fn met_by(kept: Share<Chunked>, note: Note<Share<Chunked>>, taken: Taken<Chunked>) -> Met
     requires heap { taken.state.heap ≡ kept }
+    requires pass { taken.state.view.pass ≡ taken.pool_slot }
+    requires below { taken.pool_slot < kept.shape.passes }
     requires rest { IsAtRest taken.state }
     ensures met { IsPooled kept taken.pool_slot result }
     ensures note { result.note ≡ note }
