@@ -115,6 +115,23 @@ fn a_heap_whose_chunks_are_full_is_full(rt: HostRuntime) {
 }
 
 #[test]
+fn chunks_are_opened_ahead(rt: HostRuntime) {
+    let growing = GrowingShare::open(rt.alloc(), 1, 3).expect(&rt, "a heap");
+    agree(&rt, growing.heap().open_ahead(rt.alloc()), Ok(1));
+    agree(&rt, growing.heap().open_ahead(rt.alloc()), Ok(2));
+    agree(&rt, growing.heap().chunks(), 3);
+    agree(
+        &rt,
+        growing.heap().open_ahead(rt.alloc()),
+        Err(Refusal::Full),
+    );
+    let mut caller = growing.claim(rt.alloc()).expect(&rt, "a caller");
+    let keys = stored(&rt, rt.alloc(), &mut caller, 0, THREE);
+    agree(&rt, growing.heap().chunks(), 3);
+    has_all(&rt, &mut caller, &keys, 0);
+}
+
+#[test]
 fn holds_count_in_each_chunk(rt: HostRuntime) {
     let growing = GrowingShare::open(rt.alloc(), 2, 3).expect(&rt, "a heap");
     let mut caller = growing.claim(rt.alloc()).expect(&rt, "a caller");
