@@ -9,6 +9,7 @@ ghost use Rattle.sh_grown.specs.Callers.{IsPooled, MetDoes, GetsIn};
 ghost use Rattle.sh_grown.specs.Inserts.{InsertsIn, OwnsNone};
 ghost use Rattle.sh_grown.specs.Keeping.{KeepsMember};
 
+use crate::guard::GrownGuard;
 use once_cell::race::Note;
 use sh_chunk::{Chunked, chunked_keys_fit};
 use sh_member::Member;
@@ -121,6 +122,20 @@ pub(crate) fn get_at(place: &mut Option<Met>, key: u64) -> Result<Hold, Refusal>
     }
 }
 
+pub(crate) fn get_guard_at(place: &mut Option<Met>, key: u64) -> Result<GrownGuard, Refusal>
+    requires { IsSome place.old }
+    ensures does { MetDoes (SideDoes chunked (GetsIn key)) place.old result place.new }
+    ensures hold { IfOk result (λ hold. hold.key ≡ key) }
+{
+    match place {
+        Some(met) => {
+            let guard = met.member.get_guard(within(key))?;
+            Ok(GrownGuard { key, guard })
+        }
+        None => unreachable!(),
+    }
+}
+
 pub(crate) fn read_at(place: &mut Option<Met>, hold: Hold) -> Result<Value, Refusal>
     requires { IsSome place.old }
     ensures { MetDoes (SideDoes chunked (ReadDoes (key_within hold.key))) place.old result place.new }
@@ -148,6 +163,21 @@ pub(crate) fn read_into_at(
     }
 }
 
+pub(crate) fn read_guard_at(
+    place: &mut Option<Met>,
+    guard: &GrownGuard,
+    value: &mut Value,
+) -> Result<(), Refusal>
+    requires { IsSome place.old }
+    ensures { MetDoes (SideDoes chunked (λ v answer w. ReadIntoDoes (key_within guard.now.key) v value.old answer
+        value.new w)) place.old result place.new }
+{
+    match place {
+        Some(met) => met.member.read_guard(&guard.guard, value),
+        None => unreachable!(),
+    }
+}
+
 pub(crate) fn release_at(place: &mut Option<Met>, hold: Hold) -> Result<(), Refusal>
     requires { IsSome place.old }
     ensures { MetDoes (SideDoes chunked (ReleaseDoes chunked (key_within hold.key))) place.old result place.new }
@@ -155,6 +185,20 @@ pub(crate) fn release_at(place: &mut Option<Met>, hold: Hold) -> Result<(), Refu
     let key = within(hold.key);
     match place {
         Some(met) => met.member.release(Hold { key }),
+        None => unreachable!(),
+    }
+}
+
+pub(crate) fn release_guard_at(place: &mut Option<Met>, guard: GrownGuard) -> Result<(), Refusal>
+    requires { IsSome place.old }
+    ensures { MetDoes (SideDoes chunked (ReleaseDoes chunked (key_within guard.key))) place.old result place.new }
+{
+    let GrownGuard {
+        key: _,
+        guard: inner,
+    } = guard;
+    match place {
+        Some(met) => met.member.release_guard(inner),
         None => unreachable!(),
     }
 }

@@ -155,6 +155,26 @@ fn holds_count_in_each_chunk(rt: HostRuntime) {
     agree(&rt, other.release(hold), Err(Refusal::NotHeld));
 }
 
+// The last key is of chunk 1.
+#[test]
+fn a_guard_serves_as_the_hold_of_its_key(rt: HostRuntime) {
+    let growing = GrowingShare::open(rt.alloc(), 2, 3).expect(&rt, "a heap");
+    let mut caller = growing.claim(rt.alloc()).expect(&rt, "a caller");
+    let mut other = growing.claim(rt.alloc()).expect(&rt, "another caller");
+    let keys = stored(&rt, rt.alloc(), &mut caller, 0, FIRST + 1);
+    let Some(key) = keys.last() else {
+        return;
+    };
+    let guard = other.get_guard(*key).expect(&rt, "a guard");
+    agree(&rt, caller.remove(*key), Ok(()));
+    let mut value = Value::from(0);
+    agree(&rt, other.read_guard(&guard, &mut value), Ok(()));
+    agree(&rt, value, Value::from(FIRST));
+    agree(&rt, other.read(guard.hold()), Ok(Value::from(FIRST)));
+    agree(&rt, other.release_guard(guard), Ok(()));
+    agree(&rt, other.get_guard(*key).err(), Some(Refusal::Gone));
+}
+
 #[test]
 fn a_number_is_claimed_again(rt: HostRuntime) {
     let growing = GrowingShare::open(rt.alloc(), 2, 3).expect(&rt, "a heap");
