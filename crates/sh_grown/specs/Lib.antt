@@ -4,3 +4,4 @@ pub mod Growing
 pub mod Inserts
 pub mod Keeping
 pub mod Shares
+pub mod Wholes
