@@ -74,6 +74,12 @@ pub record ChunkDoes {A : Type 0} (does : SeenSide → Result A Refusal → Seen
   pub does_it : MetDoes does (get_or met chunk None) answer after
   pub others : new ≡ slice_set met chunk after
 
+-- this holds of the member in a chunk, before a call and after it
+abbrev pub MetTakes : (SeenSide → SeenSide → Type 0) → Option Met → Option Met → Type 0
+MetTakes takes (Some m) (Some n) = takes m.member n.member
+MetTakes takes (Some m) None = ⊥
+MetTakes takes None n = ⊥
+
 -- why a chunk cannot be met: no chunk that is open has this number, or the caller's pass is not in the chunk's pool
 abbrev pub WhyUnmet : Refusal → Type 0
 WhyUnmet refusal.BadKey = Unit {0}

@@ -1,11 +1,12 @@
 //! What a caller has in a chunk that it has met, and the calls of its member there.
-ghost use Rattle.std.specs.Prelude.{◌≡◌, ◌<◌, IfErr, IfOk, IfSome, IsSome, OnErr, OnOk, Some};
+ghost use Rattle.std.specs.Prelude.{◌≡◌, ◌<◌, IfErr, IfOk, IfSome, IsSome, OnErr, OnOk, Some, length};
 ghost use Rattle.sh_value.specs.declared.refusal.Refusal.TheVariants.{Waiting};
 ghost use Rattle.sh_chunk.specs.Chunks.{chunked, chunk_of, key_within};
 ghost use Rattle.sh_pass.specs.Passes.{IsAtRest, ReadDoes, ReadIntoDoes, RemoveDoes, ReleaseDoes};
 ghost use Rattle.sh_readers.specs.Readers.{FetchDoes, FetchIntoDoes, TakeIntoDoes};
 ghost use Rattle.sh_member.specs.Sides.{SideDoes, SideCollects};
-ghost use Rattle.sh_grown.specs.Callers.{IsPooled, MetDoes, GetsIn};
+ghost use Rattle.sh_member.specs.SideBounds.{InsertTakes};
+ghost use Rattle.sh_grown.specs.Callers.{IsPooled, MetDoes, MetTakes, GetsIn};
 ghost use Rattle.sh_grown.specs.Inserts.{InsertsIn, OwnsNone};
 ghost use Rattle.sh_grown.specs.Keeping.{KeepsMember};
 
@@ -257,6 +258,7 @@ pub(crate) fn remove_at(place: &mut Option<Met>, key: u64) -> Result<(), Refusal
 pub(crate) fn insert_at(place: &mut Option<Met>, chunk: u8, value: &Value) -> Result<u64, Refusal>
     requires { IsSome place.old }
     ensures inserts { MetDoes (InsertsIn value.now) place.old result place.new }
+    ensures bounded { MetTakes (InsertTakes (length value.now)) place.old place.new }
     ensures chunk { IfOk result (λ key. chunk_of key ≡ chunk) }
     ensures keeps { OnErr result (KeepsMember place.old place.new) }
 {
