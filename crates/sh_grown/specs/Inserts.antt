@@ -35,7 +35,7 @@ abbrev pub HasMet : List (Option Met) → ℕ → Type 0
 HasMet members chunk = IsSome (get_or members chunk None)
 
 -- At last the member of the key's chunk inserts the value, and no other member changes. Until then each member keeps
--- its heap, its log and its holds.
+-- its heap, its number, its log and its holds.
 abbrev pub EndsWithInsert : List ℕ → (key : ℕ) → List (Option Met) → List (Option Met) → Type 0
 EndsWithInsert value key old new = (before : List (Option Met)) × KeepsMembers old before
     × InsertsInChunk value (chunk_of key) before (Ok key) new
@@ -48,8 +48,8 @@ TriesInsert value old (Err refusal.Memory) new = KeepsMembers old new
 TriesInsert value old (Err _) new = ⊥
 
 -- An insert over the chunks of a heap that may have this many. The value is stored in the key's chunk. If it is
--- refused, each member keeps its heap, its log and its holds. It is Full only if the caller has met each chunk that the
--- heap may have, so that all are open.
+-- refused, each member keeps its heap, its number, its log and its holds. It is Full only if the caller has met each
+-- chunk that the heap may have, so that all are open.
 abbrev pub Inserts : (chunks : ℕ) → List ℕ → List (Option Met) → Result ℕ Refusal → List (Option Met) → Type 0
 Inserts chunks value old (Ok key) new = EndsWithInsert value key old new
 Inserts chunks value old (Err refusal.Full) new =
