@@ -1,14 +1,15 @@
 //! What a caller has in a chunk that it has met, and the calls of its member there.
-ghost use Rattle.std.specs.Prelude.{◌≡◌, ◌<◌, IfErr, IfOk, IfSome, IsSome, OnErr, OnOk, Some, length};
-ghost use Rattle.sh_value.specs.declared.refusal.Refusal.TheVariants.{Waiting};
+ghost use Rattle.std.specs.Prelude.{◌≡◌, ℕ, ◌<◌, ◌⊎◌, IfErr, IfOk, IfSome, IsSome, List, OnErr, OnOk, Some, length};
+ghost use Rattle.sh_value.specs.declared.refusal.Refusal.TheVariants.{Memory, Waiting};
 ghost use Rattle.sh_chunk.specs.Chunks.{chunked, chunk_of, key_within};
 ghost use Rattle.sh_pass.specs.Passes.{IsAtRest, ReadDoes, ReadIntoDoes, RemoveDoes, ReleaseDoes};
 ghost use Rattle.sh_readers.specs.Readers.{FetchDoes, FetchIntoDoes, TakeIntoDoes};
-ghost use Rattle.sh_member.specs.Sides.{SideDoes, SideCollects};
+ghost use Rattle.sh_member.specs.Sides.{SideAdopts, SideDoes, SideCollects};
 ghost use Rattle.sh_member.specs.SideBounds.{InsertTakes};
 ghost use Rattle.sh_grown.specs.Callers.{IsPooled, MetDoes, MetTakes, GetsIn};
 ghost use Rattle.sh_grown.specs.Inserts.{InsertsIn, OwnsNone};
 ghost use Rattle.sh_grown.specs.Keeping.{KeepsMember};
+ghost use Rattle.sh_grown.specs.Refusals.{OwnsThere, WaitsThere, WasRefused};
 
 use crate::guard::GrownGuard;
 use once_cell::race::Note;
@@ -295,15 +296,26 @@ pub(crate) fn shards_at(place: &Option<Met>) -> u32 {
 // shard that it owns before cannot be left.
 pub(crate) fn move_to(alloc: Global, place: &mut Option<Met>, shard: usize) -> Result<(), Refusal>
     requires { IsSome place.old }
-    ensures { KeepsMember place.old place.new }
+    ensures owns { OnOk result (OwnsThere shard place.new) }
+    ensures refused { IfErr result (λ why. (why ≡ Memory)
+        ⊎ ((value : List ℕ) → WasRefused value shard place.old place.new)) }
+    ensures keeps { KeepsMember place.old place.new }
+{
+    leave_at(place)?;
+    adopt_at(alloc, place, shard)
+}
+
+// The same of a caller that owns no shard there.
+#[tactic(auto, using(crate::proofs::Refusals::side_owns))]
+fn adopt_at(alloc: Global, place: &mut Option<Met>, shard: usize) -> Result<(), Refusal>
+    requires there { IsSome place.old }
+    requires none { OwnsNone place.old }
+    ensures adopts { MetDoes (SideAdopts shard) place.old result place.new }
+    ensures owns { OnOk result (OwnsThere shard place.new) }
+    ensures keeps { KeepsMember place.old place.new }
 {
     match place {
-        Some(met) => {
-            if met.member.owns_shard() {
-                met.member.leave()?;
-            }
-            met.member.adopt(alloc, shard as u64)
-        }
+        Some(met) => met.member.adopt(alloc, shard as u64),
         None => unreachable!(),
     }
 }
@@ -312,6 +324,8 @@ pub(crate) fn move_to(alloc: Global, place: &mut Option<Met>, shard: usize) -> R
 pub(crate) fn leave_at(place: &mut Option<Met>) -> Result<(), Refusal>
     ensures left { OnOk result (OwnsNone place.new) }
     ensures err { IfErr result (λ why. why ≡ Waiting) }
+    ensures waits { OnErr result (WaitsThere place.old place.new) }
+    ensures there { IsSome place.old → IsSome place.new }
     ensures keeps { KeepsMember place.old place.new }
 {
     let Some(met) = place else {
