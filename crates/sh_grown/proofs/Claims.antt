@@ -2,6 +2,7 @@
 use Rattle.std.proofs.Common.{◌≡◌, ℕ, ◌<◌, List, Option, Some, None, length, get_or, sym, ap, ◌∙◌, subst, arith}
 use Rattle.std.specs.Prelude.{slice_set}
 use Rattle.std.proofs.lemmas.List.{get_or-set_same, get_or-set_other, length-set}
+use Rattle.sh_grown.specs.declared.growing.Growing.{Growing}
 use Rattle.sh_grown.specs.declared.met.Met.{Met}
 use Rattle.sh_grown.specs.Callers.{Cell, IsNewcomer, IsClaimed}
 
@@ -20,3 +21,8 @@ first_goes cells number slot first empty new same is some room none put =
           ∙ (get_or-set_other empty 0 chunk (Some first) None (λ e. omega arith) ∙ none chunk);
       room = ap length put ∙ (length-set empty 0 (Some first) ∙ room);
     }
+
+-- what was claimed of a growing heap was claimed of the same one by another name
+pub claimed_alike : (g h : Growing) (number : ℕ) (members : List (Option Met)) → IsClaimed g.cells.items number members
+    → g ≡ h → IsClaimed h.cells.items number members
+claimed_alike g h number members is same = subst (λ (x : Growing). IsClaimed x.cells.items number members) same is

@@ -6,17 +6,18 @@ ghost use Rattle.sh_grown.specs.Callers.{IsClaimed, IsNewcomer, Meets, Stays, Wh
 
 use crate::growing::Growing;
 use crate::met::{Met, meet, meet_first};
+use crate::share::GrowingShare;
 use sh_value::Refusal;
 use std::alloc::Global;
 
-/// A caller of a growing heap, with a number from 0 to 63. In each chunk it has the pass of the pool slot of that
-/// number, from the first call that needs it.
+/// A caller of a growing heap, with a number from 0 to 63. In each chunk it has the pass of that number, from the first
+/// call that needs it. It has a share of the heap, so it borrows nothing.
 ///
 /// It has 16 holds in each chunk, and may own a shard in each. It ends by `end`, which gives its passes back. A caller
 /// that is dropped is lost: its number is never claimed again, and its holds and shards stay as they are.
 #[derive(Drop)]
-pub struct Caller<'a> {
-    pub(crate) growing: &'a Growing,
+pub struct Caller {
+    pub(crate) growing: GrowingShare,
     pub(crate) number: usize,
     // The chunk in which its last insert found room: the next one looks there first.
     pub(crate) front: u8,
@@ -40,23 +41,41 @@ fn no_members(alloc: Global, chunks: usize) -> Result<Vec<Option<Met>>, Refusal>
     Ok(members)
 }
 
-impl Growing {
-    /// A caller with the first number that is not claimed. It has the pass of the pool slot of that number in the first
-    /// chunk.
+impl GrowingShare {
+    /// A caller with the first number that is not claimed. It has the pass of that number in the first chunk, and a
+    /// share of the heap.
     ///
     /// The room for its members in all chunks is taken here, so that no call on a key takes memory. Refused as `Memory`
     /// before a pass is taken, and as `Taken` if it finds no pass of the first chunk in its pool.
     ///
     /// ```text
-    /// let growing = Growing::open(alloc, 64, 256)?;
+    /// let growing = GrowingShare::open(alloc, 64, 256)?;
     /// let mut caller = growing.claim(alloc)?;
     /// let key = caller.insert(alloc, &Value::from(7))?;
     /// let value = caller.fetch(key)?;
     /// ```
-    #[tactic(auto, using(crate::proofs::Claims::first_goes))]
-    pub fn claim(&self, alloc: Global) -> Result<Caller<'_>, Refusal>
-        ensures growing { IfOk result (λ caller. caller.growing.now ≡ self.now) }
+    #[tactic(auto, using(crate::proofs::Claims::claimed_alike))]
+    pub fn claim(&self, alloc: Global) -> Result<Caller, Refusal>
+        ensures growing { IfOk result (λ caller. caller.growing ≡ self.now) }
         ensures claimed { IfOk result (λ caller. IsClaimed self.now.cells.items caller.number caller.met.items) }
+        ensures err { IfErr result WhyWithout }
+    {
+        let growing = self.share()?;
+        let (number, met) = self.heap().first_members(alloc)?;
+        Ok(Caller {
+            growing,
+            number,
+            front: 0,
+            met,
+        })
+    }
+}
+
+impl Growing {
+    // What a caller begins with: its number, and its members, of which only the one in the first chunk is there.
+    #[tactic(auto, using(crate::proofs::Claims::first_goes))]
+    fn first_members(&self, alloc: Global) -> Result<(usize, Vec<Option<Met>>), Refusal>
+        ensures claimed { IfOk result (λ begun. IsClaimed self.now.cells.items begun.0 begun.1.items) }
         ensures err { IfErr result WhyWithout }
     {
         let mut met = no_members(alloc, self.chunks_allowed())?;
@@ -65,12 +84,7 @@ impl Growing {
         };
         let number = first.pool_slot.number();
         met[0] = Some(first);
-        Ok(Caller {
-            growing: self,
-            number,
-            front: 0,
-            met,
-        })
+        Ok((number, met))
     }
 
     // The first pass that is in the pool of the first chunk. `None` if none is.
@@ -83,7 +97,7 @@ impl Growing {
     }
 }
 
-impl<'a> Caller<'a> {
+impl Caller {
     /// Its number among the callers of its heap, from 0 to 63.
     pub fn number(&self) -> usize
         ensures { result ≡ self.now.number }
@@ -95,7 +109,7 @@ impl<'a> Caller<'a> {
     // it not open, and as `Taken` if its pass is not in the chunk's pool.
     pub(crate) fn meet(&mut self, chunk: usize) -> Result<(), Refusal>
         ensures met { MatchResult result
-            (λ _. Meets self.old.growing.now.cells.items self.old.number chunk self.old.met.items self.new.met.items)
+            (λ _. Meets self.old.growing.cells.items self.old.number chunk self.old.met.items self.new.met.items)
             (λ why. WhyUnmet why × (get_or self.old.met.items chunk None ≡ None)
             × (self.new.met.items ≡ self.old.met.items)) }
         ensures there { OnOk result ((chunk < length self.new.met.items)

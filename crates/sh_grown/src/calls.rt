@@ -1,4 +1,5 @@
-// The calls of a caller on keys: each is the call of its member in the key's chunk.
+// The calls of a caller on keys: each is the call of its member in the key's chunk. They are never inlined, so that a
+// handle that may have a caller saves no registers for them in the calls of other heaps.
 ghost use Rattle.std.specs.Prelude.{◌≡◌, ◌<◌, IfOk, IsSome, MatchBool, None, get_or, length};
 ghost use Rattle.sh_chunk.specs.Chunks.{chunked, chunk_of, key_within};
 ghost use Rattle.sh_pass.specs.Passes.{ReadDoes, ReadIntoDoes, RemoveDoes, ReleaseDoes};
@@ -7,8 +8,10 @@ ghost use Rattle.sh_member.specs.Sides.{SideDoes};
 ghost use Rattle.sh_grown.specs.Callers.{GrownDoes, HeldDoes, GetsIn, Stays};
 
 use crate::caller::Caller;
+use crate::guard::GrownGuard;
 use crate::met::{
-    fetch_at, fetch_into_at, get_at, read_at, read_into_at, release_at, remove_at, take_into_at,
+    fetch_at, fetch_into_at, get_at, get_guard_at, read_at, read_guard_at, read_into_at,
+    release_at, release_guard_at, remove_at, take_into_at,
 };
 use sh_chunk::Chunked;
 use sh_value::{Hold, Refusal, Value};
@@ -21,7 +24,7 @@ fn chunk_of(key: u64) -> usize
     chunk as usize
 }
 
-impl<'a> Caller<'a> {
+impl Caller {
     // Whether it has a member in this chunk.
     pub(crate) fn has_met(&self, chunk: usize) -> bool
         ensures { MatchBool result
@@ -39,9 +42,10 @@ impl<'a> Caller<'a> {
     /// As for each call on a key, `BadKey` comes if the heap may not have the key's chunk, or if the chunk returns it.
     /// It also comes if the load of that chunk's cell in this call finds it not open. A caller that has met the chunk
     /// does no such load. `Taken` comes if the caller's pass is not in the chunk's pool, which no caller brings about.
+    #[inline(never)]
     pub fn get(&mut self, key: u64) -> Result<Hold, Refusal>
         ensures does { GrownDoes (SideDoes chunked (GetsIn key))
-            self.old.growing.now.cells.items self.old.number (chunk_of key) self.old.met.items result
+            self.old.growing.cells.items self.old.number (chunk_of key) self.old.met.items result
             self.new.met.items }
         ensures hold { IfOk result (λ hold. hold.key ≡ key) }
         ensures stays { Stays self.old self.new }
@@ -51,7 +55,22 @@ impl<'a> Caller<'a> {
         get_at(&mut self.met[chunk], key)
     }
 
+    /// The same as `get`, but the hold keeps the place of the key's slot, for `read_guard` and `release_guard`.
+    #[inline(never)]
+    pub fn get_guard(&mut self, key: u64) -> Result<GrownGuard, Refusal>
+        ensures does { GrownDoes (SideDoes chunked (GetsIn key))
+            self.old.growing.cells.items self.old.number (chunk_of key) self.old.met.items result
+            self.new.met.items }
+        ensures hold { IfOk result (λ hold. hold.key ≡ key) }
+        ensures stays { Stays self.old self.new }
+    {
+        let chunk = chunk_of(key);
+        self.meet(chunk)?;
+        get_guard_at(&mut self.met[chunk], key)
+    }
+
     /// The value of a key that it holds. Refused as `NotHeld`.
+    #[inline(never)]
     pub fn read(&mut self, hold: Hold) -> Result<Value, Refusal>
         ensures does { HeldDoes (SideDoes chunked (ReadDoes (key_within hold.key))) (chunk_of hold.key)
             self.old.met.items result self.new.met.items }
@@ -65,6 +84,7 @@ impl<'a> Caller<'a> {
     }
 
     /// The same into a value of the caller's. A refusal leaves that value as it was.
+    #[inline(never)]
     pub fn read_into(&mut self, hold: Hold, value: &mut Value) -> Result<(), Refusal>
         ensures does { HeldDoes (SideDoes chunked (λ v answer w. ReadIntoDoes (key_within hold.key) v value.old
             answer value.new w)) (chunk_of hold.key) self.old.met.items result self.new.met.items }
@@ -77,7 +97,23 @@ impl<'a> Caller<'a> {
         read_into_at(&mut self.met[chunk], hold, value)
     }
 
+    /// The same as `read_into`, by a hold that keeps its place.
+    #[inline(never)]
+    pub fn read_guard(&mut self, guard: &GrownGuard, value: &mut Value) -> Result<(), Refusal>
+        ensures does { HeldDoes (SideDoes chunked (λ v answer w. ReadIntoDoes (key_within guard.now.key) v value.old
+            answer value.new w)) (chunk_of guard.now.key) self.old.met.items result self.new.met.items }
+        ensures stays { Stays self.old self.new }
+    {
+        let key = guard.key();
+        let chunk = chunk_of(key);
+        if !self.has_met(chunk) {
+            return Err(Refusal::NotHeld);
+        }
+        read_guard_at(&mut self.met[chunk], guard, value)
+    }
+
     /// Gives one hold on a key back. Refused as `NotHeld`.
+    #[inline(never)]
     pub fn release(&mut self, hold: Hold) -> Result<(), Refusal>
         ensures does { HeldDoes (SideDoes chunked (ReleaseDoes chunked (key_within hold.key))) (chunk_of hold.key)
             self.old.met.items result self.new.met.items }
@@ -90,10 +126,26 @@ impl<'a> Caller<'a> {
         release_at(&mut self.met[chunk], hold)
     }
 
+    /// The same as `release`, of a hold that keeps its place.
+    #[inline(never)]
+    pub fn release_guard(&mut self, guard: GrownGuard) -> Result<(), Refusal>
+        ensures does { HeldDoes (SideDoes chunked (ReleaseDoes chunked (key_within guard.key))) (chunk_of guard.key)
+            self.old.met.items result self.new.met.items }
+        ensures stays { Stays self.old self.new }
+    {
+        let key = guard.key();
+        let chunk = chunk_of(key);
+        if !self.has_met(chunk) {
+            return Err(Refusal::NotHeld);
+        }
+        release_guard_at(&mut self.met[chunk], guard)
+    }
+
     /// The value of a key: a get, a read and a release in one. Refused as a get is. It leaves the holds as they were.
+    #[inline(never)]
     pub fn fetch(&mut self, key: u64) -> Result<Value, Refusal>
         ensures does { GrownDoes (SideDoes chunked (FetchDoes chunked (key_within key)))
-            self.old.growing.now.cells.items self.old.number (chunk_of key) self.old.met.items result
+            self.old.growing.cells.items self.old.number (chunk_of key) self.old.met.items result
             self.new.met.items }
         ensures stays { Stays self.old self.new }
     {
@@ -103,10 +155,11 @@ impl<'a> Caller<'a> {
     }
 
     /// The same into a value of the caller's. A refusal leaves that value as it was.
+    #[inline(never)]
     pub fn fetch_into(&mut self, key: u64, value: &mut Value) -> Result<(), Refusal>
         ensures does { GrownDoes (SideDoes chunked (λ v answer w. FetchIntoDoes chunked (key_within key) v value.old
             answer value.new w))
-            self.old.growing.now.cells.items self.old.number (chunk_of key) self.old.met.items result
+            self.old.growing.cells.items self.old.number (chunk_of key) self.old.met.items result
             self.new.met.items }
         ensures stays { Stays self.old self.new }
     {
@@ -118,10 +171,11 @@ impl<'a> Caller<'a> {
     /// The value of a key, which this call removes, into a value of the caller's. A value of more than `most` words
     /// goes there too, but its key is not removed. Refused as a get is, and as `Gone` if another thread removed the key
     /// after the get.
+    #[inline(never)]
     pub fn take_into(&mut self, key: u64, most: usize, value: &mut Value) -> Result<(), Refusal>
         ensures does { GrownDoes (SideDoes chunked (λ v answer w. TakeIntoDoes chunked (key_within key) most v answer
             value.new w))
-            self.old.growing.now.cells.items self.old.number (chunk_of key) self.old.met.items result
+            self.old.growing.cells.items self.old.number (chunk_of key) self.old.met.items result
             self.new.met.items }
         ensures stays { Stays self.old self.new }
     {
@@ -132,9 +186,10 @@ impl<'a> Caller<'a> {
 
     /// Removes a key: no later get finds it, and its value stays until the last hold goes. Refused as `BadKey` or
     /// `Gone`.
+    #[inline(never)]
     pub fn remove(&mut self, key: u64) -> Result<(), Refusal>
         ensures does { GrownDoes (SideDoes chunked (RemoveDoes chunked (key_within key)))
-            self.old.growing.now.cells.items self.old.number (chunk_of key) self.old.met.items result
+            self.old.growing.cells.items self.old.number (chunk_of key) self.old.met.items result
             self.new.met.items }
         ensures stays { Stays self.old self.new }
     {

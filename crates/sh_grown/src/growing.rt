@@ -40,7 +40,7 @@ fn new_chunk(alloc: Global, shape: Shape) -> Result<Box<Share<Chunked>>, Refusal
 }
 
 impl Growing {
-    ghost use Rattle.sh_grown.specs.Growing.{OpensGrowing, WhyUnopened};
+    ghost use Rattle.sh_grown.specs.Growing.{OpensAhead, OpensGrowing, OpensGrowingFor, WhyUnopened};
 
     /// A growing heap of at most `chunks` chunks, from 1 to 256, with this many passes, from 1 to 64. The first chunk
     /// is opened. Refused as `BadShape` exactly if a number is outside its limits, and as `Memory` if memory is
@@ -56,6 +56,48 @@ impl Growing {
             return Err(Refusal::BadShape);
         }
         let first = new_chunk(alloc, chunk_shape(0, passes))?;
+        Growing::of_first(alloc, first, passes, chunks)
+    }
+
+    /// The same with another first chunk: the least one in which each of `owners` owners has a shard with room for
+    /// `values` values of `words` words. It is refused as `BadShape` also if no chunk has the room. Later chunks have
+    /// the shapes of their numbers.
+    ///
+    /// ```text
+    /// let growing = Growing::open_for(alloc, 4, 10_000, 1, 64, 256)?;   // 10,000 values for each of 4 owners
+    /// ```
+    pub fn open_for(
+        alloc: Global,
+        owners: u32,
+        values: u64,
+        words: usize,
+        passes: u32,
+        chunks: usize,
+    ) -> Result<Growing, Refusal>
+        ensures { OpensGrowingFor owners values words passes chunks result }
+    {
+        if passes < 1 || 64 < passes || chunks < 1 || CHUNKS < chunks {
+            return Err(Refusal::BadShape);
+        }
+        let shape = Shape::with_room::<Chunked>(owners, values, words, passes)?;
+        let first = new_chunk(alloc, shape)?;
+        Growing::of_first(alloc, first, passes, chunks)
+    }
+
+    // A growing heap that may have this many chunks, of which the first one is open.
+    fn of_first(
+        alloc: Global,
+        first: Box<Share<Chunked>>,
+        passes: u32,
+        chunks: usize,
+    ) -> Result<Growing, Refusal>
+        requires some_pass { 1 ≤ passes }
+        requires few_passes { passes ≤ 64 }
+        requires some_chunk { 1 ≤ chunks }
+        requires few_chunks { chunks ≤ 256 }
+        ensures { MatchResult result (λ growing. (growing.passes ≡ passes) × (length growing.cells.items ≡ chunks))
+            (λ why. why ≡ Memory) }
+    {
         let mut cells = Vec::new(alloc);
         if cells.push(OnceBox::with_value(first)).is_err() {
             return Err(Refusal::Memory);
@@ -79,7 +121,9 @@ impl Growing {
 
     /// How many passes it has, from 1 to 64: as many callers may be claimed at a time.
     pub fn passes(&self) -> u32
-        ensures { result ≡ self.now.passes }
+        ensures count { result ≡ self.now.passes }
+        ensures some { 1 ≤ result }
+        ensures few { result ≤ 64 }
     {
         self.passes
     }
@@ -90,6 +134,35 @@ impl Growing {
             .iter()
             .filter(|cell| cell.get().is_some())
             .count()
+    }
+
+    /// Opens the first chunk that is not open, outside an insert, and returns its number. A later insert then finds it
+    /// open. So another thread than those that insert can wait for the memory: all words of a chunk are written as it
+    /// opens.
+    ///
+    /// If another thread opens the same chunk at once, one of them frees its own heap, and both return the number.
+    /// Refused as `Full` if each chunk that the heap may have is open, and as `Memory` if memory is refused.
+    ///
+    /// ```text
+    /// let growing = Growing::open(alloc, 64, 256)?;
+    /// let chunk = growing.open_ahead(alloc)?;   // 1
+    /// ```
+    pub fn open_ahead(&self, alloc: Global) -> Result<usize, Refusal>
+        ensures { OpensAhead (length self.now.cells.items) result }
+    {
+        for chunk in 0..self.chunks_allowed() {
+            let Some(mut note) = self.note(chunk) else {
+                return Err(Refusal::Full);
+            };
+            if self.seen(chunk, &mut note).is_none() {
+                return match self.opened(alloc, chunk as u8, &mut note) {
+                    Ok(_) => Ok(chunk),
+                    Err(Refusal::Memory) => Err(Refusal::Memory),
+                    Err(_) => Err(Refusal::Full),
+                };
+            }
+        }
+        Err(Refusal::Full)
     }
 
     // A note of what is known of this chunk's cell: nothing yet. `None` if the heap may not have the chunk.

@@ -3,7 +3,8 @@ ghost use Rattle.std.specs.Prelude.{◌≡◌, IfErr, IfOk, OnErr, OnOk, length}
 ghost use Rattle.sh_value.specs.declared.refusal.Refusal.TheVariants.{Memory};
 ghost use Rattle.sh_chunk.specs.Chunks.{chunk_of};
 ghost use Rattle.sh_grown.specs.Callers.{Stays, WhyWithout};
-ghost use Rattle.sh_grown.specs.Inserts.{InsertsInChunk, CollectsInChunk, Inserts, TriesInsert, HasMet};
+ghost use Rattle.sh_grown.specs.Inserts.{InsertsInChunk, InsertTakesInChunk, CollectsInChunk, Inserts, TriesInsert};
+ghost use Rattle.sh_grown.specs.Inserts.{HasMet};
 ghost use Rattle.sh_grown.specs.Keeping.{KeepsMembers};
 
 use crate::caller::Caller;
@@ -11,7 +12,7 @@ use crate::met::{collect_at, insert_at, meet, move_to, shards_at};
 use sh_value::{Refusal, Value};
 use std::alloc::Global;
 
-impl<'a> Caller<'a> {
+impl Caller {
     /// Stores a value under a new key, and returns the key.
     ///
     /// It tries the chunk of its last insert, and then each chunk in which it owns a shard. Then it collects in the
@@ -26,7 +27,7 @@ impl<'a> Caller<'a> {
     /// its holds as they were.
     #[tactic(auto, using(crate::proofs::Keeping::inserts_then))]
     pub fn insert(&mut self, alloc: Global, value: &Value) -> Result<u64, Refusal>
-        ensures inserts { Inserts (length self.old.growing.now.cells.items) value.now self.old.met.items result
+        ensures inserts { Inserts (length self.old.growing.cells.items) value.now self.old.met.items result
             self.new.met.items }
         ensures stays { Stays self.old self.new }
     {
@@ -41,6 +42,7 @@ impl<'a> Caller<'a> {
     /// none there, and otherwise as `Full` or `Memory`.
     pub fn insert_in(&mut self, chunk: u8, value: &Value) -> Result<u64, Refusal>
         ensures inserts { InsertsInChunk value.now chunk self.old.met.items result self.new.met.items }
+        ensures bounded { InsertTakesInChunk value.now chunk self.old.met.items self.new.met.items }
         ensures chunk { IfOk result (λ key. chunk_of key ≡ chunk) }
         ensures keeps { OnErr result (KeepsMembers self.old.met.items self.new.met.items) }
         ensures stays { Stays self.old self.new }
@@ -62,6 +64,18 @@ impl<'a> Caller<'a> {
             return Err(Refusal::NoShard);
         }
         collect_at(&mut self.met[chunk as usize])
+    }
+
+    /// Collects what others freed in each shard that it owns. The caller's logs and holds stay as they were.
+    #[tactic(auto, using(crate::proofs::Keeping::keeps_then))]
+    pub fn collect(&mut self)
+        ensures keeps { KeepsMembers self.old.met.items self.new.met.items }
+        ensures stays { Stays self.old self.new }
+    {
+        for number in 0..self.growing.chunks_allowed() {
+            // Refused if it owns no shard there: then there is nothing to collect.
+            self.collect_in(number as u8).ok();
+        }
     }
 
     // Stores a value in the shard that it owns in this chunk, which is then the first to be tried. `None` if it owns
@@ -125,7 +139,7 @@ impl<'a> Caller<'a> {
 
     // Stores a value in the first chunk that has room for it. A chunk that is not open is opened.
     fn insert_in_any(&mut self, alloc: Global, value: &Value) -> Result<u64, Refusal>
-        ensures inserts { Inserts (length self.old.growing.now.cells.items) value.now self.old.met.items result
+        ensures inserts { Inserts (length self.old.growing.cells.items) value.now self.old.met.items result
             self.new.met.items }
         ensures stays { Stays self.old self.new }
     {

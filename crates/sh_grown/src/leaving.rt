@@ -9,7 +9,7 @@ use crate::caller::Caller;
 use crate::met::{go_home_each, leave_at};
 use sh_value::Refusal;
 
-impl<'a> Caller<'a> {
+impl Caller {
     /// Leaves the shards that it owns, in each chunk. Refused as `Waiting` if another caller has begun a free in one of
     /// them that is yet to end: then it still owns that one, and those of later chunks.
     pub fn leave(&mut self) -> Result<(), Refusal>
@@ -28,15 +28,26 @@ impl<'a> Caller<'a> {
     /// Leaves its shards and gives its passes back, from the last chunk to the first, so that its number can be claimed
     /// again. Refused as `Waiting` as `leave` is: then the caller comes back.
     pub fn end(self) -> Result<(), (Self, Refusal)>
-        ensures { IfErr result (λ back. Stays self.entry back.0 × (back.1 ≡ Waiting)
-            × KeepsMembers self.entry.met.items back.0.met.items) }
+        ensures { IfErr result (λ back. Stays self back.0 × (back.1 ≡ Waiting)
+            × KeepsMembers self.met.items back.0.met.items) }
     {
         let mut caller = self;
         if let Err(why) = caller.leave() {
             return Err((caller, why));
         }
-        let Caller { met, .. } = caller;
-        go_home_each(met);
+        caller.give_back();
         Ok(())
+    }
+
+    /// Gives its passes back, from the last chunk to the first, and drops its share of the heap. A pass that owns a
+    /// shard is lost with it, so that its number cannot be claimed again: `end` leaves the shards first.
+    pub fn give_back(self) {
+        let Caller {
+            growing: _,
+            number: _,
+            front: _,
+            met,
+        } = self;
+        go_home_each(met);
     }
 }

@@ -2,7 +2,7 @@
 //!
 //! No clause says which chunk an insert goes to, or that what others freed is used before a chunk is opened. Nor does
 //! one say that a number is claimed again, or that two threads get one chunk.
-use sh_grown::{Caller, Growing};
+use sh_grown::{Caller, Growing, GrowingShare, NotTold};
 use sh_value::{Refusal, Value};
 use std::alloc::Global;
 use std::fmt::Debug;
@@ -20,13 +20,7 @@ fn agree<T: PartialEq + Debug + Drop>(rt: &impl Abort, found: T, wanted: T) {
 }
 
 // Stores the numbers from `from` on, and returns their keys in order.
-fn stored(
-    rt: &impl Abort,
-    alloc: Global,
-    caller: &mut Caller<'_>,
-    from: u64,
-    count: u64,
-) -> Vec<u64> {
+fn stored(rt: &impl Abort, alloc: Global, caller: &mut Caller, from: u64, count: u64) -> Vec<u64> {
     let mut keys = Vec::new(alloc);
     for n in 0..count {
         let key = caller
@@ -38,7 +32,7 @@ fn stored(
 }
 
 // Asserts that the keys have the numbers from `from` on.
-fn has_all(rt: &impl Abort, caller: &mut Caller<'_>, keys: &[u64], from: u64) {
+fn has_all(rt: &impl Abort, caller: &mut Caller, keys: &[u64], from: u64) {
     let mut wanted = from;
     for key in keys {
         agree(rt, caller.fetch(*key), Ok(Value::from(wanted)));
@@ -48,12 +42,12 @@ fn has_all(rt: &impl Abort, caller: &mut Caller<'_>, keys: &[u64], from: u64) {
 
 #[test]
 fn values_of_several_chunks_are_found(rt: HostRuntime) {
-    let growing = Growing::open(rt.alloc(), 2, 256).expect(&rt, "a heap");
+    let growing = GrowingShare::open(rt.alloc(), 2, 256).expect(&rt, "a heap");
     let mut caller = growing.claim(rt.alloc()).expect(&rt, "a caller");
     let mut other = growing.claim(rt.alloc()).expect(&rt, "another caller");
     agree(&rt, (caller.number(), other.number()), (0, 1));
     let keys = stored(&rt, rt.alloc(), &mut caller, 0, 3000);
-    agree(&rt, growing.chunks(), 5);
+    agree(&rt, growing.heap().chunks(), 5);
     has_all(&rt, &mut other, &keys, 0);
     for key in keys.iter().step_by(3) {
         agree(&rt, other.remove(*key), Ok(()));
@@ -61,14 +55,14 @@ fn values_of_several_chunks_are_found(rt: HostRuntime) {
     }
     // What the other removed is used again before a chunk is opened.
     let more = stored(&rt, rt.alloc(), &mut caller, 5000, 1000);
-    agree(&rt, growing.chunks(), 5);
+    agree(&rt, growing.heap().chunks(), 5);
     has_all(&rt, &mut other, &more, 5000);
 }
 
 // The numbers of chunks at bits 56 to 63, by hand: 768 values go to chunk 0, and the next one to chunk 1.
 #[test]
 fn a_key_has_the_number_of_its_chunk(rt: HostRuntime) {
-    let growing = Growing::open(rt.alloc(), 1, 3).expect(&rt, "a heap");
+    let growing = GrowingShare::open(rt.alloc(), 1, 3).expect(&rt, "a heap");
     let mut caller = growing.claim(rt.alloc()).expect(&rt, "a caller");
     let keys = stored(&rt, rt.alloc(), &mut caller, 0, FIRST + 1);
     agree(&rt, keys.get(767).map(|key| *key >> 56), Some(0));
@@ -93,11 +87,11 @@ fn a_key_has_the_number_of_its_chunk(rt: HostRuntime) {
 
 #[test]
 fn a_heap_whose_chunks_are_full_is_full(rt: HostRuntime) {
-    let growing = Growing::open(rt.alloc(), 2, 3).expect(&rt, "a heap");
+    let growing = GrowingShare::open(rt.alloc(), 2, 3).expect(&rt, "a heap");
     let mut caller = growing.claim(rt.alloc()).expect(&rt, "a caller");
     let mut other = growing.claim(rt.alloc()).expect(&rt, "another caller");
     let keys = stored(&rt, rt.alloc(), &mut caller, 0, THREE);
-    agree(&rt, growing.chunks(), 3);
+    agree(&rt, growing.heap().chunks(), 3);
     agree(
         &rt,
         caller.insert(rt.alloc(), &Value::from(1)),
@@ -121,8 +115,25 @@ fn a_heap_whose_chunks_are_full_is_full(rt: HostRuntime) {
 }
 
 #[test]
+fn chunks_are_opened_ahead(rt: HostRuntime) {
+    let growing = GrowingShare::open(rt.alloc(), 1, 3).expect(&rt, "a heap");
+    agree(&rt, growing.heap().open_ahead(rt.alloc()), Ok(1));
+    agree(&rt, growing.heap().open_ahead(rt.alloc()), Ok(2));
+    agree(&rt, growing.heap().chunks(), 3);
+    agree(
+        &rt,
+        growing.heap().open_ahead(rt.alloc()),
+        Err(Refusal::Full),
+    );
+    let mut caller = growing.claim(rt.alloc()).expect(&rt, "a caller");
+    let keys = stored(&rt, rt.alloc(), &mut caller, 0, THREE);
+    agree(&rt, growing.heap().chunks(), 3);
+    has_all(&rt, &mut caller, &keys, 0);
+}
+
+#[test]
 fn holds_count_in_each_chunk(rt: HostRuntime) {
-    let growing = Growing::open(rt.alloc(), 2, 3).expect(&rt, "a heap");
+    let growing = GrowingShare::open(rt.alloc(), 2, 3).expect(&rt, "a heap");
     let mut caller = growing.claim(rt.alloc()).expect(&rt, "a caller");
     let mut other = growing.claim(rt.alloc()).expect(&rt, "another caller");
     let keys = stored(&rt, rt.alloc(), &mut caller, 0, FIRST + 1);
@@ -144,9 +155,29 @@ fn holds_count_in_each_chunk(rt: HostRuntime) {
     agree(&rt, other.release(hold), Err(Refusal::NotHeld));
 }
 
+// The last key is of chunk 1.
+#[test]
+fn a_guard_serves_as_the_hold_of_its_key(rt: HostRuntime) {
+    let growing = GrowingShare::open(rt.alloc(), 2, 3).expect(&rt, "a heap");
+    let mut caller = growing.claim(rt.alloc()).expect(&rt, "a caller");
+    let mut other = growing.claim(rt.alloc()).expect(&rt, "another caller");
+    let keys = stored(&rt, rt.alloc(), &mut caller, 0, FIRST + 1);
+    let Some(key) = keys.last() else {
+        return;
+    };
+    let guard = other.get_guard(*key).expect(&rt, "a guard");
+    agree(&rt, caller.remove(*key), Ok(()));
+    let mut value = Value::from(0);
+    agree(&rt, other.read_guard(&guard, &mut value), Ok(()));
+    agree(&rt, value, Value::from(FIRST));
+    agree(&rt, other.read(guard.hold()), Ok(Value::from(FIRST)));
+    agree(&rt, other.release_guard(guard), Ok(()));
+    agree(&rt, other.get_guard(*key).err(), Some(Refusal::Gone));
+}
+
 #[test]
 fn a_number_is_claimed_again(rt: HostRuntime) {
-    let growing = Growing::open(rt.alloc(), 2, 3).expect(&rt, "a heap");
+    let growing = GrowingShare::open(rt.alloc(), 2, 3).expect(&rt, "a heap");
     let mut caller = growing.claim(rt.alloc()).expect(&rt, "a caller");
     let other = growing.claim(rt.alloc()).expect(&rt, "another caller");
     agree(&rt, growing.claim(rt.alloc()).err(), Some(Refusal::Taken));
@@ -159,37 +190,138 @@ fn a_number_is_claimed_again(rt: HostRuntime) {
     agree(&rt, again.insert(rt.alloc(), &Value::from(9)).is_ok(), true);
 }
 
+// The heap goes on with the callers, after the last handle of it is dropped.
+#[test]
+fn a_caller_keeps_its_heap(rt: HostRuntime) {
+    let growing = GrowingShare::open(rt.alloc(), 2, 3).expect(&rt, "a heap");
+    let other = growing.share().expect(&rt, "a share");
+    let mut caller = growing.claim(rt.alloc()).expect(&rt, "a caller");
+    drop(growing);
+    let keys = stored(&rt, rt.alloc(), &mut caller, 0, FIRST + 1);
+    let mut second = other.claim(rt.alloc()).expect(&rt, "another caller");
+    drop(other);
+    agree(&rt, caller.end().is_ok(), true);
+    has_all(&rt, &mut second, &keys, 0);
+}
+
+// What another caller removed is collected in each chunk in which a shard is owned, and its slots are used again.
+#[test]
+fn a_collect_is_in_each_chunk(rt: HostRuntime) {
+    let growing = GrowingShare::open(rt.alloc(), 2, 3).expect(&rt, "a heap");
+    let mut caller = growing.claim(rt.alloc()).expect(&rt, "a caller");
+    let mut other = growing.claim(rt.alloc()).expect(&rt, "another caller");
+    caller.collect();
+    let keys = stored(&rt, rt.alloc(), &mut caller, 0, THREE);
+    for key in keys.iter().step_by(3) {
+        agree(&rt, other.remove(*key), Ok(()));
+    }
+    caller.collect();
+    let more = stored(&rt, rt.alloc(), &mut caller, 5000, THREE / 3);
+    agree(&rt, growing.heap().chunks(), 3);
+    has_all(&rt, &mut other, &more, 5000);
+}
+
+// How many values a chunk that was gathered has.
+fn live_in(growing: &Growing, number: usize) -> Option<u32> {
+    match growing.chunk(number)?.totals() {
+        Ok(sums) => Some(sums.live),
+        Err(_) => None,
+    }
+}
+
+// The chunks are gathered once no caller is claimed.
+#[test]
+fn chunks_are_gathered_and_counted(rt: HostRuntime) {
+    let growing = GrowingShare::open(rt.alloc(), 2, 3).expect(&rt, "a heap");
+    let mut caller = growing.claim(rt.alloc()).expect(&rt, "a caller");
+    let keys = stored(&rt, rt.alloc(), &mut caller, 0, FIRST + 1);
+    agree(&rt, growing.heap().gather(rt.alloc()), Err(NotTold::Away));
+    agree(&rt, caller.end().is_ok(), true);
+    agree(&rt, live_in(growing.heap(), 0), None);
+    agree(&rt, growing.heap().gather(rt.alloc()), Ok(()));
+    agree(&rt, live_in(growing.heap(), 0), Some(768));
+    agree(&rt, live_in(growing.heap(), 1), Some(1));
+    agree(&rt, growing.heap().chunk(2).is_none(), true);
+    // The joined passes are the last of each chunk.
+    let mut again = growing.claim(rt.alloc()).expect(&rt, "a caller again");
+    agree(&rt, again.number(), 1);
+    has_all(&rt, &mut again, &keys, 0);
+}
+
+// Chunk 1 has one shard of 8 pages, of which the first one has a value.
+#[test]
+fn a_page_of_a_chunk_is_counted(rt: HostRuntime) {
+    let growing = GrowingShare::open(rt.alloc(), 1, 2).expect(&rt, "a heap");
+    let mut caller = growing.claim(rt.alloc()).expect(&rt, "a caller");
+    let _keys = stored(&rt, rt.alloc(), &mut caller, 0, FIRST + 1);
+    agree(&rt, caller.end().is_ok(), true);
+    let Some(chunk) = growing.heap().chunk(1) else {
+        return;
+    };
+    agree(&rt, chunk.shape().shards(), 1);
+    agree(&rt, chunk.accounts(0, 0).map(|page| page.live), Ok(1));
+    agree(&rt, chunk.accounts(1, 0).err(), Some(NotTold::NoPage));
+}
+
 #[test]
 fn numbers_outside_the_limits_are_refused(rt: HostRuntime) {
     agree(
         &rt,
-        Growing::open(rt.alloc(), 0, 1).err(),
+        GrowingShare::open(rt.alloc(), 0, 1).err(),
         Some(Refusal::BadShape),
     );
     agree(
         &rt,
-        Growing::open(rt.alloc(), 65, 1).err(),
+        GrowingShare::open(rt.alloc(), 65, 1).err(),
         Some(Refusal::BadShape),
     );
     agree(
         &rt,
-        Growing::open(rt.alloc(), 1, 0).err(),
+        GrowingShare::open(rt.alloc(), 1, 0).err(),
         Some(Refusal::BadShape),
     );
     agree(
         &rt,
-        Growing::open(rt.alloc(), 1, 257).err(),
+        GrowingShare::open(rt.alloc(), 1, 257).err(),
+        Some(Refusal::BadShape),
+    );
+}
+
+// 384 slots a segment: two owners of 500 values each get two segments each, so 1,536 values fit before chunk 1 opens.
+#[test]
+fn the_first_chunk_has_the_room_that_is_asked_for(rt: HostRuntime) {
+    let growing = GrowingShare::open_for(rt.alloc(), 2, 500, 1, 2, 3).expect(&rt, "a heap");
+    let mut caller = growing.claim(rt.alloc()).expect(&rt, "a caller");
+    let keys = stored(&rt, rt.alloc(), &mut caller, 0, THREE);
+    agree(&rt, growing.heap().chunks(), 1);
+    let more = stored(&rt, rt.alloc(), &mut caller, THREE, 1);
+    agree(&rt, growing.heap().chunks(), 2);
+    has_all(&rt, &mut caller, &keys, 0);
+    has_all(&rt, &mut caller, &more, THREE);
+}
+
+// A chunk has at most 64 shards, and at most 512 segments a shard, of 24 slots for 16 words each.
+#[test]
+fn no_first_chunk_has_more_room_than_a_chunk(rt: HostRuntime) {
+    agree(
+        &rt,
+        GrowingShare::open_for(rt.alloc(), 65, 1, 1, 1, 1).err(),
+        Some(Refusal::BadShape),
+    );
+    agree(
+        &rt,
+        GrowingShare::open_for(rt.alloc(), 1, 12_289, 16, 1, 1).err(),
+        Some(Refusal::BadShape),
+    );
+    agree(
+        &rt,
+        GrowingShare::open_for(rt.alloc(), 1, 1, 1, 1, 257).err(),
         Some(Refusal::BadShape),
     );
 }
 
 // A thread's work: its caller stores numbers, and comes back with their keys.
-fn fills<'a>(
-    rt: &impl Abort,
-    alloc: Global,
-    mut caller: Caller<'a>,
-    from: u64,
-) -> (Caller<'a>, Vec<u64>) {
+fn fills(rt: &impl Abort, alloc: Global, mut caller: Caller, from: u64) -> (Caller, Vec<u64>) {
     let keys = stored(rt, alloc, &mut caller, from, 700);
     (caller, keys)
 }
@@ -198,7 +330,7 @@ fn fills<'a>(
 // chunk.
 #[test]
 fn two_threads_open_the_same_chunks(rt: HostRuntime) {
-    let growing = Growing::open(rt.alloc(), 2, 3).expect(&rt, "a heap");
+    let growing = GrowingShare::open(rt.alloc(), 2, 3).expect(&rt, "a heap");
     let one = growing.claim(rt.alloc()).expect(&rt, "a caller");
     let other = growing.claim(rt.alloc()).expect(&rt, "another caller");
     let alloc = rt.alloc();
@@ -207,7 +339,7 @@ fn two_threads_open_the_same_chunks(rt: HostRuntime) {
         || fills(&rt, alloc, one, 0),
         || fills(&rt, alloc, other, 10_000),
     );
-    agree(&rt, growing.chunks(), 3);
+    agree(&rt, growing.heap().chunks(), 3);
     has_all(&rt, &mut one, &low, 0);
     has_all(&rt, &mut one, &high, 10_000);
     has_all(&rt, &mut other, &low, 0);
@@ -215,18 +347,18 @@ fn two_threads_open_the_same_chunks(rt: HostRuntime) {
 }
 
 // Opens a heap, and asks once more if memory was refused.
-fn opened_with_memory(rt: &impl Abort, alloc: Global) -> Growing {
-    match Growing::open(alloc, 1, 3) {
+fn opened_with_memory(rt: &impl Abort, alloc: Global) -> GrowingShare {
+    match GrowingShare::open(alloc, 1, 3) {
         Ok(growing) => growing,
         Err(why) => {
             agree(rt, why, Refusal::Memory);
-            Growing::open(alloc, 1, 3).expect(rt, "a heap")
+            GrowingShare::open(alloc, 1, 3).expect(rt, "a heap")
         }
     }
 }
 
 // The same for a caller.
-fn claimed_with_memory<'a>(rt: &impl Abort, alloc: Global, growing: &'a Growing) -> Caller<'a> {
+fn claimed_with_memory(rt: &impl Abort, alloc: Global, growing: &GrowingShare) -> Caller {
     match growing.claim(alloc) {
         Ok(caller) => caller,
         Err(why) => {
@@ -237,7 +369,7 @@ fn claimed_with_memory<'a>(rt: &impl Abort, alloc: Global, growing: &'a Growing)
 }
 
 // The same for an insert.
-fn inserted_with_memory(rt: &impl Abort, alloc: Global, caller: &mut Caller<'_>, n: u64) -> u64 {
+fn inserted_with_memory(rt: &impl Abort, alloc: Global, caller: &mut Caller, n: u64) -> u64 {
     match caller.insert(alloc, &Value::from(n)) {
         Ok(key) => key,
         Err(why) => {
@@ -248,7 +380,7 @@ fn inserted_with_memory(rt: &impl Abort, alloc: Global, caller: &mut Caller<'_>,
 }
 
 // Asserts that an insert finds no room, and asks once more if memory was refused to an adoption.
-fn is_full(rt: &impl Abort, alloc: Global, caller: &mut Caller<'_>) {
+fn is_full(rt: &impl Abort, alloc: Global, caller: &mut Caller) {
     let mut answer = caller.insert(alloc, &Value::from(1));
     if matches!(answer, Err(Refusal::Memory)) {
         answer = caller.insert(alloc, &Value::from(1));
@@ -265,6 +397,6 @@ fn refused_memory_opens_nothing(rt: HostRuntime) {
         let key = inserted_with_memory(&rt, rt.alloc(), &mut caller, n);
         agree(&rt, caller.fetch(key), Ok(Value::from(n)));
     }
-    agree(&rt, growing.chunks(), 3);
+    agree(&rt, growing.heap().chunks(), 3);
     is_full(&rt, rt.alloc(), &mut caller);
 }

@@ -1,0 +1,4 @@
+use Rattle.sh_grown.proofs.share.GrowingShare.opened.Goals as goal
+
+pub opened-requires : goal.opened-requires
+opened-requires c = rw c.heap.ensures c.requires
