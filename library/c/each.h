@@ -13,6 +13,7 @@ static void each_call_of_a_heap(shardheap *heap, uint32_t refused) {
     uint64_t place = 55, key = 77;
     IS(shardheap_open(heap, SHARDHEAP_TINY, 1, 1, 1), refused);
     IS(shardheap_open_for(heap, SHARDHEAP_TINY, 1, 1, 1, 1), refused);
+    IS(shardheap_open_growing(heap, 1, 1, 1, 1, 1), refused);
     IS(shardheap_share(heap, &other), refused);
     IS(shardheap_take(heap, &pass), refused);
     IS(shardheap_gather(heap), refused);
@@ -20,7 +21,7 @@ static void each_call_of_a_heap(shardheap *heap, uint32_t refused) {
     IS(shardheap_totals(heap, &sums), refused);
     IS(shardheap_next_key(heap, &place, &key), refused);
     TRUE(place == 55 && key == 77);
-    TRUE(shardheap_passes(heap) == 0);
+    TRUE(shardheap_passes(heap) == 0 && shardheap_chunks(heap) == 0);
     shardheap_close(heap);
     TRUE(memcmp(heap, &was, sizeof was) == 0);
 }

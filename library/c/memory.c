@@ -107,6 +107,29 @@ static void shares(uint32_t layout) {
     TRUE(blocks == 0);
 }
 
+/* A growing heap: chunk 0 has 24 slots for 16 words, and the 25th value opens chunk 1. */
+static void grows(void) {
+    shardheap heap = SHARDHEAP_INIT, other = SHARDHEAP_INIT;
+    shardheap_pass one = SHARDHEAP_INIT, two = SHARDHEAP_INIT;
+    uint64_t room[16], length;
+    TRY(shardheap_open_growing(&heap, 1, 1, 16, 2, 3), !heap.full);
+    TRY(shardheap_share(&heap, &other), !other.full && heap.full);
+    shardheap_close(&heap);
+    TRY(shardheap_take(&other, &one), !one.full && other.full);
+    TRY(shardheap_take(&other, &two), !two.full && other.full);
+    for (int n = 0; n < 25; n++) {
+        uint64_t key = 77;
+        TRY(shardheap_insert(&one, words, 16, &key), key == 77);
+        IS(shardheap_load(&two, key, room, 16, &length), SHARDHEAP_OK);
+        TRUE(length == 16 && room[2] == 3);
+    }
+    TRUE(shardheap_chunks(&other) == 2);
+    IS(shardheap_give(&one), SHARDHEAP_OK);
+    IS(shardheap_pass_lose(&two), SHARDHEAP_OK);
+    shardheap_close(&other);
+    TRUE(blocks == 0);
+}
+
 /* A heap's whole life. */
 static void lives(uint32_t layout) {
     shardheap heap = SHARDHEAP_INIT;
@@ -126,6 +149,7 @@ static void lives(uint32_t layout) {
     TRUE(blocks == 0);
     opens_for(layout);
     shares(layout);
+    if (layout == SHARDHEAP_DEEP) grows();
 }
 
 /* How many allocations a life in this layout takes, each of which is refused in turn. */

@@ -15,7 +15,7 @@
 static _Alignas(64) unsigned char stack[STACK];
 static ucontext_t here, there;
 static void (*action)(void);
-static size_t base, most_of_short, most_of_long;
+static size_t base, most_of_short, most_of_long, most_in_growing;
 static int shows;
 
 static shardheap heap, other;
@@ -54,10 +54,13 @@ static void measure(const char *name, void (*what)(void), size_t *most) {
 /* What shardheap.h says takes at most 1 KiB, and what takes at most 8 KiB. */
 #define SHORT_CALL(call) measure(#call, call, &most_of_short)
 #define LONG_CALL(call) measure(#call, call, &most_of_long)
+/* A call in a growing heap, of which the header says no number. */
+#define GROWING_CALL(call) measure(#call " in a growing heap", call, &most_in_growing)
 
 static void nothing(void) { code = 0; }
 static void open(void) { code = shardheap_open(&heap, layout, 1, layout == SHARDHEAP_TINY ? 2 : 8, 64); }
 static void open_for(void) { code = shardheap_open_for(&heap, layout, 1, 10, 16, 64); }
+static void open_growing(void) { code = shardheap_open_growing(&heap, 1, 1, 1, 2, 256); }
 static void take(void) { code = shardheap_take(&heap, &pass); }
 static void take_owner(void) { code = shardheap_take(&heap, &owner); }
 static void share(void) { code = shardheap_share(&heap, &other); }
@@ -196,12 +199,38 @@ static void a_heap(void) {
     LONG_CALL(close_heap);
 }
 
+/* Values of several chunks: each insert that opens one, and the calls on its first key. */
+static void a_growing_heap(void) {
+    GROWING_CALL(open_growing);
+    GROWING_CALL(take);
+    GROWING_CALL(take_owner);
+    for (length = 1, number = 0; shardheap_chunks(&heap) < 8;) {
+        GROWING_CALL(insert);
+        if (key >> 56 == number) continue;
+        number = key >> 56;
+        GROWING_CALL(get);
+        GROWING_CALL(read);
+        GROWING_CALL(load);
+        GROWING_CALL(load_each);
+        GROWING_CALL(remove_key);
+        GROWING_CALL(release);
+    }
+    GROWING_CALL(collect);
+    GROWING_CALL(leave);
+    GROWING_CALL(give);
+    GROWING_CALL(close_pass);
+    GROWING_CALL(close_heap);
+}
+
 int main(int argc, char **argv) {
     shows = argc > 1 && strcmp(argv[1], "show") == 0;
     used_by(nothing);
     base = used_by(nothing);
     for (layout = SHARDHEAP_WIDE; layout <= SHARDHEAP_TINY; layout++) a_heap();
     printf("stack: at most %zu bytes, and %zu of those that take no memory\n", most_of_long, most_of_short);
+    a_growing_heap();
+    printf("stack: at most %zu bytes in a growing heap\n", most_in_growing);
+    TRUE(most_in_growing > 0 && most_in_growing < STACK / 2);
     TRUE(most_of_short > 0 && most_of_short <= SHORT_CALLS && most_of_long <= LONG_CALLS);
     return 0;
 }

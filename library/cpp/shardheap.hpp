@@ -17,18 +17,20 @@
 // NAMESPACE. It is `gearlongan`, because `shardheap` is a type of shardheap.h: C++ allows no namespace of that name
 // beside it. `gearlongan` is the name of the crate for Rust, too.
 //
-// HANDLES. A heap, a pass, a shard, a guard and a receipt can be moved and not copied. One that was
-// default-constructed, closed or moved from is empty. It may be destroyed, assigned to and filled. Any other call on it
-// returns errc::empty. To move a handle onto itself does nothing. An assignment first closes what the target holds.
+// HANDLES. A heap, a growing heap, a pass, a shard, a caller, a guard and a receipt can be moved and not copied. One
+// that was default-constructed, closed or moved from is empty. It may be destroyed, assigned to and filled. Any other
+// call on it returns errc::empty. To move a handle onto itself does nothing. An assignment first closes what the target
+// holds.
 //
 // GUARDS. A guard refers to its pass or shard, as an iterator refers to its container. While a guard exists, its pass
 // is not moved, closed, or destroyed; nor does it adopt or leave. Otherwise the hold is lost, or the guard refers to an
 // object that is gone.
 //
-// DESTRUCTORS. That of a pass gives it home, as shardheap_pass_close does. That of a shard leaves it first. If another
-// pass is in the middle of a free there, the destructor yields to other threads and tries again, 1,000 times. If that
-// free does not end, for example because its thread was stopped, the destructor loses the pass (shardheap_pass_lose):
-// the heap has one pass less, and that shard has no other owner again. A caller that has to know calls `leave` first.
+// DESTRUCTORS. That of a pass gives it home, as shardheap_pass_close does. Those of a shard, and of a caller of a
+// growing heap, leave what they own first. If another pass is in the middle of a free there, the destructor yields to
+// other threads and tries again, 1,000 times. If that free does not end, for example because its thread was stopped,
+// the destructor loses the pass (shardheap_pass_lose): the heap has one pass less, and that shard has no other owner
+// again. A program that has to know calls `leave` or `try_leave` first.
 //
 // ERRORS. Each call has two forms. The plain form throws gearlongan::error, which is a std::system_error. The form
 // named `try_..` is noexcept, returns an errc, and writes its result to a parameter, which a refusal leaves as it was.
@@ -51,6 +53,7 @@
 #define SHARDHEAP_HPP
 
 #include "gearlongan/errors.hpp"
+#include "gearlongan/growing.hpp"
 #include "gearlongan/handles.hpp"
 #include "gearlongan/heaps.hpp"
 #include "gearlongan/keys.hpp"

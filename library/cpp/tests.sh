@@ -7,7 +7,7 @@ cpp_compiled() {
   local compiler=$1 standard=$2 name=$3 sources=("library/cpp/$3.cpp") wrap=
   shift 3
   case $name in
-    tests) sources+=(library/cpp/{values,threads,handing}.cpp) ;;
+    tests) sources+=(library/cpp/{values,threads,handing,growing}.cpp) ;;
     waiting) wrap=$(printf -- ' -Wl,--wrap=shardheap_raw_%s' leave take load receipt_make) ;;
     plain) set -- "$@" -fno-exceptions -fno-rtti ;;
     examples) sources=("$out/examples.cpp") ;;

@@ -30,6 +30,17 @@
    whether 64 bits of it are a constant. Zeroed bytes are an empty handle, however they came about. Bytes that another
    handle left at the same place, as in a function that is called again, are taken for that handle.
 
+   GROWING HEAPS. A heap that shardheap_open_growing opens has 1 to 256 chunks, each with shards of its own. Chunk 0
+   opens with the heap, and each further one when an insert finds no room in those before it. Bits 56 to 63 of a key are
+   the number of its chunk. No pass adopts a shard by a call: an insert adopts one in a chunk, and leaves it for another
+   there. leave leaves all shards of the pass. So do give and pass_close, which may be WAITING as leave may. An insert
+   is FULL only if all chunks are open. A pass has 16 holds in each chunk, and is NOT_HELD for each key of a chunk that
+   it has not used. BAD_KEY also comes for a chunk that is not open. A key has no room for a tag: tag is BAD_KEY for one
+   of a further chunk. Two calls of one pass are in their order if they are in one chunk. These calls do nothing on a
+   growing heap: adopt, prepare, pages_left, slots_out and next_own_key return NO_SHARD; gather, accounts, totals,
+   next_key, receipt_make and heed return AWAY. (TAKEN comes from a call on a key and from an insert only if another
+   handle's bytes were forged.)
+
    KEYS. A key belongs to one heap and ends with it. The first keys of two heaps are the same number. So a pass that
    removes a key of another heap may remove a value of its own heap that nobody meant.
 
@@ -43,9 +54,9 @@
 
    SIGNALS AND STACK. A signal handler is to the calls like another thread: it needs handles that nothing else uses.
    Calls that take and give back no memory are async-signal-safe then: get, release, read, load, load_each, remove,
-   collect, passes, tag, untag, take_value, pages_left, slots_out and next_own_key. The others are not, because they
-   call malloc, realloc or free. The head of each section below has the most stack that its calls took in a test, with
-   the allocator of glibc.
+   collect, passes, chunks, tag, untag, take_value, pages_left, slots_out and next_own_key. The others are not, because
+   they call malloc, realloc or free. The head of each section below has the most stack that its calls took in a test,
+   with the allocator of glibc and a heap of a fixed shape.
 
    ORDER. The calls of all passes are one history of the map, in which those of each pass are in the order in which it
    made them. Between two passes only receipts order calls. When a thread inserts a key and hands it to another without
@@ -73,12 +84,13 @@
      - MOVED: the handle is full, and its bytes were copied from where it was filled;
      - BUSY: another call uses the handle at this moment;
      - OTHER_HEAP: the key or the receipt is not of the heap of this pass. Bits 56 to 63 of a key have the number of its
-       heap, from 1 to 255 and then anew. A tag takes that number away, and keys of layout deep have none: these are not
-       recognised. Receipts of two heaps of layout deep look alike.
+       heap, from 1 to 255 and then anew. A tag takes that number away, and keys of layout deep and of growing heaps
+       have none: these are not recognised. Receipts of two heaps of layout deep look alike.
    If the macro SHARDHEAP_ON_MISUSE(code) is defined, for example as abort(), it is called too, also for NO_HANDLE.
 
    MEMORY is taken by open, share, take, adopt, gather, receipt_make, and by an insert or a prepare that opens a
-   segment. Nothing else returns SHARDHEAP_MEMORY. The greatest heap, of layout deep with 2,097,152 segments, takes
+   segment. An insert into a growing heap takes it for an adoption and a chunk too. Nothing else returns
+   SHARDHEAP_MEMORY. The greatest heap of a fixed shape, of layout deep with 2,097,152 segments, takes
    26 GB, and twice that while it opens. */
 #ifndef SHARDHEAP_H
 #define SHARDHEAP_H
@@ -119,7 +131,7 @@ typedef enum shardheap_code {
     SHARDHEAP_HOLDS_FULL = 4,  /* the pass has 16 holds */
     SHARDHEAP_NOT_HELD = 5,    /* the pass has no hold on that key */
     SHARDHEAP_TOO_LONG = 6,    /* more than 16 words */
-    SHARDHEAP_FULL = 7,        /* the shard has no room for a value of this length */
+    SHARDHEAP_FULL = 7,        /* the shard, or a growing heap, has no room for a value of this length */
     SHARDHEAP_MEMORY = 8,      /* memory was asked for and refused */
     SHARDHEAP_TAKEN = 9,       /* the shard has an owner, or the pass owns a shard already */
     SHARDHEAP_NO_SHARD = 10,   /* there is no such shard, or the pass owns none */
@@ -132,7 +144,7 @@ typedef enum shardheap_code {
     SHARDHEAP_NULL = 18,       /* a pointer was null: nothing was done */
     SHARDHEAP_BAD_LAYOUT = 19, /* there is no layout of this number */
     SHARDHEAP_OWNS = 20,       /* the pass owns a shard, which it has to leave first */
-    SHARDHEAP_AWAY = 21,       /* a pass is away, so that the heap cannot be looked at as a whole */
+    SHARDHEAP_AWAY = 21,       /* a pass is away, or the heap grows: it cannot be looked at as a whole */
     SHARDHEAP_NO_PAGE = 22,    /* the heap has no such page */
     SHARDHEAP_OVERLAP = 23,    /* two pointers lead to the same bytes: nothing was done */
     SHARDHEAP_NO_HANDLE = 24,  /* the bytes are no handle, as of one that was not initialised: nothing was done */
@@ -229,7 +241,10 @@ SHARDHEAP_ASSERT(sizeof(shardheap_page) == 24 && sizeof(shardheap_sums) == 24, "
 uint32_t shardheap_raw_open(shardheap *heap, uint32_t layout, uint32_t shards, uint32_t segments, uint32_t passes);
 uint32_t shardheap_raw_open_for(shardheap *heap, uint32_t layout, uint32_t owners, uint64_t values, uint32_t words,
                                 uint32_t passes);
+uint32_t shardheap_raw_open_growing(shardheap *heap, uint32_t owners, uint64_t values, uint32_t words, uint32_t passes,
+                                    uint32_t chunks);
 uint64_t shardheap_raw_passes(shardheap *heap);
+uint64_t shardheap_raw_chunks(shardheap *heap);
 uint32_t shardheap_raw_take(shardheap *heap, shardheap_pass *pass);
 uint32_t shardheap_raw_give(shardheap_pass *pass);
 uint32_t shardheap_raw_share(shardheap *heap, shardheap *other);
@@ -387,7 +402,8 @@ static inline uint32_t shardheap_settle_opened(shardheap *heap, uint32_t layout,
 /* ---- A heap ----
 
    Threads: any thread may use a handle, one call at a time, while others use other handles of the heap and its passes.
-   Signals: only passes is async-signal-safe, on a handle that nothing else uses. Stack: measured at most 8 KiB. */
+   Signals: only passes and chunks are async-signal-safe, on a handle that nothing else uses. Stack: measured at most
+   8 KiB. */
 
 /* Opens a heap into an empty handle: `shards` shards, each of `segments` segments of 8 pages, and 1 to 64 passes. There
    is at least one of each, and no more than the layout has. OCCUPIED, BAD_LAYOUT, BAD_SHAPE, MEMORY.
@@ -410,6 +426,32 @@ static inline uint32_t shardheap_open_for(shardheap *heap, uint32_t layout, uint
     uint32_t code = shardheap_begin_heap(heap);
     if (code != SHARDHEAP_OK) return code;
     return shardheap_settle_opened(heap, layout, shardheap_raw_open_for(heap, layout, owners, values, words, passes));
+}
+
+/* Opens a growing heap into an empty handle. Its first chunk is the least one in which each of `owners` owners has a
+   shard with room for `values` values of 0 to 16 words. Inserts open further chunks, up to `chunks` in all, 1 to 256.
+   It has 1 to 64 passes. The head of this header says what differs in a growing heap. OCCUPIED, MEMORY; BAD_SHAPE if a
+   number is outside its limits or no chunk has the room.
+
+       code = shardheap_open_growing(&heap, 4, 10000, 1, 8, 256);    room for 10,000 values for each of 4 at first */
+static inline uint32_t shardheap_open_growing(shardheap *heap, uint32_t owners, uint64_t values, uint32_t words,
+                                              uint32_t passes, uint32_t chunks) {
+    uint32_t code = shardheap_begin_heap(heap);
+    if (code != SHARDHEAP_OK) return code;
+    /* (its keys have no mark, as those of layout deep) */
+    return shardheap_settle_opened(heap, SHARDHEAP_DEEP,
+                                   shardheap_raw_open_growing(heap, owners, values, words, passes, chunks));
+}
+
+/* How many chunks of the heap are open: 1 unless it grows, and 0 of an empty handle and of what is no handle. Another
+   thread may open one meanwhile.
+
+       count = shardheap_chunks(&heap);    1, until an insert finds no room */
+static inline uint64_t shardheap_chunks(shardheap *heap) {
+    if (shardheap_begin_heap(heap) != SHARDHEAP_OK) return 0;
+    uint64_t chunks = shardheap_raw_chunks(heap);
+    shardheap_end(&heap->seal, SHARDHEAP_OK);
+    return chunks;
 }
 
 /* How many passes the heap has, at home or away: 0 of an empty handle, and of what is no handle.
@@ -472,7 +514,8 @@ static inline void shardheap_close(shardheap *heap) {
 /* Joins all passes of the heap in one, if all are at home: it is at home afterwards, and may be taken and used, but
    it is the only pass that the heap has from then on. The holds of the others stay in their slots for good. What was
    joined stays joined: a second call is OK where that pass is at home.
-   AWAY, with each pass at home that was, where one is not, or was lost: nothing is joined then.
+   AWAY, with each pass at home that was, where one is not, or was lost: nothing is joined then. AWAY, always, of a heap
+   that grows; so are the three calls below.
    EMPTY, MEMORY. */
 static inline uint32_t shardheap_gather(shardheap *heap) {
     uint32_t code = shardheap_begin_heap(heap);
@@ -685,7 +728,7 @@ static inline uint32_t shardheap_take_value(shardheap_pass *pass, uint64_t key, 
 
 /* Makes a receipt into an empty handle. It covers all calls of the pass until now, and what the receipts cover that the
    pass heeded. The pass is as before. A receipt orders no threads: it goes to another thread as any handle does, by
-   what orders the two. OCCUPIED, EMPTY, MEMORY, OVERLAP.
+   what orders the two. OCCUPIED, EMPTY, MEMORY, OVERLAP; AWAY, of a pass of a growing heap.
 
        code = shardheap_receipt_make(&pass, &receipt);    after an insert: it goes with the key */
 static inline uint32_t shardheap_receipt_make(shardheap_pass *pass, shardheap_receipt *receipt) {
@@ -703,7 +746,7 @@ static inline uint32_t shardheap_receipt_make(shardheap_pass *pass, shardheap_re
 
 /* Heeds a receipt that a pass of the same heap made, and empties its handle: all that the receipt covers happens before
    the next calls of this pass. So a key whose insert it covers is Gone only if a call removed it, and a key whose
-   removal it covers is Gone. EMPTY, of either handle; OVERLAP.
+   removal it covers is Gone. EMPTY, of either handle; OVERLAP; AWAY, with nothing done, of a pass of a growing heap.
 
        code = shardheap_heed(&pass, &receipt);    in the other thread, before it loads the key */
 static inline uint32_t shardheap_heed(shardheap_pass *pass, shardheap_receipt *receipt) {
@@ -734,7 +777,8 @@ static inline void shardheap_receipt_close(shardheap_receipt *receipt) {
    collect, pages_left, slots_out and next_own_key are async-signal-safe, on a pass that nothing else uses. Stack:
    measured at most 8 KiB, and 1 KiB of these four. */
 
-/* Makes the pass the owner of a shard, by its number from 0. NO_SHARD, TAKEN, MEMORY, EMPTY.
+/* Makes the pass the owner of a shard, by its number from 0. NO_SHARD, TAKEN, MEMORY, EMPTY. No shard of a growing heap
+   has a number, so NO_SHARD always comes there.
 
        code = shardheap_adopt(&pass, 3);    TAKEN, until its owner leaves */
 static inline uint32_t shardheap_adopt(shardheap_pass *pass, uint64_t shard) {
@@ -742,8 +786,8 @@ static inline uint32_t shardheap_adopt(shardheap_pass *pass, uint64_t shard) {
     return code == SHARDHEAP_OK ? shardheap_end(&pass->seal, shardheap_raw_adopt(pass, shard)) : code;
 }
 
-/* Leaves the shard that the pass owns, so that another pass may adopt it. NO_SHARD, EMPTY; WAITING, if another pass is
-   in the middle of a free there: the shard is still owned, and serves as before.
+/* Leaves the shard that the pass owns, or all of them in a growing heap, so that other passes may adopt them. NO_SHARD,
+   EMPTY; WAITING, if another pass is in the middle of a free there: the shard is still owned, and serves as before.
 
        do code = shardheap_leave(&pass);
        while (code == SHARDHEAP_WAITING);    with a pause between, such as sched_yield() */
@@ -820,7 +864,7 @@ static inline uint32_t shardheap_prepare(shardheap_pass *pass, uint32_t words, u
 
 /* Stores a value of `count` words, 0 to 16, in the shard that the pass owns, and writes its key to `key`. NO_SHARD,
    TOO_LONG, MEMORY, EMPTY, OVERLAP; FULL, if no page that the owner knows of has room. It does not look at what others
-   freed on pages of other lengths.
+   freed on pages of other lengths. In a growing heap it is stored in the first chunk that is found to have room.
 
        code = shardheap_insert_once(&pass, words, 2, &key);
        if (code == SHARDHEAP_FULL) code = shardheap_collect(&pass);    then try again, or not */

@@ -3,12 +3,8 @@ use Rattle.std.proofs.Common.{◌≡◌, ℕ, List, false, refl, sym, subst, Res
 use Rattle.std.proofs.lemmas.Bool.{false≢true}
 use Rattle.std.specs.declared.option.Option.{Option}
 use Rattle.std.specs.declared.option.Option.TheVariants.{None, Some}
-use Rattle.sh_key.specs.Layout.{Layout}
 use Rattle.sh_value.specs.declared.refusal.Refusal.{Refusal}
-use Rattle.sh_pass.specs.Passes.{Caller}
-use Rattle.sh_member.specs.Sides.{SideDoes}
-use Rattle.c_handles.specs.declared.member.AnyMember.{AnyMember}
-use Rattle.c_handles.specs.Members.{AnyDoes}
+use Rattle.c_handles.specs.declared.held_pass.HeldPass.{HeldPass}
 use Rattle.sh_nullable.specs.Owning.{has_value}
 use Rattle.c_exports.specs.Told.{Asked, AskedNumber, ReadBy, ReadTold, code_of, empty_code, number_told}
 
@@ -26,8 +22,8 @@ pub unasked_number : {V : Type 0} (does : V → Result ℕ Refusal → V → Typ
 unasked_number does old a e = subst (λ o. AskedNumber does empty_code old old o o) (sym (no_value a e))
     (refl, refl, refl)
 
-pub unread : (reads : Layout → Caller → Result (List ℕ) Refusal → Caller → Type 0) (old : List ℕ) (was : ℕ)
-    (a : Option AnyMember) → has_value a ≡ false → ReadTold reads empty_code old old was was a a
+pub unread : (reads : HeldPass → Result (List ℕ) Refusal → HeldPass → Type 0) (old : List ℕ) (was : ℕ)
+    (a : Option HeldPass) → has_value a ≡ false → ReadTold reads empty_code old old was was a a
 unread reads old was a e = subst (λ o. ReadTold reads empty_code old old was was o o) (sym (no_value a e))
     (refl, refl, refl, refl)
 
@@ -43,9 +39,9 @@ pub asked_number : {V : Type 0} (does : V → Result ℕ Refusal → V → Type 
 asked_number does code old new a b v w answer is was e k d = subst (λ o. AskedNumber does code old new o b) (sym is)
     (w, was, (answer, e, k, d))
 
-pub read_told : (reads : Layout → Caller → Result (List ℕ) Refusal → Caller → Type 0) (code : ℕ) (old new : List ℕ)
-    (was count : ℕ) (a b : Option AnyMember) (v w : AnyMember) (answer : Result (List ℕ) Refusal) → a ≡ Some v
-    → b ≡ Some w → ReadBy code old new was count answer → AnyDoes (λ l. SideDoes l (reads l)) v answer w
+pub read_told : (reads : HeldPass → Result (List ℕ) Refusal → HeldPass → Type 0) (code : ℕ) (old new : List ℕ)
+    (was count : ℕ) (a b : Option HeldPass) (v w : HeldPass) (answer : Result (List ℕ) Refusal) → a ≡ Some v
+    → b ≡ Some w → ReadBy code old new was count answer → reads v answer w
     → ReadTold reads code old new was count a b
 read_told reads code old new was count a b v w answer is after r d =
     subst (λ o. ReadTold reads code old new was count o b) (sym is) (w, after, (answer, r, d))

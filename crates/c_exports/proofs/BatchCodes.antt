@@ -2,8 +2,8 @@
 use Rattle.std.proofs.Common.{◌≡◌, ℕ, ◌+◌, List, drop, get_or, set, false, refl, sym, ◌∙◌, ap, subst, arith}
 use Rattle.std.proofs.lemmas.List.{get_or-drop, drop-drop, drop-set-lt}
 use Rattle.std.specs.declared.option.Option.{Option}
-use Rattle.std.specs.declared.option.Option.TheVariants.{None, Some}
-use Rattle.c_handles.specs.declared.member.AnyMember.{AnyMember}
+use Rattle.std.specs.declared.option.Option.TheVariants.{Some}
+use Rattle.c_handles.specs.declared.held_pass.HeldPass.{HeldPass}
 use Rattle.sh_nullable.specs.Owning.{has_value}
 use Rattle.c_exports.specs.declared.batches.Loaded.{Loaded}
 use Rattle.c_exports.specs.Batches.{LoadsEach, LoadsTold}
@@ -27,11 +27,11 @@ rest_behind xs ys i x same =
     drop-set-lt (i + 1) xs i x (omega arith) ∙ (sym (drop-drop 1 i xs) ∙ (ap (drop 1) same ∙ drop-drop 1 i ys))
 
 -- a batch for an empty handle does nothing, and one for a full handle is done
-pub unloaded : (loads : List Loaded) (a : Option AnyMember) → has_value a ≡ false
+pub unloaded : (loads : List Loaded) (a : Option HeldPass) → has_value a ≡ false
     → LoadsTold empty_code loads loads a a
 unloaded loads a e = subst (λ o. LoadsTold empty_code loads loads o o) (sym (no_value a e)) (refl, refl, refl)
 
-pub all_loaded : (old new : List Loaded) (a b : Option AnyMember) (v w : AnyMember) → a ≡ Some v → b ≡ Some w
+pub all_loaded : (old new : List Loaded) (a b : Option HeldPass) (v w : HeldPass) → a ≡ Some v → b ≡ Some w
     → LoadsEach old v new w → LoadsTold 0 old new a b
 all_loaded old new a b v w is after each =
     subst (λ o. LoadsTold 0 old new o b) (sym is) (w, after, refl, each)

@@ -6,10 +6,12 @@ use Rattle.sh_pass.specs.declared.next_key.NextKey.{NextKey}
 use Rattle.sh_whole.specs.declared.refusal.NotTold.{NotTold}
 use Rattle.sh_whole.specs.Homes.{TellsNextKey}
 use Rattle.sh_member.specs.Sides.{SideNextKey}
-use Rattle.c_handles.specs.declared.heap.AnyHeap.{AnyHeap}
-use Rattle.c_handles.specs.declared.member.AnyMember.{AnyMember}
+use Rattle.c_handles.specs.declared.held_heap.HeldHeap.{HeldHeap}
+use Rattle.c_handles.specs.declared.held_pass.HeldPass.{HeldPass}
 use Rattle.c_handles.specs.Heaps.{heap_layout, heap_of}
 use Rattle.c_handles.specs.Members.{AnyDoes}
+use Rattle.c_handles.specs.HeldHeaps.{OnWhole}
+use Rattle.c_handles.specs.HeldPasses.{EitherDoes, NamesNoShard}
 use Rattle.c_exports.specs.WholeHeap.{why_code}
 use Rattle.c_exports.specs.Told.{empty_code}
 
@@ -24,14 +26,15 @@ NextWritten number (Ok next) code from place old key = KeyWritten next code from
 NextWritten number (Err why) code from place old key = (code ≡ number why) × (place ≡ from) × (key ≡ old)
 
 -- the call for the next key from a place on, by its code; the heap stays in its handle
-abbrev pub NextKeyTold : (code from place old key : ℕ) → Option AnyHeap → Option AnyHeap → Type 0
+abbrev pub NextKeyTold : (code from place old key : ℕ) → Option HeldHeap → Option HeldHeap → Type 0
 NextKeyTold code from place old key None left = (code ≡ empty_code) × (left ≡ None) × (place ≡ from) × (key ≡ old)
 NextKeyTold code from place old key (Some heap) left = (left ≡ Some heap) × ((answer : Result (Option NextKey) NotTold)
-    × NextWritten why_code answer code from place old key × TellsNextKey (heap_layout heap) (heap_of heap) from answer)
+    × NextWritten why_code answer code from place old key
+    × OnWhole (λ h. TellsNextKey (heap_layout h) (heap_of h) from) heap answer)
 
 -- the call for the next key of the shard that the pass owns, by its code
-abbrev pub NextOwnKeyTold : (code from place old key : ℕ) → Option AnyMember → Option AnyMember → Type 0
+abbrev pub NextOwnKeyTold : (code from place old key : ℕ) → Option HeldPass → Option HeldPass → Type 0
 NextOwnKeyTold code from place old key None after = (code ≡ empty_code) × (after ≡ None) × (place ≡ from) × (key ≡ old)
-NextOwnKeyTold code from place old key (Some v) after = (w : AnyMember) × (after ≡ Some w)
+NextOwnKeyTold code from place old key (Some v) after = (w : HeldPass) × (after ≡ Some w)
     × ((answer : Result (Option NextKey) Refusal) × NextWritten refusal_number answer code from place old key
-    × AnyDoes (λ l. SideNextKey l from) v answer w)
+    × EitherDoes (AnyDoes (λ l. SideNextKey l from)) NamesNoShard v answer w)

@@ -1,14 +1,11 @@
 -- What an export's code means for the value behind its handle.
 use Rattle.std.specs.Prelude.{◌≡◌, ℕ, ◌<◌, ◌≤◌, ◌⊎◌, List, ◌++◌, length, drop, Result, Ok, Err, Option, Some, None}
-use Rattle.sh_key.specs.Layout.{Layout}
 use Rattle.sh_value.specs.declared.refusal.Refusal.{Refusal}
 use Rattle.sh_value.specs.declared.refusal.Refusal.TheVariants as refusal
 use Rattle.sh_value.specs.Refusal.{refusal_number}
 use Rattle.sh_shape.specs.Classes.{class_of}
-use Rattle.sh_pass.specs.Passes.{Caller}
-use Rattle.sh_member.specs.Sides.{SideDoes, SideInserts, SidePrepares}
-use Rattle.c_handles.specs.declared.member.AnyMember.{AnyMember}
-use Rattle.c_handles.specs.Members.{AnyDoes}
+use Rattle.c_handles.specs.declared.held_pass.HeldPass.{HeldPass}
+use Rattle.c_handles.specs.HeldPasses.{HeldInserts, HeldPrepares}
 
 -- 0 if a call was done, otherwise the refusal's number
 abbrev pub code_of : {A : Type 0} → Result A Refusal → ℕ
@@ -40,24 +37,24 @@ AskedNumber {V} does code old new (Some v) after = (w : V) × (after ≡ Some w)
 
 -- ---- an insert
 
--- more than 16 words are refused, and nothing is done; others are inserted, if the pass owns a shard
-abbrev pub InsertsWords : List ℕ → AnyMember → Result ℕ Refusal → AnyMember → Type 0
+-- more than 16 words are refused, and nothing is done; others are inserted, if the pass owns a shard or its heap grows
+abbrev pub InsertsWords : List ℕ → HeldPass → Result ℕ Refusal → HeldPass → Type 0
 InsertsWords words v answer w = ((16 < length words) × (answer ≡ Err refusal.TooLong) × (w ≡ v))
-    ⊎ ((length words ≤ 16) × AnyDoes (λ l. SideInserts l words) v answer w)
+    ⊎ ((length words ≤ 16) × HeldInserts words v answer w)
 
 -- an insert by its code, and the key that it writes
-abbrev pub InsertTold : List ℕ → (code old new : ℕ) → Option AnyMember → Option AnyMember → Type 0
+abbrev pub InsertTold : List ℕ → (code old new : ℕ) → Option HeldPass → Option HeldPass → Type 0
 InsertTold words = AskedNumber (InsertsWords words)
 
 -- ---- a prepare
 
 -- no page is for values of more than 16 words; otherwise the class of the length is prepared
-abbrev pub PreparesFor : ℕ → AnyMember → Result ℕ Refusal → AnyMember → Type 0
+abbrev pub PreparesFor : ℕ → HeldPass → Result ℕ Refusal → HeldPass → Type 0
 PreparesFor words v answer w = ((16 < words) × (answer ≡ Err refusal.TooLong) × (w ≡ v))
-    ⊎ ((class : ℕ) × (class_of words ≡ Some class) × AnyDoes (λ l. SidePrepares l class) v answer w)
+    ⊎ ((class : ℕ) × (class_of words ≡ Some class) × HeldPrepares class v answer w)
 
 -- a prepare by its code, and the page that it writes
-abbrev pub PrepareTold : ℕ → (code old new : ℕ) → Option AnyMember → Option AnyMember → Type 0
+abbrev pub PrepareTold : ℕ → (code old new : ℕ) → Option HeldPass → Option HeldPass → Type 0
 PrepareTold words = AskedNumber (PreparesFor words)
 
 -- ---- a read
@@ -73,9 +70,8 @@ ReadBy code old new was count (Ok value) = (count ≡ length value) × WordsTold
 ReadBy code old new was count (Err why) = (code ≡ refusal_number why) × (new ≡ old) × (count ≡ was)
 
 -- a read by its code, and what it wrote
-abbrev pub ReadTold : (Layout → Caller → Result (List ℕ) Refusal → Caller → Type 0) → ℕ → List ℕ → List ℕ → ℕ → ℕ
-    → Option AnyMember → Option AnyMember → Type 0
+abbrev pub ReadTold : (HeldPass → Result (List ℕ) Refusal → HeldPass → Type 0) → ℕ → List ℕ → List ℕ → ℕ → ℕ
+    → Option HeldPass → Option HeldPass → Type 0
 ReadTold reads code old new was count None after = (code ≡ empty_code) × (after ≡ None) × (new ≡ old) × (count ≡ was)
-ReadTold reads code old new was count (Some v) after = (w : AnyMember) × (after ≡ Some w)
-    × ((answer : Result (List ℕ) Refusal) × ReadBy code old new was count answer
-    × AnyDoes (λ l. SideDoes l (reads l)) v answer w)
+ReadTold reads code old new was count (Some v) after = (w : HeldPass) × (after ≡ Some w)
+    × ((answer : Result (List ℕ) Refusal) × ReadBy code old new was count answer × reads v answer w)

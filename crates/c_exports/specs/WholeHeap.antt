@@ -5,7 +5,7 @@ use Rattle.sh_core.specs.declared.accounts.Accounts.{Accounts}
 use Rattle.sh_gather.specs.declared.totals.Totals.{Totals}
 use Rattle.sh_whole.specs.declared.refusal.NotTold.{NotTold}
 use Rattle.sh_whole.specs.declared.refusal.NotTold.TheVariants as untold
-use Rattle.c_handles.specs.declared.heap.AnyHeap.{AnyHeap}
+use Rattle.c_handles.specs.declared.held_heap.HeldHeap.{HeldHeap}
 use Rattle.c_exports.specs.declared.accounts.PageTold.{PageTold}
 use Rattle.c_exports.specs.declared.accounts.SumsTold.{SumsTold}
 
@@ -21,7 +21,7 @@ told_code (Err why) = why_code why
 
 -- a call on the heap behind a handle, which stays there: if there is none the code is 14; otherwise there is a result
 -- with this code
-abbrev pub HeapAsked : {A : Type 0} → (AnyHeap → Result A NotTold → Type 0) → ℕ → Option AnyHeap → Option AnyHeap
+abbrev pub HeapAsked : {A : Type 0} → (HeldHeap → Result A NotTold → Type 0) → ℕ → Option HeldHeap → Option HeldHeap
     → Type 0
 HeapAsked does code None after = (code ≡ 14) × (after ≡ None)
 HeapAsked {A} does code (Some heap) after = (after ≡ Some heap)
@@ -33,8 +33,8 @@ told_in told old (Ok a) = told a
 told_in told old (Err _) = old
 
 -- the same for a call that writes its result
-abbrev pub HeapTells : {A R : Type 0} → (AnyHeap → Result A NotTold → Type 0) → (A → R) → ℕ → (old new : R)
-    → Option AnyHeap → Option AnyHeap → Type 0
+abbrev pub HeapTells : {A R : Type 0} → (HeldHeap → Result A NotTold → Type 0) → (A → R) → ℕ → (old new : R)
+    → Option HeldHeap → Option HeldHeap → Type 0
 HeapTells does told code old new None after = (code ≡ 14) × (after ≡ None) × (new ≡ old)
 HeapTells {A} does told code old new (Some heap) after = (after ≡ Some heap)
     × ((answer : Result A NotTold) × (code ≡ told_code answer) × (new ≡ told_in told old answer) × does heap answer)

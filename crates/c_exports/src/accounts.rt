@@ -2,6 +2,7 @@
 ghost use Rattle.std.specs.Prelude.{◌≡◌};
 ghost use Rattle.sh_whole.specs.Homes.{GathersPool, TellsAccounts, TellsTotals};
 ghost use Rattle.c_handles.specs.Heaps.{heap_layout, heap_of};
+ghost use Rattle.c_handles.specs.HeldHeaps.{OnWhole};
 ghost use Rattle.c_exports.specs.WholeHeap.{HeapAsked, HeapTells, page_told, sums_told, told_code, told_in, why_code};
 
 use crate::codes::{AWAY, EMPTY, NO_PAGE, OK};
@@ -105,10 +106,11 @@ fn tell_sums(answer: &Result<Totals, NotTold>, told: &mut SumsTold)
     }
 }
 
-/// Joins all passes of the heap in one, and puts that one back in its pool slot. It fails if a pass is taken or lost.
+/// Joins all passes of the heap in one, and puts that one back in its pool slot. It fails if a pass is taken or lost,
+/// and for a growing heap.
 #[unsafe(no_mangle)]
 pub extern "C" fn shardheap_raw_gather(alloc: Global, heap: &mut HeapHandle) -> u32
-    ensures { HeapAsked (λ h. GathersPool (heap_of h)) result heap.old.slot.value heap.new.slot.value }
+    ensures { HeapAsked (OnWhole (λ h. GathersPool (heap_of h))) result heap.old.slot.value heap.new.slot.value }
 {
     let Some(held) = heap.take(alloc) else {
         return EMPTY;
@@ -127,8 +129,8 @@ pub extern "C" fn shardheap_raw_accounts(
     page: u32,
     told: &mut PageTold,
 ) -> u32
-    ensures { HeapTells (λ h. TellsAccounts (heap_layout h) (heap_of h) shard page) page_told result told.old told.new
-        heap.old.slot.value heap.new.slot.value }
+    ensures { HeapTells (OnWhole (λ h. TellsAccounts (heap_layout h) (heap_of h) shard page)) page_told result told.old
+        told.new heap.old.slot.value heap.new.slot.value }
 {
     let Some(held) = heap.take(alloc) else {
         return EMPTY;
@@ -146,7 +148,7 @@ pub extern "C" fn shardheap_raw_totals(
     heap: &mut HeapHandle,
     told: &mut SumsTold,
 ) -> u32
-    ensures { HeapTells (λ h. TellsTotals (heap_layout h) (heap_of h)) sums_told result told.old told.new
+    ensures { HeapTells (OnWhole (λ h. TellsTotals (heap_layout h) (heap_of h))) sums_told result told.old told.new
         heap.old.slot.value heap.new.slot.value }
 {
     let Some(held) = heap.take(alloc) else {

@@ -3,7 +3,7 @@ ghost use Rattle.c_exports.specs.Batches.{LoadsEach, LoadsOne, LoadsTold};
 
 use crate::codes::{EMPTY, OK};
 use crate::values::tell_words;
-use c_handles::{AnyMember, PassHandle};
+use c_handles::{HeldPass, PassHandle};
 use sh_readers::batches::BLOCK;
 use sh_value::{Value, WORDS_MAX};
 use std::alloc::Global;
@@ -23,14 +23,14 @@ pub struct Loaded {
 }
 
 // Warms the first keys of the rest of a batch.
-fn warm_block(member: &AnyMember, loads: &[Loaded]) {
+fn warm_block(member: &HeldPass, loads: &[Loaded]) {
     for load in loads.iter().take(BLOCK) {
         member.warm_value(load.key);
     }
 }
 
 // Loads a key by way of the value, and writes what the load returned.
-fn load_one(member: &mut AnyMember, value: &mut Value, load: &mut Loaded)
+fn load_one(member: &mut HeldPass, value: &mut Value, load: &mut Loaded)
     ensures { LoadsOne load.old member.old load.new member.new }
 {
     let answer = member.fetch_into(load.key, value);
@@ -41,7 +41,7 @@ fn load_one(member: &mut AnyMember, value: &mut Value, load: &mut Loaded)
 }
 
 // Loads each key.
-fn load_all(member: &mut AnyMember, loads: &mut [Loaded])
+fn load_all(member: &mut HeldPass, loads: &mut [Loaded])
     ensures { LoadsEach loads.old member.old loads.new member.new }
 {
     // (It has one word, as most values have: reading a value of one word into it is one store.)

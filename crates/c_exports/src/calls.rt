@@ -1,8 +1,6 @@
 //! The calls of a pass that name a key, and those of the owner of a shard that name no value.
 ghost use Rattle.std.specs.Prelude.{◌≡◌};
-ghost use Rattle.sh_pass.specs.Passes.{GetDoes, RemoveDoes, ReleaseDoes};
-ghost use Rattle.sh_member.specs.Sides.{SideDoes, SideAdopts, SideLeaves, SideCollects};
-ghost use Rattle.c_handles.specs.Members.{AnyDoes};
+ghost use Rattle.c_handles.specs.HeldPasses.{HeldAdopts, HeldCollects, HeldGets, HeldLeaves, HeldReleases, HeldRemoves};
 ghost use Rattle.c_exports.specs.Told.{Asked};
 
 use crate::codes::{EMPTY, code};
@@ -13,7 +11,7 @@ use std::alloc::Global;
 /// Takes a hold on a key.
 #[unsafe(no_mangle)]
 pub extern "C" fn shardheap_raw_get(_alloc: Global, pass: &mut PassHandle, key: u64) -> u32
-    ensures { Asked (AnyDoes (λ l. SideDoes l (GetDoes l key))) result pass.old.slot.value pass.new.slot.value }
+    ensures { Asked (HeldGets key) result pass.old.slot.value pass.new.slot.value }
 {
     if !pass.is_full() {
         return EMPTY;
@@ -25,7 +23,7 @@ pub extern "C" fn shardheap_raw_get(_alloc: Global, pass: &mut PassHandle, key: 
 /// Gives one hold on a key back.
 #[unsafe(no_mangle)]
 pub extern "C" fn shardheap_raw_release(_alloc: Global, pass: &mut PassHandle, key: u64) -> u32
-    ensures { Asked (AnyDoes (λ l. SideDoes l (ReleaseDoes l key))) result pass.old.slot.value pass.new.slot.value }
+    ensures { Asked (HeldReleases key) result pass.old.slot.value pass.new.slot.value }
 {
     if !pass.is_full() {
         return EMPTY;
@@ -37,7 +35,7 @@ pub extern "C" fn shardheap_raw_release(_alloc: Global, pass: &mut PassHandle, k
 /// Removes a key.
 #[unsafe(no_mangle)]
 pub extern "C" fn shardheap_raw_remove(_alloc: Global, pass: &mut PassHandle, key: u64) -> u32
-    ensures { Asked (AnyDoes (λ l. SideDoes l (RemoveDoes l key))) result pass.old.slot.value pass.new.slot.value }
+    ensures { Asked (HeldRemoves key) result pass.old.slot.value pass.new.slot.value }
 {
     if !pass.is_full() {
         return EMPTY;
@@ -46,10 +44,10 @@ pub extern "C" fn shardheap_raw_remove(_alloc: Global, pass: &mut PassHandle, ke
     code(&answer)
 }
 
-/// Makes the pass the owner of a shard.
+/// Makes the pass the owner of a shard. In a growing heap no shard has a number.
 #[unsafe(no_mangle)]
 pub extern "C" fn shardheap_raw_adopt(alloc: Global, pass: &mut PassHandle, shard: u64) -> u32
-    ensures { Asked (AnyDoes (λ l. SideAdopts shard)) result pass.old.slot.value pass.new.slot.value }
+    ensures { Asked (HeldAdopts shard) result pass.old.slot.value pass.new.slot.value }
 {
     if !pass.is_full() {
         return EMPTY;
@@ -58,10 +56,10 @@ pub extern "C" fn shardheap_raw_adopt(alloc: Global, pass: &mut PassHandle, shar
     code(&answer)
 }
 
-/// Leaves the shard that the pass owns.
+/// Leaves the shard that the pass owns, or all of them in a growing heap.
 #[unsafe(no_mangle)]
 pub extern "C" fn shardheap_raw_leave(_alloc: Global, pass: &mut PassHandle) -> u32
-    ensures { Asked (AnyDoes (λ l. SideLeaves)) result pass.old.slot.value pass.new.slot.value }
+    ensures { Asked HeldLeaves result pass.old.slot.value pass.new.slot.value }
 {
     if !pass.is_full() {
         return EMPTY;
@@ -70,10 +68,10 @@ pub extern "C" fn shardheap_raw_leave(_alloc: Global, pass: &mut PassHandle) -> 
     code(&answer)
 }
 
-/// Collects what others freed in the shard that the pass owns.
+/// Collects what others freed in the shard that the pass owns, or in all of them in a growing heap.
 #[unsafe(no_mangle)]
 pub extern "C" fn shardheap_raw_collect(_alloc: Global, pass: &mut PassHandle) -> u32
-    ensures { Asked (AnyDoes SideCollects) result pass.old.slot.value pass.new.slot.value }
+    ensures { Asked HeldCollects result pass.old.slot.value pass.new.slot.value }
 {
     if !pass.is_full() {
         return EMPTY;

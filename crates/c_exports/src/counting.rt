@@ -2,6 +2,7 @@
 ghost use Rattle.sh_shard.specs.Pages.{blank_pages, slots_out};
 ghost use Rattle.sh_member.specs.Sides.{SideCounts};
 ghost use Rattle.c_handles.specs.Members.{AnyDoes};
+ghost use Rattle.c_handles.specs.HeldPasses.{EitherDoes, NamesNoShard};
 ghost use Rattle.c_exports.specs.Told.{AskedNumber};
 
 use crate::codes::{EMPTY, code};
@@ -16,8 +17,8 @@ pub extern "C" fn shardheap_raw_pages_left(
     pass: &mut PassHandle,
     pages: &mut u64,
 ) -> u32
-    ensures { AskedNumber (AnyDoes (λ l. SideCounts blank_pages)) result pages.old pages.new pass.old.slot.value
-        pass.new.slot.value }
+    ensures { AskedNumber (EitherDoes (AnyDoes (λ l. SideCounts blank_pages)) NamesNoShard) result pages.old pages.new
+        pass.old.slot.value pass.new.slot.value }
 {
     if !pass.is_full() {
         return EMPTY;
@@ -34,8 +35,8 @@ pub extern "C" fn shardheap_raw_slots_out(
     pass: &mut PassHandle,
     slots: &mut u64,
 ) -> u32
-    ensures { AskedNumber (AnyDoes (λ l. SideCounts slots_out)) result slots.old slots.new pass.old.slot.value
-        pass.new.slot.value }
+    ensures { AskedNumber (EitherDoes (AnyDoes (λ l. SideCounts slots_out)) NamesNoShard) result slots.old slots.new
+        pass.old.slot.value pass.new.slot.value }
 {
     if !pass.is_full() {
         return EMPTY;

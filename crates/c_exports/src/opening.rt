@@ -1,16 +1,17 @@
 //! Opening, sharing and closing a heap.
 ghost use Rattle.std.specs.Prelude.{◌≡◌, None};
 ghost use Rattle.c_handles.specs.Heaps.{OpensShaped, OpensFor};
-ghost use Rattle.c_exports.specs.Opened.{OpenTold, HeapPut, ShareTold};
+ghost use Rattle.c_handles.specs.HeldHeaps.{OpensFixed};
+ghost use Rattle.c_exports.specs.Opened.{OpenTold, OpensGrowing, HeapPut, ShareTold};
 
 use crate::codes::{BAD_LAYOUT, EMPTY, OCCUPIED, OK};
 use c_handles::heap::LayoutName;
-use c_handles::{AnyHeap, HeapHandle};
+use c_handles::{HeapHandle, HeldHeap};
 use sh_value::Refusal;
 use std::alloc::Global;
 
 // Puts what was opened into an empty handle.
-fn put_opened(alloc: Global, heap: &mut HeapHandle, opened: Result<AnyHeap, Refusal>) -> u32
+fn put_opened(alloc: Global, heap: &mut HeapHandle, opened: Result<HeldHeap, Refusal>) -> u32
     requires { heap.old.slot.value ≡ None }
     ensures { HeapPut opened result heap.new.slot.value }
 {
@@ -37,8 +38,9 @@ pub extern "C" fn shardheap_raw_open(
     segments: u32,
     passes: u32,
 ) -> u32
-    ensures { OpenTold (λ l. OpensShaped l (record { shards = shards; segments = segments; passes = passes })) layout
-        result heap.old.slot.value heap.new.slot.value }
+    ensures { OpenTold (λ l. OpensFixed (OpensShaped l
+        (record { shards = shards; segments = segments; passes = passes }))) layout result heap.old.slot.value
+        heap.new.slot.value }
 {
     if heap.is_full() {
         return OCCUPIED;
@@ -46,7 +48,7 @@ pub extern "C" fn shardheap_raw_open(
     let Some(layout) = LayoutName::numbered(layout) else {
         return BAD_LAYOUT;
     };
-    let opened = AnyHeap::open_shaped(alloc, layout, shards, segments, passes);
+    let opened = HeldHeap::open_shaped(alloc, layout, shards, segments, passes);
     put_opened(alloc, heap, opened)
 }
 
@@ -62,7 +64,7 @@ pub extern "C" fn shardheap_raw_open_for(
     words: u32,
     passes: u32,
 ) -> u32
-    ensures { OpenTold (λ l. OpensFor l owners values words passes) layout result heap.old.slot.value
+    ensures { OpenTold (λ l. OpensFixed (OpensFor l owners values words passes)) layout result heap.old.slot.value
         heap.new.slot.value }
 {
     if heap.is_full() {
@@ -71,7 +73,28 @@ pub extern "C" fn shardheap_raw_open_for(
     let Some(layout) = LayoutName::numbered(layout) else {
         return BAD_LAYOUT;
     };
-    let opened = AnyHeap::open_for(alloc, layout, owners, values, words, passes);
+    let opened = HeldHeap::open_for(alloc, layout, owners, values, words, passes);
+    put_opened(alloc, heap, opened)
+}
+
+/// Opens a growing heap of at most this many chunks into an empty handle. In its first chunk the shard of each owner
+/// has room for `values` values of `words` words.
+#[unsafe(no_mangle)]
+pub extern "C" fn shardheap_raw_open_growing(
+    alloc: Global,
+    heap: &mut HeapHandle,
+    owners: u32,
+    values: u64,
+    words: u32,
+    passes: u32,
+    chunks: u32,
+) -> u32
+    ensures { OpensGrowing owners values words passes chunks result heap.old.slot.value heap.new.slot.value }
+{
+    if heap.is_full() {
+        return OCCUPIED;
+    }
+    let opened = HeldHeap::open_growing(alloc, owners, values, words, passes, chunks);
     put_opened(alloc, heap, opened)
 }
 

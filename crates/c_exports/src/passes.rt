@@ -1,10 +1,11 @@
 //! Passes: how they are taken, given back or lost.
 ghost use Rattle.std.specs.Prelude.{◌≡◌, None, IfSome, MatchResult};
 ghost use Rattle.sh_value.specs.declared.refusal.Refusal.TheVariants.{Memory};
-ghost use Rattle.c_exports.specs.Opened.{PassesTold, TakeTold, GiveTold, LoseTold, IsPutBack, HasBegun};
+ghost use Rattle.c_exports.specs.Opened.{CountsChunks, GiveTold, GivesBack, HasBegun, IsPutBack, LoseTold, PassesTold};
+ghost use Rattle.c_exports.specs.Opened.{TakeTold};
 
 use crate::codes::{EMPTY, NO_PASS, OCCUPIED, OK, OWNS};
-use c_handles::{AnyHeap, AnyMember, HeapHandle, PassHandle};
+use c_handles::{HeapHandle, HeldHeap, HeldPass, PassHandle};
 use sh_value::Refusal;
 use std::alloc::Global;
 
@@ -21,12 +22,25 @@ pub extern "C" fn shardheap_raw_passes(alloc: Global, heap: &mut HeapHandle) -> 
     passes
 }
 
+/// The number of chunks of the heap that are open: 1 unless it grows. It is 0 if the handle is empty.
+#[unsafe(no_mangle)]
+pub extern "C" fn shardheap_raw_chunks(alloc: Global, heap: &mut HeapHandle) -> u64
+    ensures { CountsChunks result heap.old.slot.value heap.new.slot.value }
+{
+    let Some(held) = heap.take(alloc) else {
+        return 0;
+    };
+    let chunks = held.chunks();
+    *heap = HeapHandle::of(held);
+    chunks
+}
+
 // Takes a free pass of the heap, and puts it in a box.
-fn next_pass(alloc: Global, heap: &AnyHeap) -> Result<Option<PassHandle>, Refusal>
+fn next_pass(alloc: Global, heap: &HeldHeap) -> Result<Option<PassHandle>, Refusal>
     ensures { MatchResult result (λ taken. IfSome taken (λ pass. HasBegun heap.now pass.slot.value))
         (λ why. why ≡ Memory) }
 {
-    let Some(member) = heap.take() else {
+    let Some(member) = heap.take(alloc)? else {
         return Ok(None);
     };
     match Box::new(alloc, member) {
@@ -66,9 +80,24 @@ pub extern "C" fn shardheap_raw_take(
     }
 }
 
-// Gives the pass back, and leaves the handle empty. A pass that owns a shard stays as it is.
+// Gives the pass back, and leaves the handle empty. A pass that owns a shard stays as it is. A caller of a growing heap
+// leaves its shards first, and stays in its handle if it has to wait.
 fn bring_home(alloc: Global, pass: &mut PassHandle) -> u32
     ensures { GiveTold result pass.old.slot.value pass.new.slot.value }
+{
+    if !pass.is_full() {
+        return EMPTY;
+    }
+    let answer = pass.held().let_go();
+    match answer {
+        Ok(()) => give_back(alloc, pass),
+        Err(refusal) => refusal.number(),
+    }
+}
+
+// Gives a pass back that let go, and leaves the handle empty. A pass that owns a shard stays as it is.
+fn give_back(alloc: Global, pass: &mut PassHandle) -> u32
+    ensures { GivesBack result pass.old.slot.value pass.new.slot.value }
 {
     let Some(held) = pass.take(alloc) else {
         return EMPTY;
@@ -92,7 +121,7 @@ pub extern "C" fn shardheap_raw_give(alloc: Global, pass: &mut PassHandle) -> u3
 }
 
 // Puts a pass whose pool slot is not free back into its handle. If memory for its box is refused, the pass is lost.
-fn put_back(alloc: Global, pass: &mut PassHandle, member: AnyMember) -> u32
+fn put_back(alloc: Global, pass: &mut PassHandle, member: HeldPass) -> u32
     requires { pass.old.slot.value ≡ None }
     ensures { IsPutBack member result pass.new.slot.value }
 {

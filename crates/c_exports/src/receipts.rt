@@ -2,12 +2,12 @@
 ghost use Rattle.std.specs.Prelude.{◌≡◌, None};
 ghost use Rattle.c_exports.specs.Receipts.{AreOfOneHeap, HeedTold, ReceiptTold};
 
-use crate::codes::{EMPTY, OCCUPIED, OK};
+use crate::codes::{AWAY, EMPTY, OCCUPIED, OK};
 use c_handles::{KeptReceipt, PassHandle, ReceiptHandle};
 use sh_value::Refusal;
 use std::alloc::Global;
 
-/// Makes a receipt of all calls of the pass until now, in an empty handle.
+/// Makes a receipt of all calls of the pass until now, in an empty handle. There is none of a growing heap.
 #[unsafe(no_mangle)]
 pub extern "C" fn shardheap_raw_receipt_make(
     alloc: Global,
@@ -23,10 +23,10 @@ pub extern "C" fn shardheap_raw_receipt_make(
     if !pass.is_full() {
         return EMPTY;
     }
-    let made = KeptReceipt {
-        receipt: pass.held().receipt(),
+    let Some(made) = pass.held().receipt() else {
+        return AWAY;
     };
-    match Box::new(alloc, made) {
+    match Box::new(alloc, KeptReceipt { receipt: made }) {
         Ok(kept) => {
             *receipt = ReceiptHandle::of(kept);
             OK
@@ -48,6 +48,9 @@ pub extern "C" fn shardheap_raw_heed(
 {
     if !pass.is_full() {
         return EMPTY;
+    }
+    if pass.held().grows() {
+        return AWAY;
     }
     let Some(kept) = receipt.take(alloc) else {
         return EMPTY;

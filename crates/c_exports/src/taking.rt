@@ -1,6 +1,6 @@
 //! A load and a removal in one.
 ghost use Rattle.std.specs.Prelude.{length};
-ghost use Rattle.sh_readers.specs.Readers.{TakeFitsDoes};
+ghost use Rattle.c_handles.specs.HeldPasses.{HeldTakes};
 ghost use Rattle.c_exports.specs.Told.{ReadTold};
 
 use crate::codes::EMPTY;
@@ -19,7 +19,7 @@ pub extern "C" fn shardheap_raw_take_value(
     words: &mut [u64],
     count: &mut u64,
 ) -> u32
-    ensures { ReadTold (λ l. TakeFitsDoes l key (length words.old)) result words.old words.new count.old count.new
+    ensures { ReadTold (HeldTakes key (length words.old)) result words.old words.new count.old count.new
         pass.old.slot.value pass.new.slot.value }
 {
     if !pass.is_full() {

@@ -1,9 +1,11 @@
 //! Each export reaches each code that `shardheap.h` names for it, except `Waiting`, which takes a second thread.
 //!
-//! The heaps are of layout tiny. A test opens a heap and closes it; its story is in functions over handles.
+//! The heaps are of layout tiny, and those of `growing` grow. A test opens a heap and closes it; its story is in
+//! functions over handles.
 mod batches;
 mod calls;
 mod codes;
+mod growing;
 mod memory;
 mod opening;
 mod owners;

@@ -1,12 +1,11 @@
 //! The calls that name a value: what they store, and what they write into the caller's room.
 ghost use Rattle.std.specs.Prelude.{◌≡◌, ◌≤◌, ◌+◌, ◌++◌, length};
-ghost use Rattle.sh_pass.specs.Passes.{ReadDoes};
-ghost use Rattle.sh_readers.specs.Readers.{FetchDoes};
+ghost use Rattle.c_handles.specs.HeldPasses.{HeldFetches, HeldReads};
 ghost use Rattle.c_exports.specs.Told.{InsertTold, InsertsWords, PrepareTold, PreparesFor, ReadTold, WordsTold};
 ghost use Rattle.c_exports.specs.Told.{number_told};
 
 use crate::codes::{EMPTY, OK, SHORT, code};
-use c_handles::{AnyMember, PassHandle};
+use c_handles::{HeldPass, PassHandle};
 use sh_shape::classes;
 use sh_value::{Hold, Refusal, Value, WORDS_MAX};
 use std::alloc::Global;
@@ -34,7 +33,7 @@ pub extern "C" fn shardheap_raw_read(
     words: &mut [u64],
     count: &mut u64,
 ) -> u32
-    ensures { ReadTold (λ l. ReadDoes key) result words.old words.new count.old count.new pass.old.slot.value
+    ensures { ReadTold (HeldReads key) result words.old words.new count.old count.new pass.old.slot.value
         pass.new.slot.value }
 {
     if !pass.is_full() {
@@ -58,7 +57,7 @@ pub extern "C" fn shardheap_raw_load(
     words: &mut [u64],
     count: &mut u64,
 ) -> u32
-    ensures { ReadTold (λ l. FetchDoes l key) result words.old words.new count.old count.new pass.old.slot.value
+    ensures { ReadTold (HeldFetches key) result words.old words.new count.old count.new pass.old.slot.value
         pass.new.slot.value }
 {
     if !pass.is_full() {
@@ -83,8 +82,8 @@ fn put_words(value: &mut Value, words: &[u64])
     }
 }
 
-// Stores the words as a value, in the shard that the pass owns.
-fn insert_words(member: &mut AnyMember, words: &[u64]) -> Result<u64, Refusal>
+// Stores the words as a value, in the shard that the pass owns, or in a chunk of a growing heap.
+fn insert_words(alloc: Global, member: &mut HeldPass, words: &[u64]) -> Result<u64, Refusal>
     ensures { InsertsWords words.now member.old result member.new }
 {
     if words.len() > WORDS_MAX {
@@ -92,7 +91,7 @@ fn insert_words(member: &mut AnyMember, words: &[u64]) -> Result<u64, Refusal>
     }
     let mut value = Value::empty();
     put_words(&mut value, words);
-    member.insert(&value)
+    member.insert(alloc, &value)
 }
 
 // Writes the number that a call returned, such as the key of a stored value.
@@ -104,10 +103,10 @@ pub(crate) fn tell_number(answer: &Result<u64, Refusal>, key: &mut u64)
     }
 }
 
-/// Stores a value under a new key in the shard that the pass owns, and writes the key.
+/// Stores a value under a new key in the shard that the pass owns, or in a chunk of a growing heap, and writes the key.
 #[unsafe(no_mangle)]
 pub extern "C" fn shardheap_raw_insert(
-    _alloc: Global,
+    alloc: Global,
     pass: &mut PassHandle,
     words: &[u64],
     key: &mut u64,
@@ -117,13 +116,13 @@ pub extern "C" fn shardheap_raw_insert(
     if !pass.is_full() {
         return EMPTY;
     }
-    let answer = insert_words(pass.held(), words);
+    let answer = insert_words(alloc, pass.held(), words);
     tell_number(&answer, key);
     code(&answer)
 }
 
 // Gives a page of the shard that the pass owns to the class of values of `words` words.
-fn prepare_for(member: &mut AnyMember, words: u32) -> Result<u32, Refusal>
+fn prepare_for(member: &mut HeldPass, words: u32) -> Result<u32, Refusal>
     ensures { PreparesFor words member.old result member.new }
 {
     match classes::class_of(words as usize) {

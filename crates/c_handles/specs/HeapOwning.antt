@@ -6,7 +6,7 @@ use Rattle.std.specs.Coded.{coded_option}
 use Rattle.std.specs.declared.option.Option.{Option}
 use Rattle.std.specs.Global.{Global}
 use Rattle.std_heap.specs.contracts.GlobalAllocator.TheImpl.{ghosts}
-use Rattle.c_handles.specs.contracts.heap.AnyHeap.{the_row}
+use Rattle.c_handles.specs.contracts.held_heap.HeldHeap.{the_row}
 use Rattle.sh_nullable.specs.Owning.{nullable_owns}
 
 abbrev pub heap_owns : Global → Ptr → Option the_row.Denot → Fml

@@ -9,7 +9,7 @@ use Rattle.sh_value.specs.declared.refusal.Refusal.TheVariants as refusal
 use Rattle.sh_table.specs.Seats.{Heap}
 use Rattle.sh_pool.specs.PoolSlots.{OpensPool}
 use Rattle.c_handles.specs.Members.{layout_of, side_of, pool_slot_of, Begins}
-use Rattle.c_handles.specs.declared.member.AnyMember.{AnyMember}
+use Rattle.c_handles.specs.declared.held_pass.HeldPass.{HeldPass}
 use Rattle.c_handles.specs.declared.heap.AnyHeap.{AnyHeap}
 use Rattle.c_handles.specs.declared.heap.AnyHeap.TheVariants as any
 use Rattle.c_handles.specs.declared.heap.LayoutName.{LayoutName}
@@ -67,6 +67,6 @@ OpensFor layout owners values words passes (Err refusal.Memory) = (n : Numbers)
 OpensFor layout owners values words passes (Err _) = ⊥
 
 -- a pass of the heap at rest, with its layout
-pub record AnyBegins (heap : AnyHeap) (m : AnyMember) : Type 0 where
+pub record AnyBegins (heap : AnyHeap) (m : HeldPass) : Type 0 where
   pub layout : layout_of m ≡ heap_layout heap
   pub begins : Begins (heap_of heap) (side_of m) (pool_slot_of m)

@@ -7,7 +7,7 @@ ghost use Rattle.c_handles.specs.Heaps.{AnyOpens, OpensShaped, OpensFor, AnyBegi
 ghost use Rattle.c_handles.specs.Heaps.{heap_of, layout_named, layout_number};
 ghost use Rattle.c_handles.specs.Members.{Begins};
 
-use crate::member::AnyMember;
+use crate::held_pass::HeldPass;
 use sh_key::{Deep, KeyLayout, Tagged, Tiny, Wide};
 use sh_member::Member;
 use sh_pool::{Pool, PoolSlot, Share, take_pass};
@@ -162,25 +162,25 @@ impl AnyHeap {
     }
 
     /// Takes a free pass. `None` if it finds each pool slot empty.
-    pub fn take(&self) -> Option<AnyMember>
+    pub fn take(&self) -> Option<HeldPass>
         ensures { IfSome result (AnyBegins self.now) }
     {
         match self {
             AnyHeap::Wide(share) => {
                 let (member, pool_slot) = taken(share)?;
-                Some(AnyMember::Wide(member, pool_slot))
+                Some(HeldPass::Wide(member, pool_slot))
             }
             AnyHeap::Tagged(share) => {
                 let (member, pool_slot) = taken(share)?;
-                Some(AnyMember::Tagged(member, pool_slot))
+                Some(HeldPass::Tagged(member, pool_slot))
             }
             AnyHeap::Deep(share) => {
                 let (member, pool_slot) = taken(share)?;
-                Some(AnyMember::Deep(member, pool_slot))
+                Some(HeldPass::Deep(member, pool_slot))
             }
             AnyHeap::Tiny(share) => {
                 let (member, pool_slot) = taken(share)?;
-                Some(AnyMember::Tiny(member, pool_slot))
+                Some(HeldPass::Tiny(member, pool_slot))
             }
         }
     }

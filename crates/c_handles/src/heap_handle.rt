@@ -3,17 +3,17 @@ ghost use Rattle.std.specs.Prelude.{◌≡◌, true, false};
 ghost use Rattle.std.specs.Option.{MatchOption};
 ghost use Rattle.std.specs.declared.option.Option.{Option};
 ghost use Rattle.std.specs.declared.option.Option.TheVariants.{None, Some};
-ghost use Rattle.c_handles.specs.declared.heap.AnyHeap.{AnyHeap as Held};
+ghost use Rattle.c_handles.specs.declared.held_heap.HeldHeap.{HeldHeap as Held};
 ghost use Rattle.sh_nullable.specs.Owning.{has_value};
 ghost use Rattle.c_handles.specs.HeapOwning.{heap_owns, heap_coded};
 
-use crate::heap::AnyHeap;
+use crate::held_heap::HeldHeap;
 use sh_nullable::NullableBox;
 use std::alloc::Global;
 use std::marker::Model;
 use std::mem::replace;
 
-/// A `NullableBox<AnyHeap>` whose pointer has no type, since C may not see a type that leads to an `Arc`.
+/// A `NullableBox<HeldHeap>` whose pointer has no type, since C may not see a type that leads to an `Arc`.
 #[repr(C)]
 #[derive(Drop)]
 pub struct HeapSlot {
@@ -27,7 +27,7 @@ impl Model for HeapSlot {
 }
 
 impl HeapSlot {
-    fn of_slot(slot: NullableBox<AnyHeap, Global>) -> HeapSlot
+    fn of_slot(slot: NullableBox<HeldHeap, Global>) -> HeapSlot
         ensures { result.value ≡ slot.value }
     {
         let NullableBox { at, alloc } = slot;
@@ -37,12 +37,12 @@ impl HeapSlot {
         }
     }
 
-    fn into_slot(self) -> NullableBox<AnyHeap, Global>
+    fn into_slot(self) -> NullableBox<HeldHeap, Global>
         ensures { result.value ≡ self.value }
     {
         let HeapSlot { at, alloc } = self;
         NullableBox {
-            at: at as *mut AnyHeap,
+            at: at as *mut HeldHeap,
             alloc,
         }
     }
@@ -69,7 +69,7 @@ impl HeapHandle {
     }
 
     /// A handle of what the box owned.
-    pub fn of(b: Box<AnyHeap, Global>) -> HeapHandle
+    pub fn of(b: Box<HeldHeap, Global>) -> HeapHandle
         ensures { result.slot.value ≡ Some b.value }
     {
         HeapHandle {
@@ -86,7 +86,7 @@ impl HeapHandle {
     }
 
     /// Takes the box out, if there is one.
-    pub fn take(&mut self, alloc: Global) -> Option<Box<AnyHeap, Global>>
+    pub fn take(&mut self, alloc: Global) -> Option<Box<HeldHeap, Global>>
         ensures gone { self.new.slot.value ≡ None }
         ensures value { MatchOption result (self.old.slot.value ≡ None) (λ b. self.old.slot.value ≡ Some b.value) }
     {

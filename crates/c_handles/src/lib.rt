@@ -1,7 +1,7 @@
 //! Handles: a heap, a pass or a receipt by its address, of any layout, for callers in other languages.
 //!
-//! A heap's layout is chosen when it is opened, so what a handle owns is of one of several types. Each call finds out
-//! which, and then calls the function of the heap's own crates.
+//! A heap's layout is chosen when it is opened, or it is one that grows, so what a handle owns is of one of several
+//! types. Each call finds out which, and then calls the function of the heap's own crates.
 #![tactic(auto)]
 
 mod accounts;
@@ -9,10 +9,13 @@ mod calls;
 mod counting;
 pub mod heap;
 pub mod heap_handle;
+pub mod held_heap;
+pub mod held_pass;
+mod held_whole;
 mod keys;
-pub mod member;
 mod moving;
 mod own_keys;
+mod owner;
 pub mod pass_handle;
 pub mod receipt_handle;
 pub mod receipts;
@@ -21,7 +24,8 @@ mod warming;
 
 pub use heap::AnyHeap;
 pub use heap_handle::HeapHandle;
-pub use member::AnyMember;
+pub use held_heap::HeldHeap;
+pub use held_pass::HeldPass;
 pub use pass_handle::PassHandle;
 pub use receipt_handle::ReceiptHandle;
 pub use receipts::KeptReceipt;

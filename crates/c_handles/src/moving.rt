@@ -1,49 +1,64 @@
-// How a member adopts a shard and leaves it.
-ghost use Rattle.sh_member.specs.Sides.{SideAdopts, SideLeaves};
+// How what a pass's handle holds adopts a shard and leaves it.
 ghost use Rattle.std.specs.Prelude.{MatchBool};
-ghost use Rattle.sh_member.specs.Sides.{IsPass};
-ghost use Rattle.c_handles.specs.Members.{AnyDoes, side_of};
+ghost use Rattle.c_handles.specs.HeldPasses.{HeldAdopts, HeldLeaves, LetsGo, MayGoHome};
 
-use crate::member::AnyMember;
+use crate::held_pass::HeldPass;
 use sh_value::Refusal;
 use std::alloc::Global;
 
-impl AnyMember {
-    /// Makes it the owner of shard `n`. Refused as `Taken` if it owns one already or another pass owns that one, as
-    /// `NoShard` if there is none, and as `Memory`.
+impl HeldPass {
+    /// Makes a pass the owner of shard `n`. Refused as `Taken` if it owns one already or another pass owns that one, as
+    /// `NoShard` if there is none, and as `Memory`. A caller is refused as `NoShard`.
     pub fn adopt(&mut self, alloc: Global, n: u64) -> Result<(), Refusal>
-        ensures { AnyDoes (λ l. SideAdopts n) self.old result self.new }
+        ensures { HeldAdopts n self.old result self.new }
     {
         match self {
-            AnyMember::Wide(member, _) => member.adopt(alloc, n),
-            AnyMember::Tagged(member, _) => member.adopt(alloc, n),
-            AnyMember::Deep(member, _) => member.adopt(alloc, n),
-            AnyMember::Tiny(member, _) => member.adopt(alloc, n),
+            HeldPass::Wide(member, _) => member.adopt(alloc, n),
+            HeldPass::Tagged(member, _) => member.adopt(alloc, n),
+            HeldPass::Deep(member, _) => member.adopt(alloc, n),
+            HeldPass::Tiny(member, _) => member.adopt(alloc, n),
+            HeldPass::Growing(_) => Err(Refusal::NoShard),
         }
     }
 
-    /// Leaves the shard that it owns. Refused as `NoShard` if it owns none, and as `Waiting` if another caller has
-    /// begun a free there and not ended it.
+    /// Leaves the shard that a pass owns, or all shards that a caller owns. A pass that owns none is refused as
+    /// `NoShard`. Refused as `Waiting` if another caller has begun a free there and not ended it.
     pub fn leave(&mut self) -> Result<(), Refusal>
-        ensures { AnyDoes (λ l. SideLeaves) self.old result self.new }
+        ensures { HeldLeaves self.old result self.new }
     {
         match self {
-            AnyMember::Wide(member, _) => member.leave(),
-            AnyMember::Tagged(member, _) => member.leave(),
-            AnyMember::Deep(member, _) => member.leave(),
-            AnyMember::Tiny(member, _) => member.leave(),
+            HeldPass::Wide(member, _) => member.leave(),
+            HeldPass::Tagged(member, _) => member.leave(),
+            HeldPass::Deep(member, _) => member.leave(),
+            HeldPass::Tiny(member, _) => member.leave(),
+            HeldPass::Growing(caller) => caller.leave(),
         }
     }
 
-    /// Whether it owns a shard.
+    /// Whether it is a pass that owns a shard, so that it cannot be given back.
     pub fn owns_shard(&self) -> bool
-        ensures { MatchBool result (¬ IsPass (side_of self.now)) (IsPass (side_of self.now)) }
+        ensures { MatchBool result (¬ MayGoHome self.now) (MayGoHome self.now) }
     {
         match self {
-            AnyMember::Wide(member, _) => member.owns_shard(),
-            AnyMember::Tagged(member, _) => member.owns_shard(),
-            AnyMember::Deep(member, _) => member.owns_shard(),
-            AnyMember::Tiny(member, _) => member.owns_shard(),
+            HeldPass::Wide(member, _) => member.owns_shard(),
+            HeldPass::Tagged(member, _) => member.owns_shard(),
+            HeldPass::Deep(member, _) => member.owns_shard(),
+            HeldPass::Tiny(member, _) => member.owns_shard(),
+            HeldPass::Growing(_) => false,
+        }
+    }
+
+    /// Leaves the shards of a caller, so that it may be given back. A pass keeps its shard. Refused as `Waiting` if
+    /// another caller has begun a free in one of the shards and not ended it.
+    pub fn let_go(&mut self) -> Result<(), Refusal>
+        ensures { LetsGo self.old result self.new }
+    {
+        match self {
+            HeldPass::Wide(_, _) => Ok(()),
+            HeldPass::Tagged(_, _) => Ok(()),
+            HeldPass::Deep(_, _) => Ok(()),
+            HeldPass::Tiny(_, _) => Ok(()),
+            HeldPass::Growing(ending) => ending.leave(),
         }
     }
 }

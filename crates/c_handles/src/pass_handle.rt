@@ -3,17 +3,17 @@ ghost use Rattle.std.specs.Prelude.{◌≡◌, true, false};
 ghost use Rattle.std.specs.Option.{MatchOption};
 ghost use Rattle.std.specs.declared.option.Option.{Option};
 ghost use Rattle.std.specs.declared.option.Option.TheVariants.{None, Some};
-ghost use Rattle.c_handles.specs.declared.member.AnyMember.{AnyMember as Held};
+ghost use Rattle.c_handles.specs.declared.held_pass.HeldPass.{HeldPass as Held};
 ghost use Rattle.sh_nullable.specs.Owning.{has_value};
 ghost use Rattle.c_handles.specs.PassOwning.{pass_owns, pass_coded};
 
-use crate::member::AnyMember;
+use crate::held_pass::HeldPass;
 use sh_nullable::NullableBox;
 use std::alloc::Global;
 use std::marker::Model;
 use std::mem::replace;
 
-/// A `NullableBox<AnyMember>` whose pointer has no type, since C may not see a type that leads to an `Arc`.
+/// A `NullableBox<HeldPass>` whose pointer has no type, since C may not see a type that leads to an `Arc`.
 #[repr(C)]
 #[derive(Drop)]
 pub struct PassSlot {
@@ -27,7 +27,7 @@ impl Model for PassSlot {
 }
 
 impl PassSlot {
-    fn of_slot(slot: NullableBox<AnyMember, Global>) -> PassSlot
+    fn of_slot(slot: NullableBox<HeldPass, Global>) -> PassSlot
         ensures { result.value ≡ slot.value }
     {
         let NullableBox { at, alloc } = slot;
@@ -37,12 +37,12 @@ impl PassSlot {
         }
     }
 
-    fn into_slot(self) -> NullableBox<AnyMember, Global>
+    fn into_slot(self) -> NullableBox<HeldPass, Global>
         ensures { result.value ≡ self.value }
     {
         let PassSlot { at, alloc } = self;
         NullableBox {
-            at: at as *mut AnyMember,
+            at: at as *mut HeldPass,
             alloc,
         }
     }
@@ -52,12 +52,12 @@ impl PassSlot {
 
     // What it owns, in place. (Its proof is a file of `proofs/`.)
     #[inline(always)]
-    fn in_place(&mut self) -> &mut AnyMember
+    fn in_place(&mut self) -> &mut HeldPass
         requires { has_value self.old.value ≡ true }
         ensures* writes_back { sem 𝓛 (LendsPass self.entry result) }
         ensures value { self.old.value ≡ Some result.now }
     {
-        unsafe { &mut *(self.at as *mut AnyMember) }
+        unsafe { &mut *(self.at as *mut HeldPass) }
     }
 }
 
@@ -94,7 +94,7 @@ impl PassHandle {
     }
 
     /// A handle of what the box owned.
-    pub fn of(b: Box<AnyMember, Global>) -> PassHandle
+    pub fn of(b: Box<HeldPass, Global>) -> PassHandle
         ensures { result.slot.value ≡ Some b.value }
     {
         PassHandle {
@@ -112,7 +112,7 @@ impl PassHandle {
 
     /// The pass of a full handle, in place.
     #[inline(always)]
-    pub fn held(&mut self) -> &mut AnyMember
+    pub fn held(&mut self) -> &mut HeldPass
         requires { has_value self.old.slot.value ≡ true }
         ensures* writes_back { sem 𝓛 (LendsHeld self.entry result) }
         ensures value { self.old.slot.value ≡ Some result.now }
@@ -121,7 +121,7 @@ impl PassHandle {
     }
 
     /// Takes the box out, if there is one.
-    pub fn take(&mut self, alloc: Global) -> Option<Box<AnyMember, Global>>
+    pub fn take(&mut self, alloc: Global) -> Option<Box<HeldPass, Global>>
         ensures gone { self.new.slot.value ≡ None }
         ensures value { MatchOption result (self.old.slot.value ≡ None) (λ b. self.old.slot.value ≡ Some b.value) }
     {
@@ -129,7 +129,7 @@ impl PassHandle {
     }
 
     // The box, if there is one.
-    fn into_box(self) -> Option<Box<AnyMember, Global>>
+    fn into_box(self) -> Option<Box<HeldPass, Global>>
         ensures { MatchOption result (self.slot.value ≡ None) (λ b. self.slot.value ≡ Some b.value) }
     {
         let PassHandle { slot, full } = self;

@@ -1,9 +1,8 @@
-//! Receipts of a member.
+//! Receipts of what a pass's handle holds. There are none of a growing heap.
 ghost use Rattle.std.specs.Prelude.{◌≡◌};
-ghost use Rattle.sh_member.specs.Sides.{IsOfHeap, IsReceiptBy};
-ghost use Rattle.c_handles.specs.Members.{AnyHeeds, side_of};
+ghost use Rattle.c_handles.specs.HeldPasses.{HeldHeeds, IsOfHeldHeap, IsReceiptOf};
 
-use crate::member::AnyMember;
+use crate::held_pass::HeldPass;
 use sh_pass::Receipt;
 
 /// A receipt in a box of its own. It has no bytes.
@@ -13,30 +12,32 @@ pub struct KeptReceipt {
     pub receipt: Receipt,
 }
 
-impl AnyMember {
-    /// A receipt of all replies to it, and of all that it heard of other passes.
-    pub fn receipt(&mut self) -> Receipt
+impl HeldPass {
+    /// A receipt of all replies to a pass, and of all that it heard of other passes. `None` of a caller.
+    pub fn receipt(&mut self) -> Option<Receipt>
         ensures same { self.new ≡ self.old }
-        ensures tells { IsReceiptBy (side_of self.old) result }
+        ensures receipt { IsReceiptOf self.old result }
     {
         match self {
-            AnyMember::Wide(member, _) => member.receipt(),
-            AnyMember::Tagged(member, _) => member.receipt(),
-            AnyMember::Deep(member, _) => member.receipt(),
-            AnyMember::Tiny(member, _) => member.receipt(),
+            HeldPass::Wide(member, _) => Some(member.receipt()),
+            HeldPass::Tagged(member, _) => Some(member.receipt()),
+            HeldPass::Deep(member, _) => Some(member.receipt()),
+            HeldPass::Tiny(member, _) => Some(member.receipt()),
+            HeldPass::Growing(_) => None,
         }
     }
 
-    /// Everything that the receipt covers happens before all later replies to it.
+    /// Everything that the receipt covers happens before all later replies to the pass. A caller drops the receipt.
     pub fn heed(&mut self, receipt: Receipt)
-        requires { IsOfHeap (side_of self.old) receipt.heap }
-        ensures { AnyHeeds receipt self.old self.new }
+        requires { IsOfHeldHeap self.old receipt.heap }
+        ensures { HeldHeeds receipt self.old self.new }
     {
         match self {
-            AnyMember::Wide(member, _) => member.heed(receipt),
-            AnyMember::Tagged(member, _) => member.heed(receipt),
-            AnyMember::Deep(member, _) => member.heed(receipt),
-            AnyMember::Tiny(member, _) => member.heed(receipt),
+            HeldPass::Wide(member, _) => member.heed(receipt),
+            HeldPass::Tagged(member, _) => member.heed(receipt),
+            HeldPass::Deep(member, _) => member.heed(receipt),
+            HeldPass::Tiny(member, _) => member.heed(receipt),
+            HeldPass::Growing(_) => drop(receipt),
         }
     }
 }

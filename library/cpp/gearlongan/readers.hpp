@@ -275,11 +275,13 @@ protected:
     }
     ~reader() { close(); }
 
-    // Brings the pass home, once it has left the shard that it may own. Loses it if it cannot leave.
+    // Brings the pass home, once it has left the shard that it may own. Loses it if it cannot leave. (In a growing heap
+    // the close leaves the shards, and is waiting if that is.)
     void close() noexcept {
         unguarded();
         for (int tries = 0; tries < 1000; tries++) {
-            if (shardheap_pass_close(&raw_) != SHARDHEAP_OWNS) return;
+            const std::uint32_t code = shardheap_pass_close(&raw_);
+            if (code != SHARDHEAP_OWNS && code != SHARDHEAP_WAITING) return;
             if (shardheap_leave(&raw_) == SHARDHEAP_WAITING) std::this_thread::yield();
         }
         shardheap_pass_lose(&raw_);

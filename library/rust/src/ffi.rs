@@ -75,6 +75,15 @@ impl Loaded {
 extern "C" {
     fn shardheap_raw_open(heap: *mut Raw, layout: u32, shards: u32, segments: u32, passes: u32) -> u32;
     fn shardheap_raw_open_for(heap: *mut Raw, layout: u32, owners: u32, values: u64, words: u32, passes: u32) -> u32;
+    fn shardheap_raw_open_growing(
+        heap: *mut Raw,
+        owners: u32,
+        values: u64,
+        words: u32,
+        passes: u32,
+        chunks: u32,
+    ) -> u32;
+    fn shardheap_raw_chunks(heap: *mut Raw) -> u64;
     fn shardheap_raw_passes(heap: *mut Raw) -> u64;
     fn shardheap_raw_take(heap: *mut Raw, pass: *mut Raw) -> u32;
     fn shardheap_raw_close(heap: *mut Raw);
@@ -142,6 +151,21 @@ impl HeapHandle {
         Ok(HeapHandle::of(raw, layout))
     }
 
+    /// A growing heap. It is never recorded.
+    pub(crate) fn open_growing(
+        owners: u32,
+        values: u64,
+        words: u32,
+        passes: u32,
+        chunks: u32,
+    ) -> Result<HeapHandle, Error> {
+        let mut raw = Raw::EMPTY;
+        // SAFETY: the handle is an empty one of this function.
+        told(unsafe { shardheap_raw_open_growing(&mut raw, owners, values, words, passes, chunks) })?;
+        // (A key may have as many holds as in layout deep.)
+        Ok(HeapHandle::of(raw, Layout::Deep))
+    }
+
     // Nothing panics while the lock is held, so that what it guards is whole even if it were poisoned.
     fn lock(&self) -> MutexGuard<'_, Raw> {
         self.raw.lock().unwrap_or_else(PoisonError::into_inner)
@@ -150,6 +174,11 @@ impl HeapHandle {
     pub(crate) fn passes(&self) -> u64 {
         // SAFETY: the lock gives the handle to this call alone.
         unsafe { shardheap_raw_passes(&mut *self.lock()) }
+    }
+
+    pub(crate) fn chunks(&self) -> u64 {
+        // SAFETY: as in `passes`.
+        unsafe { shardheap_raw_chunks(&mut *self.lock()) }
     }
 
     pub(crate) fn take(&self) -> Result<PassHandle, Error> {

@@ -9,6 +9,7 @@
 //! - A pass that [adopts](Pass::adopt) a shard is a [`Shard`] until it [leaves](Shard::leave): it also inserts.
 //! - A [`Guard`] keeps a value readable, removed or not, until it is dropped.
 //! - A [`Receipt`] orders the calls of one pass before those of another.
+//! - A [`Growing`] heap opens chunks as its [`Caller`]s insert. They adopt shards by themselves.
 //!
 //! A [`slab::Slab`] stores values of any type over such heaps, and a [`slab::Pool`] uses their memory again. They have
 //! the interface of the crate `sharded-slab`.
@@ -68,6 +69,7 @@
 mod accounts;
 mod error;
 mod ffi;
+mod growing;
 mod guard;
 mod heap;
 #[cfg(feature = "record")]
@@ -95,6 +97,7 @@ mod readme {}
 
 pub use accounts::{PageAccounts, Totals};
 pub use error::{AdoptError, Error, LeaveError};
+pub use growing::{Caller, Growing};
 pub use guard::Guard;
 pub use heap::{Heap, Layout, Room, Shape};
 pub use key::Key;

@@ -252,6 +252,17 @@ uint32_t shardheap_raw_open_for(shardheap *heap, uint32_t layout, uint32_t owner
     abort();
 }
 
+uint32_t shardheap_raw_open_growing(shardheap *heap, uint32_t owners, uint64_t values, uint32_t words, uint32_t passes,
+                                    uint32_t chunks) {
+    (void)heap, (void)owners, (void)values, (void)words, (void)passes, (void)chunks;
+    abort();
+}
+
+uint64_t shardheap_raw_chunks(shardheap *heap) {
+    (void)heap;
+    abort();
+}
+
 uint64_t shardheap_raw_passes(shardheap *heap) {
     (void)heap;
     abort();

@@ -1,7 +1,7 @@
 //! Memory that is refused: the process may have no more. (`library/c/memory.c` refuses each allocation in turn.)
 #![cfg(all(target_os = "linux", target_pointer_width = "64"))]
 use gearlongan::slab::Slab;
-use gearlongan::{Error, Heap, Layout, Room};
+use gearlongan::{Error, Heap, Key, Layout, Room};
 
 #[repr(C)]
 #[derive(Clone, Copy)]
@@ -59,9 +59,28 @@ fn a_slab_that_cannot_grow_returns_none_and_stays_as_it_is() {
     assert!(slab.insert(7).is_some_and(|key| slab.contains(key)));
 }
 
+fn a_growing_heap_that_cannot_grow_is_refused_and_stays_as_it_is() {
+    let heap = Heap::growing(Room { owners: 1, values: 1, words: 1, passes: 1 }, 256).expect("it opens");
+    let caller = heap.take().expect("a pass is at home");
+    // Chunks for this many values are larger than what the process has.
+    const MOST: usize = 1_000_000;
+    let mut keys: Vec<Key> = Vec::with_capacity(MOST);
+    let refused = without_memory(|| {
+        keys.extend((0..MOST as u64).map_while(|n| caller.insert(&[n]).ok()));
+        caller.insert(&[7])
+    });
+    assert!(keys.len() < MOST);
+    assert_eq!(refused, Err(Error::Memory));
+    for (n, key) in keys.iter().enumerate() {
+        assert_eq!(caller.load(*key).expect("it is there"), [n as u64]);
+    }
+    assert!(caller.insert(&[7]).is_ok());
+}
+
 /// One test, since the limit is of the process: no other thread may allocate.
 #[test]
 fn refused_memory() {
     refused_memory_is_an_answer();
     a_slab_that_cannot_grow_returns_none_and_stays_as_it_is();
+    a_growing_heap_that_cannot_grow_is_refused_and_stays_as_it_is();
 }

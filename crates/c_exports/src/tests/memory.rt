@@ -3,8 +3,10 @@ use super::codes::{MEMORY, NO_SHARD, OK, TINY};
 use super::{agree, given, left};
 use crate::accounts::shardheap_raw_gather;
 use crate::calls::{shardheap_raw_adopt, shardheap_raw_leave};
-use crate::opening::{shardheap_raw_open, shardheap_raw_open_for, shardheap_raw_share};
-use crate::passes::{shardheap_raw_passes, shardheap_raw_take};
+use crate::opening::{
+    shardheap_raw_open, shardheap_raw_open_for, shardheap_raw_open_growing, shardheap_raw_share,
+};
+use crate::passes::{shardheap_raw_chunks, shardheap_raw_passes, shardheap_raw_take};
 use crate::receipts::shardheap_raw_receipt_make;
 use crate::values::{shardheap_raw_insert, shardheap_raw_prepare};
 use c_handles::{HeapHandle, PassHandle, ReceiptHandle};
@@ -38,6 +40,18 @@ fn opens_for(rt: &impl Abort, alloc: Global, heap: &mut HeapHandle) {
         );
     }
     agree(rt, shardheap_raw_passes(alloc, heap), 3);
+}
+
+fn grows(rt: &impl Abort, alloc: Global, heap: &mut HeapHandle) {
+    if is_refused(rt, shardheap_raw_open_growing(alloc, heap, 1, 1, 1, 2, 2)) {
+        agree(rt, shardheap_raw_chunks(alloc, heap), 0);
+        agree(
+            rt,
+            shardheap_raw_open_growing(alloc, heap, 1, 1, 1, 2, 2),
+            OK,
+        );
+    }
+    agree(rt, shardheap_raw_chunks(alloc, heap), 1);
 }
 
 fn shares(rt: &impl Abort, alloc: Global, heap: &mut HeapHandle) {
@@ -129,4 +143,21 @@ fn refused_memory_changes_nothing(rt: HostRuntime) {
     gathers(&rt, alloc, &mut heap);
     let mut larger = HeapHandle::empty(alloc);
     opens_for(&rt, alloc, &mut larger);
+}
+
+// 24 values of 16 words fill the first chunk, and the next insert opens another.
+#[test]
+fn refused_memory_changes_no_growing_heap(rt: HostRuntime) {
+    let alloc = rt.alloc();
+    let mut heap = HeapHandle::empty(alloc);
+    grows(&rt, alloc, &mut heap);
+    shares(&rt, alloc, &mut heap);
+    let mut pass = takes(&rt, alloc, &mut heap);
+    let other = takes(&rt, alloc, &mut heap);
+    for _ in 0..25 {
+        inserts(&rt, alloc, &mut pass);
+    }
+    agree(&rt, shardheap_raw_chunks(alloc, &mut heap), 2);
+    given(&rt, alloc, other);
+    left(&rt, alloc, pass);
 }

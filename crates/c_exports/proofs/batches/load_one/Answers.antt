@@ -1,4 +1,4 @@
-use Rattle.std.proofs.Common.{refl, Ok, Err}
+use Rattle.std.proofs.Common.{refl}
 use Rattle.c_exports.proofs.ReadingInto.{fetches_into}
 use Rattle.c_exports.proofs.batches.load_one.Goals as goal
 

@@ -12,14 +12,14 @@ use Rattle.std.specs.Global.{Global}
 use Rattle.std.proofs.Crossing as heap
 use Rattle.std_alloc.proofs.SendSync.{quiet, lies}
 use Rattle.std_heap.proofs.Global.TheSendSync as handle
-use Rattle.c_handles.specs.contracts.heap.AnyHeap as AnyHeap
-use Rattle.c_handles.proofs.heap.AnyHeap.TheSendSync.{the_send as pass}
+use Rattle.c_handles.specs.contracts.held_heap.HeldHeap as HeldHeap
+use Rattle.c_handles.proofs.held_heap.HeldHeap.TheSendSync.{the_send as pass}
 use Rattle.c_handles.specs.HeapOwning.{heap_owns}
 use Rattle.c_handles.specs.contracts.heap_handle.HeapSlot.{the_row, the_type}
 
-owned : (a : Global) (p : Ptr) (o : Option AnyHeap.the_row.Denot) → Keyless (heap_owns a p o)
+owned : (a : Global) (p : Ptr) (o : Option HeldHeap.the_row.Denot) → Keyless (heap_owns a p o)
 owned a p None = tt
-owned a p (Some x) = (lies AnyHeap.the_row pass p x, heap.frees.frees a (raw (lone AnyHeap.the_row.mir)) p)
+owned a p (Some x) = (lies HeldHeap.the_row pass p x, heap.frees.frees a (raw (lone HeldHeap.the_row.mir)) p)
 
 pub send : IsSend the_row
 send =

@@ -12,14 +12,14 @@ use Rattle.std.specs.Global.{Global}
 use Rattle.std.proofs.Crossing as heap
 use Rattle.std_alloc.proofs.SendSync.{quiet, lies}
 use Rattle.std_heap.proofs.Global.TheSendSync as handle
-use Rattle.c_handles.specs.contracts.member.AnyMember as AnyMember
-use Rattle.c_handles.proofs.member.AnyMember.TheSendSync.{the_send as pass}
+use Rattle.c_handles.specs.contracts.held_pass.HeldPass as HeldPass
+use Rattle.c_handles.proofs.held_pass.HeldPass.TheSendSync.{the_send as pass}
 use Rattle.c_handles.specs.PassOwning.{pass_owns}
 use Rattle.c_handles.specs.contracts.pass_handle.PassSlot.{the_row, the_type}
 
-owned : (a : Global) (p : Ptr) (o : Option AnyMember.the_row.Denot) → Keyless (pass_owns a p o)
+owned : (a : Global) (p : Ptr) (o : Option HeldPass.the_row.Denot) → Keyless (pass_owns a p o)
 owned a p None = tt
-owned a p (Some x) = (lies AnyMember.the_row pass p x, heap.frees.frees a (raw (lone AnyMember.the_row.mir)) p)
+owned a p (Some x) = (lies HeldPass.the_row pass p x, heap.frees.frees a (raw (lone HeldPass.the_row.mir)) p)
 
 pub send : IsSend the_row
 send =

@@ -1,4 +1,4 @@
-use Rattle.c_handles.proofs.member.AnyMember.take_into.Goals as goal
+use Rattle.c_handles.proofs.held_pass.HeldPass.fetch_into.Goals as goal
 
 pub returns-in-Wide : goal.returns-in-Wide
 returns-in-Wide c = rw c.in-Wide.is search
@@ -11,3 +11,6 @@ returns-in-Deep c = rw c.in-Deep.is search
 
 pub returns-in-Tiny : goal.returns-in-Tiny
 returns-in-Tiny c = rw c.in-Tiny.is search
+
+pub returns-in-Growing : goal.returns-in-Growing
+returns-in-Growing c = rw c.in-Growing.is search

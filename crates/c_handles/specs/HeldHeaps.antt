@@ -1,0 +1,48 @@
+-- What a heap's handle holds: a heap of a fixed shape in any layout, or one that grows.
+use Rattle.std.specs.Prelude.{◌≡◌, ℕ, Result, Ok, Err}
+use Rattle.sh_value.specs.declared.refusal.Refusal.{Refusal}
+use Rattle.sh_whole.specs.declared.refusal.NotTold.{NotTold}
+use Rattle.sh_whole.specs.declared.refusal.NotTold.TheVariants as untold
+use Rattle.sh_grown.specs.Callers.{IsClaimed}
+use Rattle.sh_grown.specs.Growing.{OpensGrowingFor}
+use Rattle.c_handles.specs.Heaps.{AnyBegins, heap_of}
+use Rattle.c_handles.specs.declared.heap.AnyHeap.{AnyHeap}
+use Rattle.c_handles.specs.declared.held_heap.HeldHeap.{HeldHeap}
+use Rattle.c_handles.specs.declared.held_heap.HeldHeap.TheVariants as held
+use Rattle.c_handles.specs.declared.held_pass.HeldPass.{HeldPass}
+use Rattle.c_handles.specs.declared.held_pass.HeldPass.TheVariants as pass
+
+-- how many passes it has
+abbrev pub passes_of : HeldHeap → ℕ
+passes_of (held.Fixed heap) = (heap_of heap).shape.passes
+passes_of (held.Growing growing) = growing.passes
+
+-- how many of its chunks are open: a heap of a fixed shape is one, and of one that grows the tests show it
+abbrev pub HasChunks : HeldHeap → ℕ → Type 0
+HasChunks (held.Fixed heap) chunks = chunks ≡ 1
+HasChunks (held.Growing growing) chunks = Unit {0}
+
+-- the opening of a heap of a fixed shape does this
+abbrev pub OpensFixed : (Result AnyHeap Refusal → Type 0) → Result HeldHeap Refusal → Type 0
+OpensFixed opens (Ok (held.Fixed heap)) = opens (Ok heap)
+OpensFixed opens (Ok (held.Growing growing)) = ⊥
+OpensFixed opens (Err why) = opens (Err why)
+
+-- a growing heap is opened whose first chunk has this room
+abbrev pub OpensGrown : (owners values words passes chunks : ℕ) → Result HeldHeap Refusal → Type 0
+OpensGrown owners values words passes chunks (Ok (held.Fixed heap)) = ⊥
+OpensGrown owners values words passes chunks (Ok (held.Growing growing)) =
+    OpensGrowingFor owners values words passes chunks (Ok growing)
+OpensGrown owners values words passes chunks (Err why) = OpensGrowingFor owners values words passes chunks (Err why)
+
+-- a pass of the heap at rest, or a caller of it that was just claimed
+abbrev pub HeldBegins : HeldHeap → HeldPass → Type 0
+HeldBegins (held.Fixed heap) m = AnyBegins heap m
+HeldBegins (held.Growing growing) (pass.Growing c) =
+    (c.growing ≡ growing) × IsClaimed growing.cells.items c.number c.met.items
+HeldBegins (held.Growing growing) m = ⊥
+
+-- a call on the heap as a whole: one that grows is not known as a whole
+abbrev pub OnWhole : {A : Type 0} → (AnyHeap → Result A NotTold → Type 0) → HeldHeap → Result A NotTold → Type 0
+OnWhole does (held.Fixed heap) answer = does heap answer
+OnWhole does (held.Growing growing) answer = answer ≡ Err untold.Away

@@ -1,0 +1,93 @@
+// Heaps that grow: values of several chunks, callers that come home, and threads.
+#include "check.hpp"
+
+#include <cstdint>
+#include <thread>
+#include <utility>
+#include <vector>
+
+namespace {
+
+constexpr std::uint64_t chunk = 384;
+
+// At most three chunks, each of a shard of one segment.
+gearlongan::growing_heap three_chunks(std::uint32_t passes) {
+    return gearlongan::growing_heap::open({1, chunk, 1, passes}, 3);
+}
+
+std::vector<gearlongan::key> stored(gearlongan::caller &caller, std::uint64_t from, std::uint64_t count) {
+    std::vector<gearlongan::key> keys;
+    for (std::uint64_t n = from; n < from + count; n++) keys.push_back(caller.insert({n}));
+    return keys;
+}
+
+} // namespace
+
+TEST(a_growing_heap_is_opened) {
+    gearlongan::growing_heap heap;
+    CHECK(!heap && heap.chunks() == 0 && heap.passes() == 0);
+    IS(heap.try_open({0, 1, 1, 1}, 1), bad_shape);
+    IS(heap.try_open({1, 1, 17, 1}, 1), bad_shape);
+    IS(heap.try_open({1, 1, 1, 65}, 1), bad_shape);
+    IS(heap.try_open({1, 1, 1, 1}, 0), bad_shape);
+    IS(heap.try_open({1, 1, 1, 1}, 257), bad_shape);
+    IS(heap.try_open({1, 1, 1, 2}, 256), ok);
+    IS(heap.try_open({1, 1, 1, 2}, 256), occupied);
+    CHECK(heap && heap.chunks() == 1 && heap.passes() == 2);
+    THROWS(gearlongan::growing_heap::open({1, 1, 1, 1}, 0), bad_shape);
+}
+
+TEST(inserts_open_chunks) {
+    auto heap = three_chunks(2);
+    auto caller = heap.take(), other = heap.take();
+    for (std::uint64_t n = 0; n < 3; n++) {
+        const auto keys = stored(caller, n * chunk, chunk);
+        CHECK(heap.chunks() == n + 1);
+        for (std::uint64_t at = 0; at < chunk; at++) CHECK((*other.load(keys[at]))[0] == n * chunk + at);
+        auto guard = other.get(keys[0]);
+        CHECK(caller.remove(keys[0]) && guard.read()[0] == n * chunk);
+        guard.reset();
+        CHECK(!other.load(keys[0]));
+    }
+    CHECK(stored(caller, 5000, 3).size() == 3);
+    THROWS(caller.insert({7}), full);
+    IS(caller.try_collect(), ok);
+    IS(caller.try_leave(), ok);
+    IS(caller.try_leave(), ok);
+}
+
+TEST(callers_move_and_come_home) {
+    auto heap = three_chunks(1);
+    {
+        auto caller = heap.take();
+        const auto key = caller.insert({7});
+        gearlongan::caller moved = std::move(caller);
+        CHECK(moved && (*moved.load(key))[0] == 7);
+        THROWS(heap.take(), no_pass);
+    }
+    auto caller = heap.take();
+    auto other = std::move(heap);
+    CHECK(other.chunks() == 1);
+    other.close();
+    CHECK(caller.insert({8}).number() != 0);
+    caller.close();
+    CHECK(!caller);
+}
+
+TEST(threads_fill_a_growing_heap) {
+    constexpr std::uint64_t each = 2000;
+    auto heap = gearlongan::growing_heap::open({1, 1, 1, 4}, 256);
+    std::vector<std::vector<gearlongan::key>> keys(4);
+    std::vector<std::thread> threads;
+    for (std::size_t n = 0; n < 4; n++)
+        threads.emplace_back([&mine = keys[n], n, caller = heap.take()]() mutable {
+            mine = stored(caller, n * each, each);
+        });
+    for (auto &it : threads) it.join();
+    auto caller = heap.take();
+    for (std::size_t n = 0; n < 4; n++)
+        for (std::uint64_t at = 0; at < each; at++) {
+            CHECK((*caller.load(keys[n][at]))[0] == n * each + at);
+            CHECK(caller.remove(keys[n][at]) && !caller.load(keys[n][at]));
+        }
+}
