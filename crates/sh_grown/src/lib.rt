@@ -12,6 +12,7 @@ pub mod growing;
 mod inserting;
 mod leaving;
 pub mod met;
+mod pools;
 pub mod share;
 
 pub use caller::Caller;
