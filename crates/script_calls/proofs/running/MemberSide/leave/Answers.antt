@@ -5,5 +5,5 @@ pub returns : goal.returns
 returns g c =
     let layout = g.L.KeyLayout.layout in
     let call = c.leave in
-    let h = member_leaves layout c.args.self.now call.new.self call.result call.ensures in
+    let h = member_leaves layout c.args.self.now call.new.self call.result call.ensures.serves in
     record { does = h.0; same = h.1 }
