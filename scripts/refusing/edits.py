@@ -22,7 +22,7 @@ class Function:
         self.rows = range(len(above) + 1, text.count("\n", 0, self.end) + 2)
         self.head = sum(len(line) + 1 for line in above)
         owners = [it for it in OWNER.finditer(text, 0, self.start)] if self.indent else []
-        # (the words of the head, as `Holder`, `Side`: the prover's name of an impl is made of some of them)
+        # (the words of the head, as `Member`, `Side`: the prover's name of an impl is made of some of them)
         self.owners = set(re.findall(r"[A-Z]\w+", owners[-1][1])) if owners else set()
         # (`impl Part`, `impl Pass<L, H>`: of an impl of a trait the prover makes another name)
         head = re.sub(r"<[^<>]*>", "", re.sub(r"<[^<>]*>", "", owners[-1][1])).split() if owners else []

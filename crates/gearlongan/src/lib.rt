@@ -126,6 +126,26 @@
 //! never used again once their keys are removed. A shard that is dropped stays taken. After either, `gather` never
 //! finds all passes.
 //!
+//! # A heap that grows
+//!
+//! The shape of a `Heap` is fixed. A `Growing` is a list of heaps, its chunks: a new one is opened when an insert finds
+//! no room in those before it. Threads use it by a `GrowingShare`. A `Caller` is the pass of a growing heap, one for
+//! each thread. It owns the shards that its inserts need, and gets, reads, removes and releases any key:
+//!
+//! ```text
+//! fn stored(alloc: Global) -> Result<Value, Refusal> {
+//!     let growing = GrowingShare::open(alloc, 64, 256)?;      // passes, and chunks at most
+//!     let mut caller = growing.claim(alloc)?;                 // one for each thread
+//!     let key = caller.insert(alloc, &Value::of([7, 8]))?;    // opens a chunk if no open one has room
+//!     let value = caller.fetch(key)?;
+//!     caller.remove(key)?;
+//!     let Ok(()) = caller.end() else {                        // leaves its shards: its number can be claimed again
+//!         return Err(Refusal::Waiting);
+//!     };
+//!     Ok(value)
+//! }
+//! ```
+//!
 //! # Threads
 //!
 //! `both` runs two `Task`s, and `all` those of a list, each in a thread of its own if one can be made. The ghost member
@@ -170,6 +190,7 @@ pub use sh_core::Accounts;
 pub use sh_gather::{
     PageAccounts, Totals, Whole, all_accounts, gather, join, next_key, total, whole,
 };
+pub use sh_grown::{Caller, Chunk, Growing, GrowingShare, GrownGuard, NotTold};
 pub use sh_key::{Deep, KeyLayout, Tagged, Tiny, Wide};
 pub use sh_pass::{Guard, Heap, NextKey, Pass, Receipt, Seats, remove_then_get};
 pub use sh_plain::{Lookup, Store};

@@ -19,7 +19,7 @@ use Rattle.script_models.specs.PlainRun.{Run, insert_attempt}
 use Rattle.script_calls.specs.Parts.{PassPart, Becomes, is_key_of_shard}
 use Rattle.script_calls.specs.Calls.{CallAnswers, UnlessRefused, ValueInserted, needs_shard}
 use Rattle.script_calls.specs.InOrder.{is_key}
-use Rattle.script_calls.specs.Standing.{InsertServed}
+use Rattle.sh_member.specs.Sides.{SideInserts}
 use Rattle.script_calls.specs.Runs.{with_number}
 use Rattle.script_beside.specs.Beside.{CallBeside, InsertsBeside, unnamed}
 use Rattle.script_beside.proofs.Names.{AreNames, one_more_name, shown_is}
@@ -93,11 +93,9 @@ module _ (t : Turn) (words : List ℕ) (a : Answer) (room : HasTagRoom t.terms.l
 
   inserted : nat_lt 16 (length words) ≡ false → (own : ℕ) → t.v.shard ≡ Some own → (r : Result ℕ Refusal)
       → a ≡ key_answer t.tag r → ValueInserted t.terms t.pass t.v words r t.w
-      → InsertServed t.terms.layout t.v.shard words t.v.stands r t.w.stands → Stepped t (call.Insert words) a
+      → SideInserts t.terms.layout words t.v.stands r t.w.stands → Stepped t (call.Insert words) a
   inserted few own e (Ok key) is h served =
-      let has_place = placed_key t.terms.shape t.terms.layout own words t.v.stands key t.w.stands
-      (subst (λ (o : Option ℕ). InsertServed t.terms.layout o words t.v.stands (Ok key) t.w.stands) e served)
-      ready.knows in
+      let has_place = placed_key t.terms.shape t.terms.layout words t.v.stands key t.w.stands served ready.knows in
       let at = gained t (call.Insert words) a ready (ap is_key is) (Insert t.pass key words)
       (ap (λ (p : PassPart). p.log) h.1) in
       let new : value_of t.before key ≡ None =
@@ -144,15 +142,14 @@ module _ (t : Turn) (words : List ℕ) (a : Answer) (room : HasTagRoom t.terms.l
   insert_step bound h = go (nat_lt 16 (length words)) refl h.does
     where
       owned : nat_lt 16 (length words) ≡ false → (o : Option ℕ) → t.v.shard ≡ o → Rest h.result o
-          → InsertServed t.terms.layout t.v.shard words t.v.stands h.result t.w.stands
-          → Stepped t (call.Insert words) a
+          → SideInserts t.terms.layout words t.v.stands h.result t.w.stands → Stepped t (call.Insert words) a
       owned e (Some own) f d served = inserted e own f h.result h.is d served
       owned e None f d served = both_refuse refusal.NoShard (attempt_bare e (ready.owner ∙ ap is_some f))
           (h.is ∙ ap (key_answer t.tag) d.0) (shard_kept t.v t.w d.1)
 
       go : (b : Bool) → nat_lt 16 (length words) ≡ b → UnlessRefused (cond b (Some refusal.TooLong) None) h.result
           (t.w ≡ t.v) (Rest h.result t.v.shard
-          × InsertServed t.terms.layout t.v.shard words t.v.stands h.result t.w.stands)
+          × SideInserts t.terms.layout words t.v.stands h.result t.w.stands)
           → Stepped t (call.Insert words) a
       go true e d = both_refuse refusal.TooLong (attempt_long e)
           (h.is ∙ ap (key_answer t.tag) d.0) (ap (λ (p : PassPart). p.shard) d.1)

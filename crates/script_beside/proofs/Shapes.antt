@@ -14,18 +14,17 @@ use Rattle.sh_shard.specs.Shards.{Sharded, InsertServes, value_class}
 use Rattle.sh_script.specs.declared.calls.Call.{Call}
 use Rattle.sh_script.specs.declared.calls.Call.TheVariants as call
 use Rattle.script_output.specs.declared.answer.Answer.{Answer}
-use Rattle.script_calls.specs.Standing.{Standing, Alone, Owning, Nowhere, StandingHeeds, Serves, AdoptServed}
-use Rattle.script_calls.specs.Standing.{LeaveServed}
-use Rattle.script_calls.specs.Standing.{InsertServed}
+use Rattle.sh_member.specs.declared.member.Side.TheVariants.{Pass, Shard, Moving}
+use Rattle.sh_member.specs.Sides.{SeenSide, SideDoes, SideAdopts, SideLeaves, SideInserts}
 use Rattle.script_calls.specs.Parts.{RunTerms, PassPart, is_placed_key}
-use Rattle.script_calls.specs.Receipts.{MayHeed}
+use Rattle.script_calls.specs.Receipts.{MayHeed, SideHeeded}
 use Rattle.script_calls.specs.Calls.{CallAnswers, OnKey, UnlessRefused, key_meant, words_refusal}
 use Rattle.script_calls.proofs.PlacedKeys.{placed}
 
-abbrev pub KnowsShape : Numbers → Standing → Type 0
-KnowsShape n (Alone c) = c.view.shape ≡ n
-KnowsShape n (Owning o) = o.pages.owner.view.shape ≡ n
-KnowsShape n Nowhere = Unit {0}
+abbrev pub KnowsShape : Numbers → SeenSide → Type 0
+KnowsShape n (Pass c) = c.view.shape ≡ n
+KnowsShape n (Shard o) = o.pages.owner.view.shape ≡ n
+KnowsShape n Moving = Unit {0}
 
 -- ---- what calls of a pass leave
 
@@ -60,31 +59,27 @@ release_same layout key v w (Ok x) h = h.1.same.shape
 release_same layout key v w (Err refusal.NotHeld) h = unmoved v w h.1
 release_same layout key v w (Err _) h = absurd h
 
--- ---- the standing of a pass
+-- ---- a member
 
 module _ (n : Numbers) where
-  knows_still : (s t : Standing) → t ≡ s → KnowsShape n s → KnowsShape n t
+  knows_still : (s t : SeenSide) → t ≡ s → KnowsShape n s → KnowsShape n t
   knows_still s t e k = subst (KnowsShape n) (sym e) k
 
-  serve_keeps : (layout : Layout) (Does : Caller → Caller → Type 0) (s t : Standing)
-      → ((v w : Caller) → Does v w → w.view.shape ≡ v.view.shape) → Serves layout Does s t → KnowsShape n s
-      → KnowsShape n t
-  serve_keeps layout Does (Alone v) (Alone w) same h k = same v w h ∙ k
-  serve_keeps layout Does (Owning o) (Owning m) same h k = h.1.same.shape ∙ k
-  serve_keeps layout Does (Alone v) (Owning m) same h k = absurd h
-  serve_keeps layout Does (Alone v) Nowhere same h k = absurd h
-  serve_keeps layout Does (Owning o) (Alone w) same h k = absurd h
-  serve_keeps layout Does (Owning o) Nowhere same h k = absurd h
-  serve_keeps layout Does Nowhere t same h k = absurd h
+  serve_keeps : {A : Type 0} (layout : Layout) (does : Caller → Result A Refusal → Caller → Type 0) (s : SeenSide)
+      (r : Result A Refusal) (t : SeenSide) → ((v w : Caller) → does v r w → w.view.shape ≡ v.view.shape)
+      → SideDoes layout does s r t → KnowsShape n s → KnowsShape n t
+  serve_keeps layout does (Pass v) r (Pass w) same h k = same v w h.0 ∙ k
+  serve_keeps layout does (Shard o) r (Shard m) same h k = h.1.same.shape ∙ k
+  serve_keeps layout does (Pass v) r (Shard m) same h k = absurd h
+  serve_keeps layout does (Pass v) r Moving same h k = absurd h
+  serve_keeps layout does (Shard o) r (Pass w) same h k = absurd h
+  serve_keeps layout does (Shard o) r Moving same h k = absurd h
+  serve_keeps layout does Moving r t same h k = absurd h
 
-  heed_keeps : (r : Caller) (s t : Standing) → StandingHeeds r s t → KnowsShape n s → KnowsShape n t
-  heed_keeps r (Alone v) (Alone w) h k = ap (λ (c : Caller). c.view.shape) h ∙ k
-  heed_keeps r (Owning o) (Owning m) h k = ap (λ (c : Sharded). c.pages.owner.view.shape) h ∙ k
-  heed_keeps r (Alone v) (Owning m) h k = absurd h
-  heed_keeps r (Alone v) Nowhere h k = absurd h
-  heed_keeps r (Owning o) (Alone w) h k = absurd h
-  heed_keeps r (Owning o) Nowhere h k = absurd h
-  heed_keeps r Nowhere t h k = absurd h
+  heed_keeps : (r : Caller) (s t : SeenSide) → SideHeeded r s t → KnowsShape n s → KnowsShape n t
+  heed_keeps r (Pass v) t h k = subst (KnowsShape n) (sym h) k
+  heed_keeps r (Shard o) t h k = subst (KnowsShape n) (sym h) k
+  heed_keeps r Moving t h k = absurd h
 
   refused_same : (shard : ℕ) (v w : Caller) (e : Refusal) → AdoptRefused shard v w e → w.view.shape ≡ v.view.shape
   refused_same shard v w refusal.NoShard h = unmoved v w h.1
@@ -92,29 +87,27 @@ module _ (n : Numbers) where
   refused_same shard v w refusal.Memory h = h.1.same.shape
   refused_same shard v w _ h = absurd h
 
-  adopt_keeps : (o : Option ℕ) (shard : ℕ) (s : Standing) (r : Result (Unit {0}) Refusal) (t : Standing)
-      → AdoptServed o shard s r t → KnowsShape n s → KnowsShape n t
-  adopt_keeps (Some own) shard s r t h k = knows_still s t h k
-  adopt_keeps None shard (Alone v) (Ok x) (Owning m) h k = h.1.same.shape ∙ k
-  adopt_keeps None shard (Alone v) (Err e) (Alone w) h k = refused_same shard v w e h ∙ k
-  adopt_keeps None shard (Alone v) (Ok x) (Alone w) h k = absurd h
-  adopt_keeps None shard (Alone v) (Ok x) Nowhere h k = absurd h
-  adopt_keeps None shard (Alone v) (Err e) (Owning m) h k = absurd h
-  adopt_keeps None shard (Alone v) (Err e) Nowhere h k = absurd h
-  adopt_keeps None shard (Owning o) r t h k = absurd h
-  adopt_keeps None shard Nowhere r t h k = absurd h
+  adopt_keeps : (shard : ℕ) (s : SeenSide) (r : Result (Unit {0}) Refusal) (t : SeenSide)
+      → SideAdopts shard s r t → KnowsShape n s → KnowsShape n t
+  adopt_keeps shard (Pass v) (Ok x) (Shard m) h k = h.1.same.shape ∙ k
+  adopt_keeps shard (Pass v) (Ok x) (Pass w) h k = absurd h
+  adopt_keeps shard (Pass v) (Ok x) Moving h k = absurd h
+  adopt_keeps shard (Pass v) (Err e) (Pass w) h k = refused_same shard v w e h ∙ k
+  adopt_keeps shard (Pass v) (Err e) (Shard m) h k = absurd h
+  adopt_keeps shard (Pass v) (Err e) Moving h k = absurd h
+  adopt_keeps shard (Shard o) r t h k = knows_still (Shard o) t h.1 k
+  adopt_keeps shard Moving r t h k = absurd h
 
-  leave_keeps : (o : Option ℕ) (s : Standing) (r : Result (Unit {0}) Refusal) (t : Standing) → LeaveServed o s r t
+  leave_keeps : (s : SeenSide) (r : Result (Unit {0}) Refusal) (t : SeenSide) → SideLeaves s r t
       → KnowsShape n s → KnowsShape n t
-  leave_keeps None s r t h k = knows_still s t h k
-  leave_keeps (Some own) (Owning o) (Ok x) (Alone w) h k = h.same.shape ∙ k
-  leave_keeps (Some own) (Owning o) (Err e) (Owning m) h k = h.1.collects.through.aside.same.shape ∙ k
-  leave_keeps (Some own) (Owning o) (Ok x) (Owning m) h k = absurd h
-  leave_keeps (Some own) (Owning o) (Ok x) Nowhere h k = absurd h
-  leave_keeps (Some own) (Owning o) (Err e) (Alone w) h k = absurd h
-  leave_keeps (Some own) (Owning o) (Err e) Nowhere h k = absurd h
-  leave_keeps (Some own) (Alone v) r t h k = absurd h
-  leave_keeps (Some own) Nowhere r t h k = absurd h
+  leave_keeps (Shard o) (Ok x) (Pass w) h k = h.same.shape ∙ k
+  leave_keeps (Shard o) (Ok x) (Shard m) h k = absurd h
+  leave_keeps (Shard o) (Ok x) Moving h k = absurd h
+  leave_keeps (Shard o) (Err e) (Shard m) h k = h.1.collects.through.aside.same.shape ∙ k
+  leave_keeps (Shard o) (Err e) (Pass w) h k = absurd h
+  leave_keeps (Shard o) (Err e) Moving h k = absurd h
+  leave_keeps (Pass v) r t h k = knows_still (Pass v) t h.1 k
+  leave_keeps Moving r t h k = absurd h
 
   insert_same : (layout : Layout) (c : ℕ) (words : List ℕ) (o m : Sharded) (r : Result ℕ Refusal)
       → InsertServes layout c words o r m → m.pages.owner.view.shape ≡ o.pages.owner.view.shape
@@ -123,27 +116,25 @@ module _ (n : Numbers) where
   insert_same layout c words o m (Err refusal.Memory) h = h.0.aside.same.shape
   insert_same layout c words o m (Err _) h = absurd h
 
-  insert_keeps : (layout : Layout) (o : Option ℕ) (words : List ℕ) (s : Standing) (r : Result ℕ Refusal) (t : Standing)
-      → InsertServed layout o words s r t → KnowsShape n s → KnowsShape n t
-  insert_keeps layout None words s r t h k = knows_still s t h k
-  insert_keeps layout (Some own) words (Owning o) r (Owning m) h k =
-      insert_same layout (value_class words) words o m r h ∙ k
-  insert_keeps layout (Some own) words (Owning o) r (Alone w) h k = absurd h
-  insert_keeps layout (Some own) words (Owning o) r Nowhere h k = absurd h
-  insert_keeps layout (Some own) words (Alone v) r t h k = absurd h
-  insert_keeps layout (Some own) words Nowhere r t h k = absurd h
+  insert_keeps : (layout : Layout) (words : List ℕ) (s : SeenSide) (r : Result ℕ Refusal) (t : SeenSide)
+      → SideInserts layout words s r t → KnowsShape n s → KnowsShape n t
+  insert_keeps layout words (Pass v) r t h k = knows_still (Pass v) t h.1 k
+  insert_keeps layout words (Shard o) r (Shard m) h k = insert_same layout (value_class words) words o m r h.0 ∙ k
+  insert_keeps layout words (Shard o) r (Pass w) h k = absurd h
+  insert_keeps layout words (Shard o) r Moving h k = absurd h
+  insert_keeps layout words Moving r t h k = absurd h
 
   -- the key that was given has a place
-  pub placed_key : (layout : Layout) (own : ℕ) (words : List ℕ) (s : Standing) (key : ℕ) (t : Standing)
-      → InsertServed layout (Some own) words s (Ok key) t → KnowsShape n s → is_placed_key layout n key ≡ true
-  placed_key layout own words (Owning o) key (Owning m) h k =
+  pub placed_key : (layout : Layout) (words : List ℕ) (s : SeenSide) (key : ℕ) (t : SeenSide)
+      → SideInserts layout words s (Ok key) t → KnowsShape n s → is_placed_key layout n key ≡ true
+  placed_key layout words (Pass v) key t h k = absurd (let e = h.0 in cc)
+  placed_key layout words (Shard o) key (Shard m) h k =
       subst (λ (z : Numbers). is_placed_key layout z key ≡ true) k
       (placed layout o.pages.owner.view.shape key
-      (subst (λ (z : Option KeyRef). IsSome z) (sym h.1.1) refl))
-  placed_key layout own words (Owning o) key (Alone w) h k = absurd h
-  placed_key layout own words (Owning o) key Nowhere h k = absurd h
-  placed_key layout own words (Alone v) key t h k = absurd h
-  placed_key layout own words Nowhere key t h k = absurd h
+      (subst (λ (z : Option KeyRef). IsSome z) (sym h.0.1.1) refl))
+  placed_key layout words (Shard o) key (Pass w) h k = absurd h
+  placed_key layout words (Shard o) key Moving h k = absurd h
+  placed_key layout words Moving key t h k = absurd h
 
   -- ---- a line
 
@@ -167,21 +158,21 @@ module _ (n : Numbers) where
       (a : Answer) (w : PassPart) → CallAnswers terms tag pass v c bound a w → KnowsShape n v.stands
       → KnowsShape n w.stands
   keeps_shape terms tag pass v (call.Adopt shard) bound a w h =
-      adopt_keeps v.shard shard v.stands h.result w.stands h.does.1
-  keeps_shape terms tag pass v call.Leave bound a w h = leave_keeps v.shard v.stands h.result w.stands h.does.1
+      adopt_keeps shard v.stands h.result w.stands h.does.1
+  keeps_shape terms tag pass v call.Leave bound a w h = leave_keeps v.stands h.result w.stands h.does.1
   keeps_shape terms tag pass v (call.Insert words) bound a w h = unless_keeps (words_refusal words) h.result v w _
-      (λ i. insert_keeps terms.layout v.shard words v.stands h.result w.stands i.1) h.does
+      (λ i. insert_keeps terms.layout words v.stands h.result w.stands i.1) h.does
   keeps_shape terms tag pass v (call.Get r) bound a w h = key_keeps (key_meant tag bound r) v w a _
-      (λ key g. serve_keeps terms.layout (λ x y. GetDoes terms.layout key x g.result y) v.stands w.stands
+      (λ key g. serve_keeps terms.layout (GetDoes terms.layout key) v.stands g.result w.stands
       (λ x y d. get_same terms.layout key x y g.result d) g.does.1) h
   keeps_shape terms tag pass v (call.Read r) bound a w h = key_keeps (key_meant tag bound r) v w a _
-      (λ key g. serve_keeps terms.layout (λ x y. ReadDoes key x g.result y) v.stands w.stands
+      (λ key g. serve_keeps terms.layout (ReadDoes key) v.stands g.result w.stands
       (λ x y d. read_same key x y g.result d) g.does.1) h
   keeps_shape terms tag pass v (call.Remove r) bound a w h = key_keeps (key_meant tag bound r) v w a _
-      (λ key g. serve_keeps terms.layout (λ x y. RemoveDoes terms.layout key x g.result y) v.stands w.stands
+      (λ key g. serve_keeps terms.layout (RemoveDoes terms.layout key) v.stands g.result w.stands
       (λ x y d. remove_same terms.layout key x y g.result d) g.does.1) h
   keeps_shape terms tag pass v (call.Release r) bound a w h = key_keeps (key_meant tag bound r) v w a _
-      (λ key g. serve_keeps terms.layout (λ x y. ReleaseDoes terms.layout key x g.result y) v.stands w.stands
+      (λ key g. serve_keeps terms.layout (ReleaseDoes terms.layout key) v.stands g.result w.stands
       (λ x y d. release_same terms.layout key x y g.result d) g.does.1) h
   keeps_shape terms tag pass v call.Post bound a w h = knows_still v.stands w.stands
       (ap (λ (p : PassPart). p.stands) h.1)

@@ -10,35 +10,36 @@ use Rattle.sh_script.specs.declared.calls.CallLine.{CallLine}
 use Rattle.sh_table.specs.declared.view.Told.{Told}
 use Rattle.sh_table.specs.Seats.{Heap}
 use Rattle.sh_pass.specs.Passes.{Caller}
-use Rattle.script_calls.specs.Standing.{Standing, Alone, Owning, Nowhere, StandingHeeds, LeaveServed, EndsWith}
-use Rattle.script_calls.specs.Standing.{own_part, taken_in}
-use Rattle.script_calls.specs.Parts.{RunTerms, PassPart, SeenPass, SamePass, Becomes}
-use Rattle.script_calls.specs.Calls.{UnlessRefused, LeaveAnswers, PartLeft, needs_shard}
+use Rattle.sh_member.specs.declared.member.Side.TheVariants.{Pass, Shard, Moving}
+use Rattle.sh_member.specs.Sides.{SeenSide, SideLeaves}
+use Rattle.script_calls.specs.OwnParts.{EndsWith, own_part, taken_in}
+use Rattle.script_calls.specs.Parts.{RunTerms, PassPart, SeenPass, SamePass}
+use Rattle.script_calls.specs.Receipts.{SideHeeded}
+use Rattle.script_calls.specs.Calls.{LeaveAnswers}
 use Rattle.script_calls.specs.Meeting.{JoinsParts, EndedAmong, HasEnded, CarriesEnd, parts_carried}
 use Rattle.script_calls.specs.Alone.{AnsweredSoFar, HeedsLast}
 use Rattle.script_calls.proofs.ListLemmas.{get_some, map_more}
 
 -- ---- leaving
 
-left_so : (v w : PassPart) (shard : Option ℕ)
-    → UnlessRefused {A = Unit {0}} (needs_shard shard) (Ok tt) (Becomes v w) (PartLeft v (Ok tt) w)
-    → LeaveServed shard v.stands (Ok tt) w.stands → EndsWith shard v.stands (own_part w.stands)
-left_so v w None h served = absurd (cc h.0)
-left_so v w (Some own) h served = (w.stands, served, refl)
+left_so : (s t : SeenSide) → SideLeaves s (Ok tt) t → EndsWith s (own_part t)
+left_so (Pass v) t h = absurd (cc h.0)
+left_so (Shard o) t h = (t, h, refl)
+left_so Moving t h = absurd h
 
-pub ends_left : (v w : PassPart) → LeaveAnswers v (Ok tt) w → EndsWith v.shard v.stands (own_part w.stands)
-ends_left v w h = left_so v w v.shard h.0 h.1
+pub ends_left : (v w : PassPart) → LeaveAnswers v (Ok tt) w → EndsWith v.stands (own_part w.stands)
+ends_left v w h = left_so v.stands w.stands h.1
 
-alone_so : (v w : PassPart) (shard : Option ℕ)
-    → UnlessRefused {A = Unit {0}} (needs_shard shard) (Err refusal.NoShard) (Becomes v w)
-    (PartLeft v (Err refusal.NoShard) w)
-    → LeaveServed shard v.stands (Err refusal.NoShard) w.stands → EndsWith shard v.stands (own_part w.stands)
-alone_so v w None h served = ap own_part served
-alone_so v w (Some own) h served = absurd h
+pass_so : (s t : SeenSide) → SideLeaves s (Err refusal.NoShard) t → EndsWith s (own_part t)
+pass_so (Pass v) t h = ap own_part h.1
+pass_so (Shard o) (Pass w) h = absurd h
+pass_so (Shard o) (Shard n) h = absurd (let e : refusal.NoShard ≡ refusal.Waiting = h.0 in cc)
+pass_so (Shard o) Moving h = absurd h
+pass_so Moving t h = absurd h
 
 pub ends_without_shard : (v w : PassPart) → LeaveAnswers v (Err refusal.NoShard) w
-    → EndsWith v.shard v.stands (own_part w.stands)
-ends_without_shard v w h = alone_so v w v.shard h.0 h.1
+    → EndsWith v.stands (own_part w.stands)
+ends_without_shard v w h = pass_so v.stands w.stands h.1
 
 -- ---- meeting
 
@@ -51,7 +52,7 @@ first_told x xs = (0, omega arith, refl)
 
 pub ended_more : {S : Type 0} (seen : S → SeenPass) (ys : List S) (x : S) (side r : SeenPass) (o : Option SeenPass)
     → All (CarriesEnd o) (map seen ys) → SamePass (seen x) side
-    → EndsWith (seen x).part.shard (seen x).part.stands (own_part side.part.stands) → JoinsParts o side r
+    → EndsWith (seen x).part.stands (own_part side.part.stands) → JoinsParts o side r
     → All (CarriesEnd (Some r)) (map seen (ys ++ x ∷ []))
 ended_more seen ys x side r o h same ends meets =
     subst (All (CarriesEnd (Some r))) (sym (map_more seen ys x)) (go o h meets)
@@ -93,21 +94,16 @@ all_ended seen all ys c o yielded is h =
 
 -- ---- heeding
 
-standing_heeds : (r : Caller) (x y : Standing) → StandingHeeds r x y
+side_heeds : (r : Caller) (x y : SeenSide) → SideHeeded r x y
     → (own_part y ≡ own_part x) × (taken_in y ≡ taken_in x)
-standing_heeds r (Alone v) (Alone w) h =
-    (ap (λ (z : Caller). z.view.own) h, ap (λ (z : Caller). z.view.told) h)
-standing_heeds r (Owning o) (Owning n) h = (ap (λ z. z.pages.owner.view.own) h, ap (λ z. z.pages.owner.view.told) h)
-standing_heeds r (Alone v) (Owning n) h = absurd h
-standing_heeds r (Alone v) Nowhere h = absurd h
-standing_heeds r (Owning o) (Alone w) h = absurd h
-standing_heeds r (Owning o) Nowhere h = absurd h
-standing_heeds r Nowhere y h = absurd h
+side_heeds r (Pass v) y h = (ap own_part h, ap taken_in h)
+side_heeds r (Shard o) y h = (ap own_part h, ap taken_in h)
+side_heeds r Moving y h = absurd h
 
 pub parts_heed : (last : Option Caller) (s c : SeenPass) → HeedsLast last s c → parts_carried c ≡ parts_carried s
 parts_heed None s c e = ap parts_carried e
 parts_heed (Some r) s c e =
-    let k = standing_heeds r s.part.stands c.part.stands e.part.stands in
+    let k = side_heeds r s.part.stands c.part.stands e.part.stands in
     let pass : c.pass ≡ s.pass = ap (λ (z : SeenPass). z.pass) e.is in
     λ i. record { pass = pass i; own = k.0 i } ∷ k.1 i
 

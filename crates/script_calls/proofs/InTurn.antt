@@ -5,7 +5,7 @@ use Rattle.std.proofs.Common.{length-set, ◌⊎◌, inl, inr, ⊎_elim, add-one
 use Rattle.std.specs.Prelude.{IfNone, Err}
 use Rattle.std.specs.List.{All}
 use Rattle.sh_value.specs.declared.refusal.Refusal.TheVariants as refusal
-use Rattle.script_calls.specs.Standing.{ShardLeaves}
+use Rattle.sh_member.specs.Sides.{SideLeaves}
 use Rattle.std.specs.Option.{option_map}
 use Rattle.std.proofs.lemmas.Option.{none-some, same_Some, slice_get-map}
 use mathlib.Core.Logic.{dite}
@@ -258,7 +258,7 @@ lines_wait seen heap terms tag lines i numbers sides output carrier past h stays
       replies = ends_alone heap terms tag lines i numbers sides output past h;
       pass = o.0;
       stays = o.3.0;
-      waits = subst (λ (s : SeenPass). ShardLeaves s.part.stands (Err refusal.Waiting) o.3.0) (h.each o.0 o.1 o.2)
+      waits = subst (λ (s : SeenPass). SideLeaves s.part.stands (Err refusal.Waiting) o.3.0) (h.each o.0 o.1 o.2)
           o.3.1;
     })) (λ (e : sides ≡ []). inr (sym h.all ∙ ap length e))) carrier stays
 

@@ -18,3 +18,4 @@ pub mod JoinLaws
 pub mod EndLaws
 pub mod ReceiptLaws
 pub mod TaleLaws
+pub mod MemberLaws

@@ -8,7 +8,7 @@ use Rattle.sh_history.specs.History.{Legal}
 use Rattle.sh_history.specs.Log.{entries_of}
 use Rattle.sh_table.specs.declared.view.Order.{Order}
 use Rattle.sh_value.specs.declared.refusal.Refusal.TheVariants as refusal
-use Rattle.script_calls.specs.Standing.{Standing, ShardLeaves}
+use Rattle.sh_member.specs.Sides.{SeenSide, SideLeaves}
 use Rattle.std.specs.Option.{option_map}
 use Rattle.std.proofs.lemmas.Option.{slice_get-map}
 use Rattle.script_calls.specs.Parts.{RunTerms, SeenPass, PassTold, SamePass, HasAllLogs, tale_told, told_pass}
@@ -143,8 +143,8 @@ met_all seen heap terms all ys its n c o e l z h is up =
     ∙ (up ∙ ap (λ (t : RunTerms). passes_below t.shape.passes) (sym h'.1))
 
 -- the next one of these passes was refused when it left its shard
-pub next_waits : {S : Type 0} (seen : S → SeenPass) (all ys rest its : List S) (s : S) (stays : Standing)
-    → all ≡ ys ++ its → its ≡ s ∷ rest → ShardLeaves (seen s).part.stands (Err refusal.Waiting) stays
+pub next_waits : {S : Type 0} (seen : S → SeenPass) (all ys rest its : List S) (s : S) (stays : SeenSide)
+    → all ≡ ys ++ its → its ≡ s ∷ rest → SideLeaves (seen s).part.stands (Err refusal.Waiting) stays
     → SomeWaits (map seen all)
 next_waits seen all ys rest its s stays e f waits =
     let at : slice_get all (length ys) ≡ Some s = ap (λ z. slice_get z (length ys)) (e ∙ ap (λ z. ys ++ z) f)

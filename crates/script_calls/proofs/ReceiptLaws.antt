@@ -8,7 +8,7 @@ use Rattle.sh_pass.specs.Receipts.{receipt_by, heeded}
 use Rattle.sh_shard.specs.Shards.{Sharded, shard_heeded}
 use Rattle.sh_pass.specs.Passes.{Caller}
 use Rattle.script_calls.specs.Receipts.{seen_of_receipt, told_heard, receipt_seen, Heeds}
-use Rattle.script_calls.specs.Standing.{Standing}
+use Rattle.sh_member.specs.Sides.{SeenSide}
 use Rattle.script_calls.specs.Running.{seen_standing, seen_of_caller, seen_of_shard, log_told}
 
 heard_told : (ts : List Told) → map (λ t. record { pass = t.pass; log = t.own.log }) ts
@@ -16,7 +16,7 @@ heard_told : (ts : List Told) → map (λ t. record { pass = t.pass; log = t.own
 heard_told [] = refl
 heard_told (t ∷ ts) = ap (λ (l : List Heard). record { pass = t.pass; log = t.own.log } ∷ l) (heard_told ts)
 
-pub receipt_told : (layout : Layout) (v r : Caller) (t : Standing) → r ≡ receipt_by v → seen_of_receipt r
+pub receipt_told : (layout : Layout) (v r : Caller) (t : SeenSide) → r ≡ receipt_by v → seen_of_receipt r
     ≡ receipt_seen (seen_standing layout v t)
 receipt_told layout v r t e = ap seen_of_receipt e ∙ (λ i. record {
   heap = Some v.heap;

@@ -21,8 +21,8 @@ use Rattle.sh_table.specs.Tales.{ViewStands}
 use Rattle.sh_pass.proofs.SameTales.{same_now}
 use Rattle.sh_pass.specs.Growing.{SameTale}
 use Rattle.sh_pass.specs.Passes.{Caller, IsKeyOfHeap, GetDoes, ReadDoes, RemoveDoes, ReleaseDoes, holds}
-use Rattle.script_calls.specs.Standing.{Standing, Serves}
-use Rattle.script_calls.specs.Parts.{SeenPass, SamePass, Becomes, is_placed_key, heap_terms, with_entry}
+use Rattle.sh_member.specs.Sides.{SeenSide, SideDoes}
+use Rattle.script_calls.specs.Parts.{SeenPass, SamePass, Becomes, is_placed_key, heap_terms, shard_owned, with_entry}
 use Rattle.script_calls.specs.Calls.{UnlessRefused, GetAnswers, HoldGot, get_refusal, ReadAnswers, ValueRead}
 use Rattle.script_calls.specs.Calls.{hold_refusal}
 use Rattle.script_calls.specs.Calls.{RemoveAnswers, KeyRemoved, remove_refusal, ReleaseAnswers, HoldReleased}
@@ -33,7 +33,7 @@ pub same_tale : (v w : Caller) → w ≡ v → SameTale v.view w.view
 same_tale v w e = subst (λ (c : Caller). SameTale v.view c.view) (sym e) (same_now v.view)
 
 -- what is seen of the pass stays the same except for its part
-pub same_of : (layout : Layout) (v w : Caller) (s t : Standing) → w.heap ≡ v.heap → SameTale v.view w.view
+pub same_of : (layout : Layout) (v w : Caller) (s t : SeenSide) → w.heap ≡ v.heap → SameTale v.view w.view
     → SamePass (seen_standing layout v s) (seen_standing layout w t)
 same_of layout v w s t heap same = λ i. record {
   heap = Some (heap i);
@@ -45,7 +45,7 @@ same_of layout v w s t heap same = λ i. record {
 }
 
 module _ (layout : Layout) (v w : Caller) (stands : ViewStands layout v.view) (shape_is : v.view.shape ≡ v.heap.shape)
-    (owned : w.view.own.body.owned ≡ v.view.own.body.owned) (s t : Standing) where
+    (s t : SeenSide) (owned : shard_owned t ≡ shard_owned s) where
   abbrev seen_before : SeenPass
   seen_before = seen_standing layout v s
 
@@ -60,7 +60,7 @@ module _ (layout : Layout) (v w : Caller) (stands : ViewStands layout v.view) (s
   adds e log = λ i. record { log = log i; shard = owned i; stands = t }
 
   nothing : w ≡ v → Becomes (part_of_caller v s) (part_of_caller w t)
-  nothing e = ap (λ (c : Caller). part_of_caller c t) e
+  nothing e = λ i. record { log = (e i).view.own.log; shard = owned i; stands = t }
 
   unseen : w ≡ v → SamePass seen_before seen_after
   unseen e = same_seen (ap (λ (c : Caller). c.heap) e) (same_tale v w e)
@@ -127,7 +127,7 @@ module _ (layout : Layout) (v w : Caller) (stands : ViewStands layout v.view) (s
   get_parts key (Err _) h = absurd h
 
   pub get_answers : (key : ℕ) (r : Result Hold Refusal) → GetDoes layout key v r w
-      → Serves layout (λ x y. GetDoes layout key x r y) s t
+      → SideDoes layout (GetDoes layout key) s r t
       → GetAnswers seen_before.terms seen_before.pass seen_before.part key r seen_after.part
       × SamePass seen_before seen_after
   get_answers key r h served = let p = get_parts key r h in ((p.0, served), p.1)
@@ -165,7 +165,7 @@ module _ (layout : Layout) (v w : Caller) (stands : ViewStands layout v.view) (s
   remove_parts key (Err _) h = absurd h
 
   pub remove_answers : (key : ℕ) (r : Result (Unit {0}) Refusal) → RemoveDoes layout key v r w
-      → Serves layout (λ x y. RemoveDoes layout key x r y) s t
+      → SideDoes layout (RemoveDoes layout key) s r t
       → RemoveAnswers seen_before.terms seen_before.pass seen_before.part key r seen_after.part
       × SamePass seen_before seen_after
   remove_answers key r h served = let p = remove_parts key r h in ((p.0, served), p.1)
@@ -214,7 +214,7 @@ module _ (layout : Layout) (v w : Caller) (stands : ViewStands layout v.view) (s
   release_parts key (Err _) h = absurd h
 
   pub release_answers : (key : ℕ) (r : Result (Unit {0}) Refusal) → ReleaseDoes layout key v r w
-      → Serves layout (λ x y. ReleaseDoes layout key x r y) s t
+      → SideDoes layout (ReleaseDoes layout key) s r t
       → ReleaseAnswers seen_before.terms seen_before.pass seen_before.part key r seen_after.part
       × SamePass seen_before seen_after
   release_answers key r h served = let p = release_parts key r h in ((p.0, served), p.1)
@@ -242,7 +242,7 @@ module _ (layout : Layout) (v w : Caller) (stands : ViewStands layout v.view) (s
   read_parts key (Err _) h = absurd h
 
   pub read_answers : (key : ℕ) (r : Result (List ℕ) Refusal) → ReadDoes key v r w
-      → Serves layout (λ x y. ReadDoes key x r y) s t
+      → SideDoes layout (ReadDoes key) s r t
       → ReadAnswers seen_before.terms seen_before.pass seen_before.part key r seen_after.part
       × SamePass seen_before seen_after
   read_answers key r h served = let p = read_parts key r h in ((p.0, served), p.1)

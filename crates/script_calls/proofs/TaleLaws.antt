@@ -14,7 +14,7 @@ use Rattle.sh_table.specs.Views.{Each, names_told}
 use Rattle.sh_table.specs.Whole.{IsWhole}
 use Rattle.sh_pass.specs.Passes.{Caller}
 use Rattle.script_calls.specs.Parts.{HasAllLogs, HasWholeTale, tale_told, told_pass, passes_below, heap_terms}
-use Rattle.script_calls.specs.Standing.{Standing}
+use Rattle.sh_member.specs.Sides.{SeenSide}
 use Rattle.script_calls.specs.Receipts.{HasOrderedTale}
 use Rattle.script_calls.specs.Running.{seen_standing, seen_of_caller, log_told}
 
@@ -54,7 +54,7 @@ whole_told layout v n history same tale ours =
       refl,
     ) in subst P same at
 
-pub whole_tale : (layout : Layout) (v : Caller) (t : Standing) → ViewStands layout v.view
+pub whole_tale : (layout : Layout) (v : Caller) (t : SeenSide) → ViewStands layout v.view
     → HasOrderedTale (seen_standing layout v t)
 whole_tale layout v t stands =
     let w = whole_told layout v v.view.shape stands.history refl stands.tale stands.ours in

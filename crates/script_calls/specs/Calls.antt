@@ -1,5 +1,5 @@
 -- What a call of a pass does, given its answer: exactly when each refusal comes, what the log gains, who owns what. The
--- contract of the pass, or of its shard, gives this answer.
+-- contract of a member, which is the pass or its shard, gives this answer.
 use Rattle.std.specs.Prelude.{◌≡◌, ℕ, ◌+◌, ◌<◌, nat_lt, nat_le, not, true, List, map, length, Option, Some}
 use Rattle.std.specs.Prelude.{None, Result, Ok, Err, ok_or, if◌then◌else◌}
 use Rattle.sh_value.specs.declared.hold.Hold.{Hold}
@@ -20,7 +20,7 @@ use Rattle.script_output.specs.declared.answer.Answer.TheVariants as answer
 use Rattle.script_output.specs.Keys.{key_shown}
 use Rattle.script_output.specs.Results.{done_answer, value_answer, key_answer}
 use Rattle.sh_pass.specs.Passes.{GetDoes, ReadDoes, RemoveDoes, ReleaseDoes}
-use Rattle.script_calls.specs.Standing.{Serves, AdoptServed, LeaveServed, InsertServed}
+use Rattle.sh_member.specs.Sides.{SideDoes, SideAdopts, SideLeaves, SideInserts}
 use Rattle.script_calls.specs.Parts.{RunTerms, PassPart, Becomes, with_entry, is_placed_key, is_key_of_shard}
 
 -- a refusal that precedes every other effect and changes nothing; if there is none, the rest holds
@@ -44,7 +44,7 @@ PartAdopted v shard (Err _) w = ⊥
 abbrev pub AdoptAnswers : RunTerms → PassPart → ℕ → Result (Unit {0}) Refusal → PassPart → Type 0
 AdoptAnswers terms v shard r w =
     UnlessRefused (adopt_refusal terms v.shard shard) r (Becomes v w) (PartAdopted v shard r w)
-    × AdoptServed v.shard shard v.stands r w.stands
+    × SideAdopts shard v.stands r w.stands
 
 -- ---- leave
 
@@ -59,7 +59,7 @@ PartLeft v (Err _) w = ⊥
 
 abbrev pub LeaveAnswers : PassPart → Result (Unit {0}) Refusal → PassPart → Type 0
 LeaveAnswers v r w = UnlessRefused (needs_shard v.shard) r (Becomes v w) (PartLeft v r w)
-    × LeaveServed v.shard v.stands r w.stands
+    × SideLeaves v.stands r w.stands
 
 -- ---- insert
 
@@ -78,7 +78,7 @@ ValueInserted terms pass v words (Err _) w = ⊥
 abbrev pub InsertAnswers : RunTerms → ℕ → PassPart → List ℕ → Result ℕ Refusal → PassPart → Type 0
 InsertAnswers terms pass v words r w =
     UnlessRefused (needs_shard v.shard) r (Becomes v w) (ValueInserted terms pass v words r w)
-    × InsertServed terms.layout v.shard words v.stands r w.stands
+    × SideInserts terms.layout words v.stands r w.stands
 
 -- the words of a script may be too many for a value, which is refused first
 abbrev pub words_refusal : List ℕ → Option Refusal
@@ -106,7 +106,7 @@ HoldGot pass v key (Err _) w = ⊥
 abbrev pub GetAnswers : RunTerms → ℕ → PassPart → ℕ → Result Hold Refusal → PassPart → Type 0
 GetAnswers terms pass v key r w =
     UnlessRefused (get_refusal terms pass v key) r (Becomes v w) (HoldGot pass v key r w)
-    × Serves terms.layout (λ x y. GetDoes terms.layout key x r y) v.stands w.stands
+    × SideDoes terms.layout (GetDoes terms.layout key) v.stands r w.stands
 
 -- ---- read and release
 
@@ -121,7 +121,7 @@ ValueRead v key (Err _) w = ⊥
 
 abbrev pub ReadAnswers : RunTerms → ℕ → PassPart → ℕ → Result (List ℕ) Refusal → PassPart → Type 0
 ReadAnswers terms pass v key r w = UnlessRefused (hold_refusal pass v key) r (Becomes v w) (ValueRead v key r w)
-    × Serves terms.layout (λ x y. ReadDoes key x r y) v.stands w.stands
+    × SideDoes terms.layout (ReadDoes key) v.stands r w.stands
 
 abbrev pub HoldReleased : ℕ → PassPart → ℕ → Result (Unit {0}) Refusal → PassPart → Type 0
 HoldReleased pass v key (Ok _) w = Becomes (with_entry v (Known (Released pass key))) w
@@ -130,7 +130,7 @@ HoldReleased pass v key (Err _) w = ⊥
 abbrev pub ReleaseAnswers : RunTerms → ℕ → PassPart → ℕ → Result (Unit {0}) Refusal → PassPart → Type 0
 ReleaseAnswers terms pass v key r w =
     UnlessRefused (hold_refusal pass v key) r (Becomes v w) (HoldReleased pass v key r w)
-    × Serves terms.layout (λ x y. ReleaseDoes terms.layout key x r y) v.stands w.stands
+    × SideDoes terms.layout (ReleaseDoes terms.layout key) v.stands r w.stands
 
 -- ---- remove
 
@@ -145,7 +145,7 @@ KeyRemoved pass v key (Err _) w = ⊥
 abbrev pub RemoveAnswers : RunTerms → ℕ → PassPart → ℕ → Result (Unit {0}) Refusal → PassPart → Type 0
 RemoveAnswers terms pass v key r w =
     UnlessRefused (remove_refusal terms key) r (Becomes v w) (KeyRemoved pass v key r w)
-    × Serves terms.layout (λ x y. RemoveDoes terms.layout key x r y) v.stands w.stands
+    × SideDoes terms.layout (RemoveDoes terms.layout key) v.stands r w.stands
 
 -- ---- how a result is reported
 

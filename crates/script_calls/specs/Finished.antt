@@ -9,7 +9,7 @@ use Rattle.script_output.specs.declared.answer.Answer.{Answer}
 use Rattle.sh_table.specs.Seats.{Heap}
 use Rattle.sh_table.specs.Tales.{Before}
 use Rattle.sh_table.specs.Views.{Each}
-use Rattle.script_calls.specs.Standing.{Standing, ShardLeaves}
+use Rattle.sh_member.specs.Sides.{SeenSide, SideLeaves}
 use Rattle.script_calls.specs.Parts.{SeenPass, RunTerms, HasAllLogs, no_terms, new_passes, tale_told}
 use Rattle.script_calls.specs.InOrder.{IsInOrder}
 use Rattle.script_calls.specs.Named.{NamesComeFirst}
@@ -57,8 +57,8 @@ pub record AreWaiting (heap : Option Heap) (terms : RunTerms) (tag : Option ℕ)
     (output : List ℕ) : Type 0 where
   pub replies : AreReplies heap terms tag lines output
   pub pass : ℕ
-  pub stays : Standing
-  pub waits : ShardLeaves (replies.after.parts pass).stands (Err refusal.Waiting) stays
+  pub stays : SeenSide
+  pub waits : SideLeaves (replies.after.parts pass).stands (Err refusal.Waiting) stays
 
 -- The replies were written. If there is a carrier, it carries the tale of all. There is none only if a pass was refused
 -- when it left its shard, or if there is no pass.

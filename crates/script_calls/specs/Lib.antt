@@ -1,4 +1,4 @@
-pub mod Standing
+pub mod OwnParts
 pub mod Parts
 pub mod Receipts
 pub mod InOrder
@@ -8,6 +8,5 @@ pub mod Named
 pub mod Told
 pub mod Meeting
 pub mod Alone
-pub mod Holders
 pub mod Running
 pub mod Finished

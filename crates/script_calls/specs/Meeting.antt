@@ -2,7 +2,8 @@
 use Rattle.std.specs.Prelude.{◌≡◌, ℕ, List, [], ◌∷◌, ◌++◌, slice_get, Option, Some, None, Err}
 use Rattle.std.specs.List.{Contains}
 use Rattle.sh_value.specs.declared.refusal.Refusal.TheVariants as refusal
-use Rattle.script_calls.specs.Standing.{Standing, ShardLeaves, EndsWith, own_part, taken_in}
+use Rattle.sh_member.specs.Sides.{SeenSide, SideLeaves}
+use Rattle.script_calls.specs.OwnParts.{EndsWith, own_part, taken_in}
 use Rattle.script_calls.specs.Parts.{RunTerms, PassPart, SeenPass, PassTold, HasWholeTale, tale_told}
 use Rattle.sh_table.specs.declared.view.Own.{Own}
 use Rattle.sh_table.specs.declared.view.Told.{Told}
@@ -68,7 +69,7 @@ AllOfHeap heap terms (s ∷ ss) = (s.heap ≡ heap) × (s.terms ≡ terms) × Al
 -- one of these passes was refused when it left its shard
 abbrev pub SomeWaits : List SeenPass → Type 0
 SomeWaits ss = (i : ℕ) × (s : SeenPass) × (slice_get ss i ≡ Some s)
-    × ((stays : Standing) × ShardLeaves s.part.stands (Err refusal.Waiting) stays)
+    × ((stays : SeenSide) × SideLeaves s.part.stands (Err refusal.Waiting) stays)
 
 -- ---- own parts
 
@@ -83,7 +84,7 @@ JoinsParts (Some c) s r = parts_carried r ≡ parts_carried c ++ parts_carried s
 
 -- the pass with this number and this part ended with an own part that is among these
 abbrev pub EndedAmong : List Told → (pass : ℕ) → PassPart → Type 0
-EndedAmong parts pass part = (own : Own) × EndsWith part.shard part.stands own
+EndedAmong parts pass part = (own : Own) × EndsWith part.stands own
     × Contains parts (record { pass = pass; own = own })
 
 -- the carrier carries an own part with which this pass ended

@@ -11,22 +11,35 @@ use Rattle.sh_history.specs.Log.{Agrees, entries_of}
 use Rattle.sh_step.specs.Moves.{has_place}
 use Rattle.sh_table.specs.declared.view.Order.{Order}
 use Rattle.sh_table.specs.Seats.{Heap}
-use Rattle.script_calls.specs.Standing.{Standing, new_standing}
+use Rattle.sh_table.specs.Views.{newly}
+use Rattle.sh_member.specs.declared.member.Side.TheVariants.{Pass, Shard, Moving}
+use Rattle.sh_member.specs.Sides.{SeenSide}
 
 -- what stays the same over a run
 pub record RunTerms : Type 0 where
   pub layout : Layout
   pub shape : Numbers
 
--- its entries, in order, the shard that it owns, and its state between calls
+-- its entries, in order, the shard that it owns, and itself between calls, as its own contracts see it
 pub record PassPart : Type 0 where
   pub log : List LogEntry
   pub shard : Option ℕ
-  pub stands : Standing
+  pub stands : SeenSide
+
+-- the shard that it owns, if it owns one
+abbrev pub shard_owned : SeenSide → Option ℕ
+shard_owned (Pass v) = None
+shard_owned (Shard o) = Some o.pages.shard
+shard_owned Moving = None
+
+-- a pass of the heap that has done nothing yet; if there is no heap, there is no pass
+abbrev pub new_side : Option Heap → ℕ → SeenSide
+new_side (Some heap) pass = Pass (record { heap = heap; view = newly heap.shape pass })
+new_side None pass = Moving
 
 -- the part of a pass that has done nothing yet
 abbrev pub new_part : Option Heap → ℕ → PassPart
-new_part heap pass = record { log = []; shard = None; stands = new_standing heap pass }
+new_part heap pass = record { log = []; shard = None; stands = new_side heap pass }
 
 -- a pass, and its entries
 pub record PassTold : Type 0 where
@@ -112,6 +125,6 @@ no_terms = heap_terms (record { shard_bits = 0; page_bits = 0; gen_max = 0; guar
 abbrev pub with_entry : PassPart → LogEntry → PassPart
 with_entry v e = record v { log = v.log ++ e ∷ [] }
 
--- it is this, except for the standing, which the call's own contract describes
+-- it is this, except for what its own contracts see of it, which the call's contract describes
 abbrev pub Becomes : PassPart → PassPart → Type 0
 Becomes u w = w ≡ record u { stands = w.stands }

@@ -6,7 +6,10 @@ use Rattle.sh_table.specs.Seats.{Heap}
 use Rattle.sh_table.specs.Tales.{Before}
 use Rattle.sh_table.specs.Views.{Each, heard_in}
 use Rattle.sh_pass.specs.Passes.{Caller}
-use Rattle.script_calls.specs.Standing.{StandingHeeds}
+use Rattle.sh_pass.specs.Receipts.{heeded}
+use Rattle.sh_shard.specs.Shards.{shard_heeded}
+use Rattle.sh_member.specs.declared.member.Side.TheVariants.{Pass, Shard, Moving}
+use Rattle.sh_member.specs.Sides.{SeenSide}
 use Rattle.script_calls.specs.Parts.{PassPart, SeenPass, PassTold, HasWholeTale, Becomes, tale_told}
 
 -- which heap it is of, and what it contains
@@ -36,10 +39,16 @@ order_seen s h = record { heard = h; carrier = s.pass; length = length s.part.lo
 abbrev pub orders_heard : SeenPass → SeenReceipt → List Order
 orders_heard s r = s.orders ++ (r.orders ++ map (order_seen s) r.heard)
 
--- the part, once its pass heeded the receipt: its standing heeded the receipt too, and nothing changed otherwise
+-- the pass, or the owner of the shard, heeded the receipt, and is otherwise as it was
+abbrev pub SideHeeded : Caller → SeenSide → SeenSide → Type 0
+SideHeeded r (Pass v) new = new ≡ Pass (heeded v r)
+SideHeeded r (Shard o) new = new ≡ Shard (shard_heeded o r)
+SideHeeded r Moving new = ⊥
+
+-- the part, once its pass heeded the receipt; nothing changed otherwise
 pub record PartHeeds (r : Caller) (v w : PassPart) : Type 0 where
   pub is : Becomes v w
-  pub stands : StandingHeeds r v.stands w.stands
+  pub stands : SideHeeded r v.stands w.stands
 
 -- it is as it was, or its pass heeded a receipt, as it does if the lines run one after the other
 abbrev pub MayHeed : PassPart → PassPart → Type 0

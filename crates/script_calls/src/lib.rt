@@ -1,8 +1,7 @@
-//! The calls of a script on the running heap: what a line may return, and the passes and shards that run it.
+//! The calls of a script on the running heap: what a line may return, and the members that run it.
 #![tactic(auto)]
 
 pub mod alone;
-pub mod holder;
 pub mod laws;
 pub mod line;
 pub mod meeting;

@@ -2,7 +2,8 @@
 ghost use Rattle.std.specs.Prelude.{◌≡◌, ◌⊎◌, [], Option, None, Err, IfSome, IfNone, map, option_map, true, false};
 ghost use Rattle.sh_table.specs.Seats.{Heap};
 ghost use Rattle.std.specs.List.{All};
-ghost use Rattle.script_calls.specs.Standing.{ShardLeaves, EndsWith, own_part};
+ghost use Rattle.sh_member.specs.Sides.{SideLeaves};
+ghost use Rattle.script_calls.specs.OwnParts.{EndsWith, own_part};
 ghost use Rattle.script_calls.specs.Parts.{RunTerms, SamePass, told_pass, passes_below};
 ghost use Rattle.script_calls.specs.Meeting.{MeetsCarrier, OwnsNone, IsOfHeap, HasMet, SomeWaits, tales_told};
 ghost use Rattle.script_calls.specs.Meeting.{AllOfHeap, orders_of, JoinsParts, HasEnded};
@@ -28,10 +29,9 @@ pub fn meet<S: Side>(carrier: Option<S>, side: S) -> S
 #[tactic(auto, using(crate::proofs::EndLaws::ends_left, crate::proofs::EndLaws::ends_without_shard))]
 fn retire<S: Side>(side: &mut S) -> bool
     ensures none { result ≡ true → (S.seen side.new).part.shard ≡ None }
-    ensures waits { result ≡ false → ShardLeaves (S.seen side.old).part.stands (Err Refusal.Waiting)
+    ensures waits { result ≡ false → SideLeaves (S.seen side.old).part.stands (Err Refusal.Waiting)
         (S.seen side.new).part.stands }
-    ensures ends { result ≡ true → EndsWith (S.seen side.old).part.shard (S.seen side.old).part.stands
-        (own_part (S.seen side.new).part.stands) }
+    ensures ends { result ≡ true → EndsWith (S.seen side.old).part.stands (own_part (S.seen side.new).part.stands) }
     ensures log { (S.seen side.new).part.log ≡ (S.seen side.old).part.log }
     ensures same { SamePass (S.seen side.old) (S.seen side.new) }
 {

@@ -1,94 +1,71 @@
-//! Passes of the running heap: what a script's calls are made on.
-ghost use Rattle.std.specs.Prelude.{◌≡◌, map};
-ghost use Rattle.script_calls.specs.Running.{seen_of_caller, seen_of_shard};
+//! Members of the running heap: what a script's calls are made on.
+ghost use Rattle.std.specs.Prelude.{◌≡◌, None};
+ghost use Rattle.script_calls.specs.Running.{seen_of_caller, seen_of_member};
 
-use crate::holder::{Adopts, Calls};
+use crate::side::Side;
 use sh_key::KeyLayout;
-use sh_pass::{Pass, Receipt, merge};
-use sh_shard::Shard;
+use sh_member::Member;
+use sh_pass::pass::Pass;
+use sh_pass::{KeepsHeap, Receipt};
 use sh_value::{Hold, Refusal, Value};
 use std::alloc::Global;
 
-impl<'a, L: KeyLayout> Calls for Pass<'a, L> {
-    ghost seen = { λ p. seen_of_caller L.layout p };
+impl<L: KeyLayout, H: KeepsHeap<L>> Side for Member<L, H> {
+    ghost seen = { λ m. seen_of_member L.layout m };
+
+    fn adopt(&mut self, alloc: Global, shard: u64) -> Result<(), Refusal> {
+        Member::adopt(self, alloc, shard)
+    }
+
+    fn leave(&mut self) -> Result<(), Refusal> {
+        Member::leave(self)
+    }
+
+    fn insert(&mut self, value: &Value) -> Result<u64, Refusal> {
+        Member::insert(self, value)
+    }
 
     fn get(&mut self, key: u64) -> Result<Hold, Refusal> {
-        Pass::get(self, key)
+        Member::get(self, key)
     }
 
     fn read(&mut self, hold: Hold) -> Result<Value, Refusal> {
-        Pass::read(self, hold)
+        Member::read(self, hold)
     }
 
     fn remove(&mut self, key: u64) -> Result<(), Refusal> {
-        Pass::remove(self, key)
+        Member::remove(self, key)
     }
 
     fn release(&mut self, hold: Hold) -> Result<(), Refusal> {
-        Pass::release(self, hold)
+        Member::release(self, hold)
     }
 
     fn receipt(&mut self) -> Receipt {
-        Pass::receipt(self)
+        Member::receipt(self)
     }
 
     fn heed(&mut self, receipt: Receipt) {
-        Pass::heed(self, receipt);
-    }
-
-    fn whole(&self) {
-        // (the contract of `shape` states what is known)
-        let _known = self.shape();
-    }
-}
-
-impl<'a, L: KeyLayout> Calls for Shard<'a, L> {
-    ghost seen = { λ s. seen_of_shard L.layout s };
-
-    fn get(&mut self, key: u64) -> Result<Hold, Refusal> {
-        Shard::get(self, key)
-    }
-
-    fn read(&mut self, hold: Hold) -> Result<Value, Refusal> {
-        Shard::read(self, hold)
-    }
-
-    fn remove(&mut self, key: u64) -> Result<(), Refusal> {
-        Shard::remove(self, key)
-    }
-
-    fn release(&mut self, hold: Hold) -> Result<(), Refusal> {
-        Shard::release(self, hold)
-    }
-
-    fn receipt(&mut self) -> Receipt {
-        Shard::receipt(self)
-    }
-
-    fn heed(&mut self, receipt: Receipt) {
-        Shard::heed(self, receipt);
-    }
-
-    fn whole(&self) {
-        // (the contract of `shape` states what is known)
-        let _known = self.shape();
-    }
-}
-
-impl<'a, L: KeyLayout> Adopts<Shard<'a, L>> for Pass<'a, L> {
-    fn adopt(self, alloc: Global, shard: u64) -> Result<Shard<'a, L>, (Self, Refusal)> {
-        Shard::adopt(alloc, self, shard)
-    }
-
-    fn leave(shard: Shard<'a, L>) -> Result<Self, (Shard<'a, L>, Refusal)> {
-        shard.leave()
+        Member::heed(self, receipt);
     }
 
     fn join(self, other: Self) -> Self {
-        merge(self, other)
+        Member::join(self, other)
     }
 
-    fn insert(shard: &mut Shard<'a, L>, value: &Value) -> Result<u64, Refusal> {
-        shard.insert(value)
+    fn whole(&self) {
+        // (the contract of `shape` states what is known)
+        let _known = self.shape();
+    }
+}
+
+/// The pass of a member that owns no shard.
+pub fn pass_of<L: KeyLayout, H: KeepsHeap<L>>(member: Member<L, H>) -> Pass<L, H>
+    requires { (seen_of_member L.layout member).part.shard ≡ None }
+    ensures { seen_of_caller L.layout result ≡ seen_of_member L.layout member }
+{
+    match member.into_pass() {
+        Ok(pass) => pass,
+        Err(_) => unreachable!(),
     }
 }

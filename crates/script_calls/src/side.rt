@@ -12,7 +12,7 @@ use sh_value::{Hold, Refusal, Value};
 use std::alloc::Global;
 
 /// A pass, which may own a shard. The clauses of each call say exactly when each refusal is returned, and what the log
-/// gains. They also say that the contract of the pass, or of its shard, allows this result.
+/// gains. They also say that the contract of a member, which is the pass or its shard, allows this result.
 pub trait Side: Drop {
     // What a contract sees.
     ghost seen: { Self → SeenPass };

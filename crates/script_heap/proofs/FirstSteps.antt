@@ -1,6 +1,6 @@
 -- The first step of a run finds its word as the heap opened it.
 use Rattle.std.proofs.Common.{◌≡◌, ◌≢◌, ℕ, ◌<◌, ◌==◌, Bool, true, false, cond, List, [], ◌∷◌, ◌++◌, length, refl, ap}
-use Rattle.std.proofs.Common.{sym, ◌∙◌, subst, arith, append-nil, append_assoc, length-append, eq-eqb, ne_eqb, ⊎_elim}
+use Rattle.std.proofs.Common.{sym, ◌∙◌, subst, arith, append-nil, append_assoc, eq-eqb, ⊎_elim}
 use Rattle.std.proofs.Common.{Option, Some, None, slice_get}
 use Rattle.std.specs.Prelude.{◌&&◌, replicate}
 use Rattle.std.proofs.lemmas.Bool.{cases_eq}
@@ -27,7 +27,7 @@ use Rattle.sh_step.proofs.FootstepLaws.{counts_grow}
 use Rattle.sh_core.specs.Outcomes.{row_of_event}
 use Rattle.sh_core.specs.Trails.{trodden, trail_from, trail_of}
 use Rattle.sh_core.specs.Words.{read, opening}
-use Rattle.sh_core.specs.Worlds.{World, step, apply, open_world}
+use Rattle.sh_core.specs.Worlds.{World, step, open_world}
 use Rattle.sh_core.proofs.WaitFree.{skipped}
 
 -- ---- trails

@@ -1,6 +1,5 @@
 -- Lines on the passes of a heap that was opened.
-use Rattle.std.proofs.Common.{◌≡◌, ℕ, ◌<◌, ◌≤◌, Bool, List, Option, Some, None, refl, sym, ap, ◌∙◌, subst, arith}
-use Rattle.std.specs.Option.{option_map}
+use Rattle.std.proofs.Common.{◌≡◌, ℕ, ◌<◌, ◌≤◌, Bool, List, Option, Some, sym, ap, ◌∙◌, subst, arith}
 use Rattle.std.specs.List.{All}
 use Rattle.sh_key.specs.Layout.{Layout}
 use Rattle.sh_shape.specs.Shape.{IsShape}
@@ -10,10 +9,6 @@ use Rattle.script_output.specs.Keys.{HasTagRoom}
 use Rattle.script_calls.specs.Parts.{SeenPass, RunTerms, new_passes, heap_terms}
 use Rattle.script_calls.specs.Finished.{heap_seen, terms_seen, AreAllNew, LinesRan}
 use Rattle.script_calls.proofs.Newcomers.{heap_of_new, terms_of_new, opened_passes}
-
-same_option : (o : Option SeenPass) → option_map (λ h. h) o ≡ o
-same_option None = refl
-same_option (Some s) = refl
 
 -- the passes of this heap, as they were given out
 module _ (layout : Layout) (heap : Heap) (shape : IsShape heap.shape) (seen : Heap) (same : seen ≡ heap)
@@ -47,11 +42,10 @@ module _ (layout : Layout) (heap : Heap) (shape : IsShape heap.shape) (seen : He
 
   pub opened_ran : (alone : Bool) (tag t : Option ℕ) (lines ls : List CallLine) (output : List ℕ)
       (carrier : Option SeenPass) → tag ≡ t → lines ≡ ls
-      → LinesRan alone (heap_seen ss) (terms_seen ss) tag lines output (option_map (λ h. h) carrier)
+      → LinesRan alone (heap_seen ss) (terms_seen ss) tag lines output carrier
       → LinesRan alone (Some heap) (heap_terms layout heap.shape) t ls output carrier
   opened_ran alone tag t lines ls output carrier e f ran =
-      subst (λ c. LinesRan alone (Some heap) (heap_terms layout heap.shape) t ls output c) (same_option carrier)
-      (subst (λ h. LinesRan alone h (heap_terms layout heap.shape) t ls output (option_map (λ h. h) carrier)) is_heap
-      (subst (λ r. LinesRan alone (heap_seen ss) r t ls output (option_map (λ h. h) carrier)) terms
-      (subst (λ x. LinesRan alone (heap_seen ss) (terms_seen ss) x ls output (option_map (λ h. h) carrier)) e
-      (subst (λ x. LinesRan alone (heap_seen ss) (terms_seen ss) tag x output (option_map (λ h. h) carrier)) f ran))))
+      subst (λ h. LinesRan alone h (heap_terms layout heap.shape) t ls output carrier) is_heap
+      (subst (λ r. LinesRan alone (heap_seen ss) r t ls output carrier) terms
+      (subst (λ x. LinesRan alone (heap_seen ss) (terms_seen ss) x ls output carrier) e
+      (subst (λ x. LinesRan alone (heap_seen ss) (terms_seen ss) tag x output carrier) f ran)))

@@ -15,7 +15,6 @@ use Rattle.sh_table.specs.Seats.{Heap}
 use Rattle.sh_table.specs.Tales.{Before}
 use Rattle.sh_table.specs.Whole.{IsWhole}
 use Rattle.sh_table.specs.Views.{Each, newly}
-use Rattle.sh_table.specs.declared.view.Own.{Own}
 use Rattle.sh_table.specs.declared.view.Told.{Told}
 use Rattle.sh_table.specs.Reached.{HasOwn}
 use Rattle.std.specs.List.{All}
@@ -26,8 +25,9 @@ use Rattle.sh_pass.specs.Passes.{Caller, newcomers}
 use Rattle.sh_gather.specs.Histories.{IsHistory}
 use Rattle.sh_gather.specs.Gathering.{NotedMore}
 use Rattle.sh_gather.proofs.Walking.{later_leads, later_shape}
-use Rattle.script_calls.specs.Parts.{SeenPass, HasWholeTale, tale_told, new_pass, new_passes, heap_terms}
-use Rattle.script_calls.specs.Running.{seen_of_caller}
+use Rattle.sh_member.specs.Sides.{SeenSide}
+use Rattle.script_calls.specs.Parts.{HasWholeTale, tale_told, new_pass, new_passes, heap_terms}
+use Rattle.script_calls.specs.Running.{as_member, seen_of_caller, seen_of_member}
 use Rattle.script_calls.specs.Parts.{PassPart, RunTerms, told_pass, passes_below}
 use Rattle.script_calls.specs.Told.{part_told, IsTold}
 use Rattle.script_calls.proofs.TaleLaws.{whole_told, tale_is_whole}
@@ -140,9 +140,10 @@ tells_result (Err e) layout v w first old new is later reached text said = tt
 
 -- ---- the passes of a heap that was opened
 
-same_list : (xs : List SeenPass) → map (λ h. h) xs ≡ xs
-same_list [] = refl
-same_list (x ∷ xs) = ap (λ l. x ∷ l) (same_list xs)
+seen_members : (layout : Layout) (ps : List Caller) → map (λ (m : SeenSide). seen_of_member layout m) (map as_member ps)
+    ≡ map (seen_of_caller layout) ps
+seen_members layout [] = refl
+seen_members layout (p ∷ ps) = ap (λ l. seen_of_caller layout p ∷ l) (seen_members layout ps)
 
 seen_append : (layout : Layout) (xs : List Caller) (x : Caller) → map (seen_of_caller layout) (xs ++ x ∷ [])
     ≡ map (seen_of_caller layout) xs ++ seen_of_caller layout x ∷ []
@@ -156,11 +157,11 @@ seen_newcomers layout heap (suc n) =
     seen_append layout (newcomers heap n) (record { heap = heap; view = newly heap.shape n })
     ∙ ap (λ l. l ++ new_pass (Some heap) (heap_terms layout heap.shape) n ∷ []) (seen_newcomers layout heap n)
 
-pub holders_are : (layout : Layout) (heap : Heap) (n : ℕ) (passes : List Caller) (holders : List SeenPass)
-    → holders ≡ map (seen_of_caller layout) passes → passes ≡ newcomers heap n
-    → map (λ h. h) holders ≡ new_passes (Some heap) (heap_terms layout heap.shape) n
-holders_are layout heap n passes holders seen all =
-    same_list holders ∙ (seen ∙ (ap (map (seen_of_caller layout)) all ∙ seen_newcomers layout heap n))
+pub members_are : (layout : Layout) (heap : Heap) (n : ℕ) (passes : List Caller) (members : List SeenSide)
+    → members ≡ map as_member passes → passes ≡ newcomers heap n
+    → map (λ (m : SeenSide). seen_of_member layout m) members ≡ new_passes (Some heap) (heap_terms layout heap.shape) n
+members_are layout heap n passes members is all = ap (map (λ (m : SeenSide). seen_of_member layout m)) is
+    ∙ (seen_members layout passes ∙ (ap (map (seen_of_caller layout)) all ∙ seen_newcomers layout heap n))
 
 -- ---- the pass that carries the tale of all
 

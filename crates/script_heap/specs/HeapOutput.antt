@@ -20,7 +20,7 @@ use Rattle.sh_table.specs.declared.view.Own.{Own}
 use Rattle.sh_table.specs.declared.view.Told.{Told}
 use Rattle.sh_table.specs.Reached.{HasOwn}
 use Rattle.sh_step.specs.Plans.{Plan}
-use Rattle.script_calls.specs.Standing.{EndsWith}
+use Rattle.script_calls.specs.OwnParts.{EndsWith}
 use Rattle.script_calls.specs.Parts.{PassPart, PassTold, HasWholeTale, heap_terms}
 use Rattle.script_calls.specs.Told.{IsTold}
 use Rattle.script_calls.specs.Finished.{AreWaiting}
@@ -38,7 +38,7 @@ pub record TellsTale (layout : Layout) (shape : Numbers) (tale : List PassTold) 
 -- After these events the pass has exactly the own part with which it ended. So its steps among these events are those
 -- that it did, in order, and each found the word that the pass found.
 abbrev pub EndsInRun : Plan → List Event → (pass : ℕ) → PassPart → Type 0
-EndsInRun plan events pass part = (own : Own) × EndsWith part.shard part.stands own × HasOwn plan events pass own
+EndsInRun plan events pass part = (own : Own) × EndsWith part.stands own × HasOwn plan events pass own
 
 -- account lines by this history, if they are asked for; otherwise none
 abbrev pub AccountsAsked : (asked : Bool) → Layout → Numbers → List Entry → List ℕ → Type 0

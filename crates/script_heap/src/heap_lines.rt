@@ -7,26 +7,26 @@ ghost use Rattle.sh_table.specs.Seats.{Heap as HeapSeen};
 ghost use Rattle.sh_table.specs.Whole.{IsWhole};
 ghost use Rattle.script_calls.specs.Parts.{heap_terms, new_passes, tale_told};
 ghost use Rattle.script_calls.specs.Finished.{LinesRan, CarrierRan};
-ghost use Rattle.script_calls.specs.Running.{seen_of_caller};
+ghost use Rattle.script_calls.specs.Running.{as_member, seen_of_caller, seen_of_member};
 ghost use Rattle.script_calls.specs.Meeting.{parts_carried};
 ghost use Rattle.script_heap.specs.WholeAccounts.{LeadsToWhole};
 ghost use Rattle.script_heap.specs.HeapOutput.{TellsTale, IsHeapOutput, IsRan};
 
 use crate::pages::WholeHeap;
-use script_calls::holder::Holder;
+use script_calls::running::pass_of;
 use script_output::account_line::push_accounts;
 use script_output::pages::Pages;
 use sh_gather::whole;
 use sh_key::KeyLayout;
+use sh_member::Member;
 use sh_pass::{Heap, Pass, Seats};
 use sh_script::{CallLine, Fault};
 use sh_shape::Shape;
-use sh_shard::Shard;
 use sh_value::Refusal;
 use std::alloc::{AllocError, Global};
 
 /// A pass of a running heap, with or without a shard.
-pub type PassHolder<'a, L> = Holder<Pass<'a, L>, Shard<'a, L>>;
+pub type HeapMember<'a, L> = Member<L, &'a Heap<L>>;
 
 /// What a run on a running heap writes.
 #[derive(Drop)]
@@ -50,36 +50,35 @@ pub fn opened<L: KeyLayout>(alloc: Global, shape: Shape) -> Result<(Heap<L>, Sea
     }
 }
 
-fn held<'a, L: KeyLayout>(
+fn as_members<'a, L: KeyLayout>(
     alloc: Global,
     passes: Vec<Pass<'a, L>>,
-) -> Result<Vec<PassHolder<'a, L>>, AllocError>
-    ensures { IfOk result (λ holders. holders.items ≡ map (seen_of_caller L.layout) passes.entry.items) }
+) -> Result<Vec<HeapMember<'a, L>>, AllocError>
+    ensures { IfOk result (λ members. members.items ≡ map as_member passes.entry.items) }
 {
-    let mut holders = Vec::with_capacity(alloc, passes.len())?;
+    let mut members = Vec::with_capacity(alloc, passes.len())?;
     for pass in passes {
-        let _known = pass.shape();
-        holders.push(Holder::new(pass))?;
+        members.push(Member::of(pass))?;
     }
-    Ok(holders)
+    Ok(members)
 }
 
 /// All passes of the heap that these seats belong to. None owns a shard.
-pub fn holders<L: KeyLayout>(
+pub fn members<L: KeyLayout>(
     alloc: Global,
     heap: &Heap<L>,
     seats: Seats<L>,
-) -> Result<Vec<PassHolder<'_, L>>, Fault>
+) -> Result<Vec<HeapMember<'_, L>>, Fault>
     requires { seats ≡ heap.now }
-    ensures all { IfOk result (λ holders. map (λ h. h) holders.items
+    ensures all { IfOk result (λ members. map (λ m. seen_of_member L.layout m) members.items
         ≡ new_passes (Some heap.now) (heap_terms L.layout heap.now.shape) heap.now.shape.passes) }
     ensures memory { IfErr result (λ fault. fault ≡ Fault.Memory) }
 {
     let Ok(passes) = heap.passes(alloc, seats) else {
         return Err(Fault::Memory);
     };
-    match held(alloc, passes) {
-        Ok(holders) => Ok(holders),
+    match as_members(alloc, passes) {
+        Ok(members) => Ok(members),
         Err(_) => Err(Fault::Memory),
     }
 }
@@ -115,15 +114,16 @@ fn look<L: KeyLayout>(pass: Pass<'_, L>)
 // The replies, and after them the accounts that the carrier knows, if they are asked for.
 fn told<L: KeyLayout>(
     mut output: Vec<u8>,
-    carrier: PassHolder<'_, L>,
+    carrier: HeapMember<'_, L>,
     asked: bool,
 ) -> Result<Vec<u8>, AllocError>
     ghost at: { HeapSeen × Option ℕ × List CallLine × Bool }
     requires shape { IsShape at.0.shape }
-    requires ran { CarrierRan at.3 (Some at.0) (heap_terms L.layout at.0.shape) at.1 at.2 output.items carrier }
+    requires ran { CarrierRan at.3 (Some at.0) (heap_terms L.layout at.0.shape) at.1 at.2 output.items
+        (seen_of_member L.layout carrier) }
     ensures { IfOk result (λ output. IsHeapOutput at.3 L.layout at.0.shape at.1 at.2 asked output.items) }
 {
-    let pass = carrier.into_pass();
+    let pass = pass_of(carrier);
     if asked {
         push_whole(&mut output, pass)?;
     } else {
@@ -136,12 +136,13 @@ fn told<L: KeyLayout>(
 /// could leave.
 pub fn gathered<L: KeyLayout>(
     output: Vec<u8>,
-    carrier: Option<PassHolder<'_, L>>,
+    carrier: Option<HeapMember<'_, L>>,
     asked: bool,
 ) -> Result<Ran, Fault>
     ghost at: { HeapSeen × Option ℕ × List CallLine × Bool }
     requires shape { IsShape at.0.shape }
-    requires ran { LinesRan at.3 (Some at.0) (heap_terms L.layout at.0.shape) at.1 at.2 output.items carrier }
+    requires ran { LinesRan at.3 (Some at.0) (heap_terms L.layout at.0.shape) at.1 at.2 output.items
+        (option_map (λ m. seen_of_member L.layout m) carrier) }
     ensures told { IfOk result (λ r. IsRan at.3 L.layout at.0.shape at.1 at.2 asked r.output.items r.is_waiting) }
     ensures memory { IfErr result (λ fault. fault ≡ Fault.Memory) }
 {

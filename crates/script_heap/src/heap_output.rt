@@ -9,7 +9,7 @@ ghost use Rattle.script_heap.specs.HeapOutput.{IsRan, IsHeapRun};
 ghost use Rattle.script_output.specs.Ends.{IsEndFault};
 ghost use Rattle.script_output.specs.Faults.{IsScriptOf, IsFaultOf};
 
-use crate::heap_lines::{Ran, gathered, holders, opened};
+use crate::heap_lines::{Ran, gathered, members, opened};
 use script_calls::alone::alone_lines;
 use script_output::Mode;
 use sh_key::{KeyLayout, Tagged, Tiny, Wide};
@@ -38,7 +38,7 @@ fn lines_on<L: KeyLayout>(
     ensures told { IfOk result (λ r. IsRan true L.layout at.0.shape at.1 at.2 asked r.output.items r.is_waiting) }
     ensures memory { IfErr result (λ fault. fault ≡ Fault.Memory) }
 {
-    let sides = holders(alloc, heap, seats)?;
+    let sides = members(alloc, heap, seats)?;
     let (output, carrier) = alone_lines(alloc, lines, tag, sides)?;
     gathered(output, carrier, asked)
 }

@@ -1,4 +1,6 @@
 pub mod Claims
 pub mod Keeping
 pub mod Places
+pub mod Refusals
 pub mod Shapes
+pub mod Wholes

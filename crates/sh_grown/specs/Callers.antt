@@ -19,11 +19,13 @@ use Rattle.sh_grown.specs.Keeping.{SamePlace}
 abbrev pub Cell : Type 0
 Cell = Global × ℕ
 
--- what a caller has at first in a chunk that has this heap: the pass of the pool slot of this number, at rest
+-- what a caller has at first in a chunk that has this heap: the pass of this number, at rest, from its pool slot
 pub record IsPooled (heap : Heap) (number : ℕ) (m : Met) : Type 0 where
   pub pass : Caller
   pub member : m.member ≡ side.Pass pass
   pub of : pass.heap ≡ heap
+  pub own : pass.view.pass ≡ number
+  pub below : number < heap.shape.passes
   pub rest : IsAtRest pass
   pub pool_slot : m.pool_slot ≡ number
   pub shards : m.shards ≡ heap.shape.shards
@@ -35,8 +37,7 @@ pub record IsNewcomer (cells : List Cell) (number chunk : ℕ) (m : Met) : Type 
   pub seen : m.note.known ≡ Some heap
   pub cell : IfSome (slice_get cells chunk) (λ c. m.note.cell ≡ cell_name c)
 
--- what a caller has that was just claimed: the pass of the pool slot of its number in the first chunk, and nothing in
--- any other
+-- what a caller has that was just claimed: the pass of its number in the first chunk, and nothing in any other
 pub record IsClaimed (cells : List Cell) (number : ℕ) (members : List (Option Met)) : Type 0 where
   pub first : Met
   pub newcomer : IsNewcomer cells number 0 first
@@ -72,6 +73,12 @@ pub record ChunkDoes {A : Type 0} (does : SeenSide → Result A Refusal → Seen
   pub after : Option Met
   pub does_it : MetDoes does (get_or met chunk None) answer after
   pub others : new ≡ slice_set met chunk after
+
+-- this holds of the member in a chunk, before a call and after it
+abbrev pub MetTakes : (SeenSide → SeenSide → Type 0) → Option Met → Option Met → Type 0
+MetTakes takes (Some m) (Some n) = takes m.member n.member
+MetTakes takes (Some m) None = ⊥
+MetTakes takes None n = ⊥
 
 -- why a chunk cannot be met: no chunk that is open has this number, or the caller's pass is not in the chunk's pool
 abbrev pub WhyUnmet : Refusal → Type 0

@@ -1,5 +1,5 @@
 -- Growing heaps.
-use Rattle.std.specs.Prelude.{◌≡◌, ℕ, ◌≤◌, ◌⊎◌, Result, Ok, Err, length}
+use Rattle.std.specs.Prelude.{◌≡◌, ℕ, ◌<◌, ◌≤◌, ◌⊎◌, Result, Ok, Err, length}
 use Rattle.sh_shape.specs.Rooms.{NoneRoomy}
 use Rattle.sh_chunk.specs.Chunks.{chunked}
 use Rattle.sh_value.specs.declared.refusal.Refusal.{Refusal}
@@ -29,6 +29,13 @@ OpensGrowingFor owners values words passes chunks (Err refusal.BadShape) =
     (¬ IsGrowing passes chunks) ⊎ NoneRoomy chunked owners values words passes
 OpensGrowingFor owners values words passes chunks (Err refusal.Memory) = IsGrowing passes chunks
 OpensGrowingFor owners values words passes chunks (Err _) = ⊥
+
+-- a chunk that the heap may have is opened, and its number returned; or each is open, or memory was refused
+abbrev pub OpensAhead : (chunks : ℕ) → Result ℕ Refusal → Type 0
+OpensAhead chunks (Ok chunk) = chunk < chunks
+OpensAhead chunks (Err refusal.Full) = Unit {0}
+OpensAhead chunks (Err refusal.Memory) = Unit {0}
+OpensAhead chunks (Err _) = ⊥
 
 -- why a chunk is not opened: memory was refused, or the heap may not have a chunk of this number
 abbrev pub WhyUnopened : Refusal → Type 0

@@ -1,11 +1,13 @@
 -- What inserts do over the chunks.
-use Rattle.std.specs.Prelude.{ℕ, ◌<◌, List, Option, Some, None, Result, Ok, Err, IsSome, get_or}
+use Rattle.std.specs.Prelude.{◌≡◌, ℕ, ◌<◌, ◌⊎◌, List, Option, Some, None, Result, Ok, Err, IsSome, get_or, length}
+use Rattle.std.specs.Prelude.{slice_set}
 use Rattle.sh_chunk.specs.Chunks.{chunked, chunk_of, key_within}
 use Rattle.sh_value.specs.declared.refusal.Refusal.{Refusal}
 use Rattle.sh_value.specs.declared.refusal.Refusal.TheVariants as refusal
 use Rattle.sh_member.specs.Sides.{SeenSide, SideInserts, SideCollects, IsPass}
+use Rattle.sh_member.specs.SideBounds.{InsertTakes}
 use Rattle.sh_grown.specs.declared.met.Met.{Met}
-use Rattle.sh_grown.specs.Callers.{IfMetDoes}
+use Rattle.sh_grown.specs.Callers.{IfMetDoes, MetTakes}
 use Rattle.sh_grown.specs.Keeping.{KeepsMembers}
 
 -- an insert by the member of a chunk, whose key is returned with the number of the chunk
@@ -17,7 +19,14 @@ InsertsIn value m (Err why) n = SideInserts chunked value m (Err why) n
 abbrev pub InsertsInChunk : List ℕ → (chunk : ℕ) → List (Option Met) → Result ℕ Refusal → List (Option Met) → Type 0
 InsertsInChunk value chunk old answer new = IfMetDoes (InsertsIn value) refusal.NoShard chunk old answer new
 
--- the same for a collect
+-- that insert takes at most the steps of the shard, and none if the caller has no member in the chunk
+abbrev pub InsertTakesInChunk : List ℕ → (chunk : ℕ) → List (Option Met) → List (Option Met) → Type 0
+InsertTakesInChunk value chunk old new =
+    ((after : Option Met) × MetTakes (InsertTakes (length value)) (get_or old chunk None) after
+    × (new ≡ slice_set old chunk after))
+    ⊎ ((get_or old chunk None ≡ None) × (new ≡ old))
+
+-- the collect of a caller in one chunk: its member there does it, or it has none there and owns no shard
 abbrev pub CollectsInChunk : (chunk : ℕ) → List (Option Met) → Result (Unit {0}) Refusal → List (Option Met) → Type 0
 CollectsInChunk chunk old answer new = IfMetDoes (SideCollects chunked) refusal.NoShard chunk old answer new
 
@@ -26,7 +35,7 @@ abbrev pub HasMet : List (Option Met) → ℕ → Type 0
 HasMet members chunk = IsSome (get_or members chunk None)
 
 -- At last the member of the key's chunk inserts the value, and no other member changes. Until then each member keeps
--- its heap, its log and its holds.
+-- its heap, its number, its log and its holds.
 abbrev pub EndsWithInsert : List ℕ → (key : ℕ) → List (Option Met) → List (Option Met) → Type 0
 EndsWithInsert value key old new = (before : List (Option Met)) × KeepsMembers old before
     × InsertsInChunk value (chunk_of key) before (Ok key) new
@@ -39,8 +48,8 @@ TriesInsert value old (Err refusal.Memory) new = KeepsMembers old new
 TriesInsert value old (Err _) new = ⊥
 
 -- An insert over the chunks of a heap that may have this many. The value is stored in the key's chunk. If it is
--- refused, each member keeps its heap, its log and its holds. It is Full only if the caller has met each chunk that the
--- heap may have, so that all are open.
+-- refused, each member keeps its heap, its number, its log and its holds. It is Full only if the caller has met each
+-- chunk that the heap may have, so that all are open.
 abbrev pub Inserts : (chunks : ℕ) → List ℕ → List (Option Met) → Result ℕ Refusal → List (Option Met) → Type 0
 Inserts chunks value old (Ok key) new = EndsWithInsert value key old new
 Inserts chunks value old (Err refusal.Full) new =

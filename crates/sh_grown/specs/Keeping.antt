@@ -7,14 +7,15 @@ use Rattle.sh_member.specs.declared.member.Side.TheVariants.{Pass, Shard, Moving
 use Rattle.sh_member.specs.Sides.{SeenSide}
 use Rattle.sh_grown.specs.declared.met.Met.{Met}
 
--- heap, log and holds of a pass
+-- heap, number, log and holds of a pass
 pub record Kept : Type 0 where
   pub heap : Heap
+  pub number : ℕ
   pub log : List LogEntry
   pub holds : List ℕ
 
 abbrev pub kept_of : Caller → Kept
-kept_of v = record { heap = v.heap; log = v.view.own.log; holds = holds v }
+kept_of v = record { heap = v.heap; number = v.view.pass; log = v.view.own.log; holds = holds v }
 
 -- the same of a member
 abbrev pub kept_by : SeenSide → Option Kept
@@ -26,7 +27,7 @@ kept_by Moving = None
 abbrev pub SamePlace : Met → Met → Type 0
 SamePlace m n = (n.pool_slot ≡ m.pool_slot) × (n.note ≡ m.note) × (n.shards ≡ m.shards)
 
--- a member that a caller had keeps its place, its heap, its log and its holds
+-- a member that a caller had keeps its place, its heap, its number, its log and its holds
 abbrev pub KeepsMember : Option Met → Option Met → Type 0
 KeepsMember None n = Unit {0}
 KeepsMember (Some m) None = ⊥

@@ -10,8 +10,8 @@ use crate::share::GrowingShare;
 use sh_value::Refusal;
 use std::alloc::Global;
 
-/// A caller of a growing heap, with a number from 0 to 63. In each chunk it has the pass of the pool slot of that
-/// number, from the first call that needs it. It has a share of the heap, so it borrows nothing.
+/// A caller of a growing heap, with a number from 0 to 63. In each chunk it has the pass of that number, from the first
+/// call that needs it. It has a share of the heap, so it borrows nothing.
 ///
 /// It has 16 holds in each chunk, and may own a shard in each. It ends by `end`, which gives its passes back. A caller
 /// that is dropped is lost: its number is never claimed again, and its holds and shards stay as they are.
@@ -42,8 +42,8 @@ fn no_members(alloc: Global, chunks: usize) -> Result<Vec<Option<Met>>, Refusal>
 }
 
 impl GrowingShare {
-    /// A caller with the first number that is not claimed. It has the pass of the pool slot of that number in the first
-    /// chunk, and a share of the heap.
+    /// A caller with the first number that is not claimed. It has the pass of that number in the first chunk, and a
+    /// share of the heap.
     ///
     /// The room for its members in all chunks is taken here, so that no call on a key takes memory. Refused as `Memory`
     /// before a pass is taken, and as `Taken` if it finds no pass of the first chunk in its pool.

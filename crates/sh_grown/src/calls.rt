@@ -8,8 +8,10 @@ ghost use Rattle.sh_member.specs.Sides.{SideDoes};
 ghost use Rattle.sh_grown.specs.Callers.{GrownDoes, HeldDoes, GetsIn, Stays};
 
 use crate::caller::Caller;
+use crate::guard::GrownGuard;
 use crate::met::{
-    fetch_at, fetch_into_at, get_at, read_at, read_into_at, release_at, remove_at, take_into_at,
+    fetch_at, fetch_into_at, get_at, get_guard_at, read_at, read_guard_at, read_into_at,
+    release_at, release_guard_at, remove_at, take_into_at,
 };
 use sh_chunk::Chunked;
 use sh_value::{Hold, Refusal, Value};
@@ -53,6 +55,20 @@ impl Caller {
         get_at(&mut self.met[chunk], key)
     }
 
+    /// The same as `get`, but the hold keeps the place of the key's slot, for `read_guard` and `release_guard`.
+    #[inline(never)]
+    pub fn get_guard(&mut self, key: u64) -> Result<GrownGuard, Refusal>
+        ensures does { GrownDoes (SideDoes chunked (GetsIn key))
+            self.old.growing.cells.items self.old.number (chunk_of key) self.old.met.items result
+            self.new.met.items }
+        ensures hold { IfOk result (λ hold. hold.key ≡ key) }
+        ensures stays { Stays self.old self.new }
+    {
+        let chunk = chunk_of(key);
+        self.meet(chunk)?;
+        get_guard_at(&mut self.met[chunk], key)
+    }
+
     /// The value of a key that it holds. Refused as `NotHeld`.
     #[inline(never)]
     pub fn read(&mut self, hold: Hold) -> Result<Value, Refusal>
@@ -81,6 +97,21 @@ impl Caller {
         read_into_at(&mut self.met[chunk], hold, value)
     }
 
+    /// The same as `read_into`, by a hold that keeps its place.
+    #[inline(never)]
+    pub fn read_guard(&mut self, guard: &GrownGuard, value: &mut Value) -> Result<(), Refusal>
+        ensures does { HeldDoes (SideDoes chunked (λ v answer w. ReadIntoDoes (key_within guard.now.key) v value.old
+            answer value.new w)) (chunk_of guard.now.key) self.old.met.items result self.new.met.items }
+        ensures stays { Stays self.old self.new }
+    {
+        let key = guard.key();
+        let chunk = chunk_of(key);
+        if !self.has_met(chunk) {
+            return Err(Refusal::NotHeld);
+        }
+        read_guard_at(&mut self.met[chunk], guard, value)
+    }
+
     /// Gives one hold on a key back. Refused as `NotHeld`.
     #[inline(never)]
     pub fn release(&mut self, hold: Hold) -> Result<(), Refusal>
@@ -93,6 +124,21 @@ impl Caller {
             return Err(Refusal::NotHeld);
         }
         release_at(&mut self.met[chunk], hold)
+    }
+
+    /// The same as `release`, of a hold that keeps its place.
+    #[inline(never)]
+    pub fn release_guard(&mut self, guard: GrownGuard) -> Result<(), Refusal>
+        ensures does { HeldDoes (SideDoes chunked (ReleaseDoes chunked (key_within guard.key))) (chunk_of guard.key)
+            self.old.met.items result self.new.met.items }
+        ensures stays { Stays self.old self.new }
+    {
+        let key = guard.key();
+        let chunk = chunk_of(key);
+        if !self.has_met(chunk) {
+            return Err(Refusal::NotHeld);
+        }
+        release_guard_at(&mut self.met[chunk], guard)
     }
 
     /// The value of a key: a get, a read and a release in one. Refused as a get is. It leaves the holds as they were.

@@ -40,7 +40,7 @@ fn new_chunk(alloc: Global, shape: Shape) -> Result<Box<Share<Chunked>>, Refusal
 }
 
 impl Growing {
-    ghost use Rattle.sh_grown.specs.Growing.{OpensGrowing, OpensGrowingFor, WhyUnopened};
+    ghost use Rattle.sh_grown.specs.Growing.{OpensAhead, OpensGrowing, OpensGrowingFor, WhyUnopened};
 
     /// A growing heap of at most `chunks` chunks, from 1 to 256, with this many passes, from 1 to 64. The first chunk
     /// is opened. Refused as `BadShape` exactly if a number is outside its limits, and as `Memory` if memory is
@@ -121,7 +121,9 @@ impl Growing {
 
     /// How many passes it has, from 1 to 64: as many callers may be claimed at a time.
     pub fn passes(&self) -> u32
-        ensures { result ≡ self.now.passes }
+        ensures count { result ≡ self.now.passes }
+        ensures some { 1 ≤ result }
+        ensures few { result ≤ 64 }
     {
         self.passes
     }
@@ -132,6 +134,35 @@ impl Growing {
             .iter()
             .filter(|cell| cell.get().is_some())
             .count()
+    }
+
+    /// Opens the first chunk that is not open, outside an insert, and returns its number. A later insert then finds it
+    /// open. So another thread than those that insert can wait for the memory: all words of a chunk are written as it
+    /// opens.
+    ///
+    /// If another thread opens the same chunk at once, one of them frees its own heap, and both return the number.
+    /// Refused as `Full` if each chunk that the heap may have is open, and as `Memory` if memory is refused.
+    ///
+    /// ```text
+    /// let growing = Growing::open(alloc, 64, 256)?;
+    /// let chunk = growing.open_ahead(alloc)?;   // 1
+    /// ```
+    pub fn open_ahead(&self, alloc: Global) -> Result<usize, Refusal>
+        ensures { OpensAhead (length self.now.cells.items) result }
+    {
+        for chunk in 0..self.chunks_allowed() {
+            let Some(mut note) = self.note(chunk) else {
+                return Err(Refusal::Full);
+            };
+            if self.seen(chunk, &mut note).is_none() {
+                return match self.opened(alloc, chunk as u8, &mut note) {
+                    Ok(_) => Ok(chunk),
+                    Err(Refusal::Memory) => Err(Refusal::Memory),
+                    Err(_) => Err(Refusal::Full),
+                };
+            }
+        }
+        Err(Refusal::Full)
     }
 
     // A note of what is known of this chunk's cell: nothing yet. `None` if the heap may not have the chunk.

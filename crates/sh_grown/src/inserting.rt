@@ -3,7 +3,8 @@ ghost use Rattle.std.specs.Prelude.{◌≡◌, IfErr, IfOk, OnErr, OnOk, length}
 ghost use Rattle.sh_value.specs.declared.refusal.Refusal.TheVariants.{Memory};
 ghost use Rattle.sh_chunk.specs.Chunks.{chunk_of};
 ghost use Rattle.sh_grown.specs.Callers.{Stays, WhyWithout};
-ghost use Rattle.sh_grown.specs.Inserts.{InsertsInChunk, CollectsInChunk, Inserts, TriesInsert, HasMet};
+ghost use Rattle.sh_grown.specs.Inserts.{InsertsInChunk, InsertTakesInChunk, CollectsInChunk, Inserts, TriesInsert};
+ghost use Rattle.sh_grown.specs.Inserts.{HasMet};
 ghost use Rattle.sh_grown.specs.Keeping.{KeepsMembers};
 
 use crate::caller::Caller;
@@ -41,6 +42,7 @@ impl Caller {
     /// none there, and otherwise as `Full` or `Memory`.
     pub fn insert_in(&mut self, chunk: u8, value: &Value) -> Result<u64, Refusal>
         ensures inserts { InsertsInChunk value.now chunk self.old.met.items result self.new.met.items }
+        ensures bounded { InsertTakesInChunk value.now chunk self.old.met.items self.new.met.items }
         ensures chunk { IfOk result (λ key. chunk_of key ≡ chunk) }
         ensures keeps { OnErr result (KeepsMembers self.old.met.items self.new.met.items) }
         ensures stays { Stays self.old self.new }

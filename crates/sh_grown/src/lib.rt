@@ -6,15 +6,20 @@
 
 pub mod caller;
 mod calls;
+pub mod chunk;
 pub mod chunk_shapes;
 pub mod crossing;
 pub mod growing;
+pub mod guard;
 mod inserting;
 mod leaving;
 pub mod met;
 pub mod share;
 
 pub use caller::Caller;
+pub use chunk::Chunk;
 pub use chunk_shapes::chunk_shape;
 pub use growing::Growing;
+pub use guard::GrownGuard;
+pub use sh_whole::NotTold;
 pub use share::GrowingShare;

@@ -1,14 +1,17 @@
 //! What a caller has in a chunk that it has met, and the calls of its member there.
-ghost use Rattle.std.specs.Prelude.{◌≡◌, IfErr, IfOk, IfSome, IsSome, OnErr, OnOk, Some};
-ghost use Rattle.sh_value.specs.declared.refusal.Refusal.TheVariants.{Waiting};
+ghost use Rattle.std.specs.Prelude.{◌≡◌, ℕ, ◌<◌, ◌⊎◌, IfErr, IfOk, IfSome, IsSome, List, OnErr, OnOk, Some, length};
+ghost use Rattle.sh_value.specs.declared.refusal.Refusal.TheVariants.{Memory, Waiting};
 ghost use Rattle.sh_chunk.specs.Chunks.{chunked, chunk_of, key_within};
 ghost use Rattle.sh_pass.specs.Passes.{IsAtRest, ReadDoes, ReadIntoDoes, RemoveDoes, ReleaseDoes};
 ghost use Rattle.sh_readers.specs.Readers.{FetchDoes, FetchIntoDoes, TakeIntoDoes};
-ghost use Rattle.sh_member.specs.Sides.{SideDoes, SideCollects};
-ghost use Rattle.sh_grown.specs.Callers.{IsPooled, MetDoes, GetsIn};
+ghost use Rattle.sh_member.specs.Sides.{SideAdopts, SideDoes, SideCollects};
+ghost use Rattle.sh_member.specs.SideBounds.{InsertTakes};
+ghost use Rattle.sh_grown.specs.Callers.{IsPooled, MetDoes, MetTakes, GetsIn};
 ghost use Rattle.sh_grown.specs.Inserts.{InsertsIn, OwnsNone};
 ghost use Rattle.sh_grown.specs.Keeping.{KeepsMember};
+ghost use Rattle.sh_grown.specs.Refusals.{OwnsThere, WaitsThere, WasRefused};
 
+use crate::guard::GrownGuard;
 use once_cell::race::Note;
 use sh_chunk::{Chunked, chunked_keys_fit};
 use sh_member::Member;
@@ -61,6 +64,8 @@ impl Met {
 // What a caller has in a chunk of which it has just taken this pass. The note knows the chunk.
 fn met_by(kept: Share<Chunked>, note: Note<Share<Chunked>>, taken: Taken<Chunked>) -> Met
     requires heap { taken.state.heap ≡ kept }
+    requires pass { taken.state.view.pass ≡ taken.pool_slot }
+    requires below { taken.pool_slot < kept.shape.passes }
     requires rest { IsAtRest taken.state }
     ensures met { IsPooled kept taken.pool_slot result }
     ensures note { result.note ≡ note }
@@ -119,6 +124,20 @@ pub(crate) fn get_at(place: &mut Option<Met>, key: u64) -> Result<Hold, Refusal>
     }
 }
 
+pub(crate) fn get_guard_at(place: &mut Option<Met>, key: u64) -> Result<GrownGuard, Refusal>
+    requires { IsSome place.old }
+    ensures does { MetDoes (SideDoes chunked (GetsIn key)) place.old result place.new }
+    ensures hold { IfOk result (λ hold. hold.key ≡ key) }
+{
+    match place {
+        Some(met) => {
+            let guard = met.member.get_guard(within(key))?;
+            Ok(GrownGuard { key, guard })
+        }
+        None => unreachable!(),
+    }
+}
+
 pub(crate) fn read_at(place: &mut Option<Met>, hold: Hold) -> Result<Value, Refusal>
     requires { IsSome place.old }
     ensures { MetDoes (SideDoes chunked (ReadDoes (key_within hold.key))) place.old result place.new }
@@ -146,6 +165,21 @@ pub(crate) fn read_into_at(
     }
 }
 
+pub(crate) fn read_guard_at(
+    place: &mut Option<Met>,
+    guard: &GrownGuard,
+    value: &mut Value,
+) -> Result<(), Refusal>
+    requires { IsSome place.old }
+    ensures { MetDoes (SideDoes chunked (λ v answer w. ReadIntoDoes (key_within guard.now.key) v value.old answer
+        value.new w)) place.old result place.new }
+{
+    match place {
+        Some(met) => met.member.read_guard(&guard.guard, value),
+        None => unreachable!(),
+    }
+}
+
 pub(crate) fn release_at(place: &mut Option<Met>, hold: Hold) -> Result<(), Refusal>
     requires { IsSome place.old }
     ensures { MetDoes (SideDoes chunked (ReleaseDoes chunked (key_within hold.key))) place.old result place.new }
@@ -153,6 +187,20 @@ pub(crate) fn release_at(place: &mut Option<Met>, hold: Hold) -> Result<(), Refu
     let key = within(hold.key);
     match place {
         Some(met) => met.member.release(Hold { key }),
+        None => unreachable!(),
+    }
+}
+
+pub(crate) fn release_guard_at(place: &mut Option<Met>, guard: GrownGuard) -> Result<(), Refusal>
+    requires { IsSome place.old }
+    ensures { MetDoes (SideDoes chunked (ReleaseDoes chunked (key_within guard.key))) place.old result place.new }
+{
+    let GrownGuard {
+        key: _,
+        guard: inner,
+    } = guard;
+    match place {
+        Some(met) => met.member.release_guard(inner),
         None => unreachable!(),
     }
 }
@@ -211,6 +259,7 @@ pub(crate) fn remove_at(place: &mut Option<Met>, key: u64) -> Result<(), Refusal
 pub(crate) fn insert_at(place: &mut Option<Met>, chunk: u8, value: &Value) -> Result<u64, Refusal>
     requires { IsSome place.old }
     ensures inserts { MetDoes (InsertsIn value.now) place.old result place.new }
+    ensures bounded { MetTakes (InsertTakes (length value.now)) place.old place.new }
     ensures chunk { IfOk result (λ key. chunk_of key ≡ chunk) }
     ensures keeps { OnErr result (KeepsMember place.old place.new) }
 {
@@ -247,15 +296,26 @@ pub(crate) fn shards_at(place: &Option<Met>) -> u32 {
 // shard that it owns before cannot be left.
 pub(crate) fn move_to(alloc: Global, place: &mut Option<Met>, shard: usize) -> Result<(), Refusal>
     requires { IsSome place.old }
-    ensures { KeepsMember place.old place.new }
+    ensures owns { OnOk result (OwnsThere shard place.new) }
+    ensures refused { IfErr result (λ why. (why ≡ Memory)
+        ⊎ ((value : List ℕ) → WasRefused value shard place.old place.new)) }
+    ensures keeps { KeepsMember place.old place.new }
+{
+    leave_at(place)?;
+    adopt_at(alloc, place, shard)
+}
+
+// The same of a caller that owns no shard there.
+#[tactic(auto, using(crate::proofs::Refusals::side_owns))]
+fn adopt_at(alloc: Global, place: &mut Option<Met>, shard: usize) -> Result<(), Refusal>
+    requires there { IsSome place.old }
+    requires none { OwnsNone place.old }
+    ensures adopts { MetDoes (SideAdopts shard) place.old result place.new }
+    ensures owns { OnOk result (OwnsThere shard place.new) }
+    ensures keeps { KeepsMember place.old place.new }
 {
     match place {
-        Some(met) => {
-            if met.member.owns_shard() {
-                met.member.leave()?;
-            }
-            met.member.adopt(alloc, shard as u64)
-        }
+        Some(met) => met.member.adopt(alloc, shard as u64),
         None => unreachable!(),
     }
 }
@@ -264,6 +324,8 @@ pub(crate) fn move_to(alloc: Global, place: &mut Option<Met>, shard: usize) -> R
 pub(crate) fn leave_at(place: &mut Option<Met>) -> Result<(), Refusal>
     ensures left { OnOk result (OwnsNone place.new) }
     ensures err { IfErr result (λ why. why ≡ Waiting) }
+    ensures waits { OnErr result (WaitsThere place.old place.new) }
+    ensures there { IsSome place.old → IsSome place.new }
     ensures keeps { KeepsMember place.old place.new }
 {
     let Some(met) = place else {

@@ -1,1 +1,2 @@
+pub mod SideBounds
 pub mod Sides

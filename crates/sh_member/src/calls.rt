@@ -1,8 +1,9 @@
 // The calls of a member that leave it a pass, or the owner of its shard.
-ghost use Rattle.std.specs.Prelude.{◌<◌};
+ghost use Rattle.std.specs.Prelude.{◌<◌, length};
 ghost use Rattle.sh_pass.specs.Passes.{GetDoes, ReadDoes, ReadIntoDoes, RemoveDoes, ReleaseDoes};
 ghost use Rattle.sh_shard.specs.Shards.{StaysOwner};
 ghost use Rattle.sh_member.specs.Sides.{SideDoes, SideInserts, SidePrepares, SideCollects};
+ghost use Rattle.sh_member.specs.SideBounds.{InsertTakes, PrepareTakes};
 ghost use Rattle.sh_readers.specs.Readers.{FetchDoes, FetchIntoDoes};
 
 use crate::member::{Member, Side};
@@ -112,7 +113,8 @@ impl<L: KeyLayout, H: KeepsHeap<L>> Member<L, H> {
     /// Stores a value under a new key in the shard that it owns. Refused as `NoShard` if it owns none, and otherwise as
     /// `Full` or `Memory`.
     pub fn insert(&mut self, value: &Value) -> Result<u64, Refusal>
-        ensures { SideInserts L.layout value.now self.old result self.new }
+        ensures serves { SideInserts L.layout value.now self.old result self.new }
+        ensures bounded { InsertTakes (length value.now) self.old self.new }
     {
         match &mut self.side {
             Side::Pass(_) => Err(Refusal::NoShard),
@@ -125,7 +127,8 @@ impl<L: KeyLayout, H: KeepsHeap<L>> Member<L, H> {
     /// if it owns none, and otherwise as `Full` or `Memory`.
     pub fn prepare(&mut self, class: u32) -> Result<u32, Refusal>
         requires { class < 8 }
-        ensures { SidePrepares L.layout class self.old result self.new }
+        ensures serves { SidePrepares L.layout class self.old result self.new }
+        ensures bounded { PrepareTakes self.old self.new }
     {
         match &mut self.side {
             Side::Pass(_) => Err(Refusal::NoShard),

@@ -6,6 +6,7 @@
 
 mod calls;
 mod counting;
+mod guards;
 mod joining;
 pub mod member;
 mod moving;

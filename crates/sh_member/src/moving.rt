@@ -1,6 +1,7 @@
 // How a member adopts a shard and leaves it.
 ghost use Rattle.std.specs.Prelude.{MatchBool};
 ghost use Rattle.sh_member.specs.Sides.{SideAdopts, SideLeaves, SideGivesPass, IsPass};
+ghost use Rattle.sh_member.specs.SideBounds.{AdoptTakes, LeaveTakes};
 
 use crate::member::{Member, Side};
 use sh_key::KeyLayout;
@@ -15,7 +16,8 @@ impl<L: KeyLayout, H: KeepsHeap<L>> Member<L, H> {
     /// Makes it the owner of shard `n`. Refused as `Taken` if it owns one already or another pass owns that one, as
     /// `NoShard` if there is no such shard, and as `Memory`.
     pub fn adopt(&mut self, alloc: Global, n: u64) -> Result<(), Refusal>
-        ensures { SideAdopts n self.old result self.new }
+        ensures serves { SideAdopts n self.old result self.new }
+        ensures bounded { AdoptTakes self.old self.new }
     {
         match replace(&mut self.side, Side::Moving) {
             Side::Pass(pass) => match Shard::adopt(alloc, pass, n) {
@@ -39,7 +41,8 @@ impl<L: KeyLayout, H: KeepsHeap<L>> Member<L, H> {
     /// Leaves the shard that it owns. Refused as `NoShard` if it owns none, and as `Waiting` if another caller has
     /// begun a free there that is yet to end.
     pub fn leave(&mut self) -> Result<(), Refusal>
-        ensures { SideLeaves self.old result self.new }
+        ensures serves { SideLeaves self.old result self.new }
+        ensures bounded { LeaveTakes self.old self.new }
     {
         match replace(&mut self.side, Side::Moving) {
             Side::Shard(shard) => match shard.leave() {

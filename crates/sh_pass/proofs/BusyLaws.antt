@@ -182,10 +182,10 @@ pub done : {layout : Layout} {heap : Heap} {n : ℕ} {t u : Seat (Unit {0}) View
 done {n = n} x m by may d = (by, (m, n, may, d.view, d.fits))
 
 -- if a step leaves this body, what is kept matches the body after it
-pub busy_with : {layout : Layout} {heap : Heap} {n bits : ℕ} {t u : Seat (Unit {0}) View} {held : List ℕ} {h : Hand}
-    (x : Action) (m : Move) (held' : List ℕ) (h' : Hand) (b : Body) → IsBusy layout heap t held bits h
+pub busy_with : {layout : Layout} {heap : Heap} {n bits a : ℕ} {t u : Seat (Unit {0}) View} {held : List ℕ} {h : Hand}
+    (x : Action) (m : Move) (held' : List ℕ) (h' : Hand) (b : Body) → IsBusy layout heap t held bits h a
     → Did layout heap x m n t u → (row_by layout t.me.0 m).part n ≡ b
-    → b.hand ≡ h' → b.owned ≡ None → HoldsKept held' b.holds → IsBusy layout heap u held' bits h'
+    → b.hand ≡ h' → b.owned ≡ None → HoldsKept held' b.holds → IsBusy layout heap u held' bits h' a
 busy_with {t = t} {u = u} x m held' h' b p d is begun left kept =
     let body : u.me.0.own.body ≡ b = ap (λ (v : View). v.own.body) d.view ∙ is in record {
       seat = d.seat;
@@ -193,12 +193,13 @@ busy_with {t = t} {u = u} x m held' h' b p d is begun left kept =
       left = ap (λ (q : Body). q.owned) body ∙ left;
       kept = subst (λ (q : Body). HoldsKept held' q.holds) (sym body) kept;
       tally = λ k. p.tally k ∙ sym (ap (λ (v : View). cond (names v k) 1 0) d.view);
+      own_number = p.own_number ∙ sym (ap (λ (v : View). v.pass) d.view);
     }
 
 -- a step that changes only the hand
-pub busy_still : {layout : Layout} {heap : Heap} {n bits : ℕ} {t u : Seat (Unit {0}) View} {held : List ℕ} {h : Hand}
-    (x : Action) (m : Move) (h' : Hand) → IsBusy layout heap t held bits h → Did layout heap x m n t u
-    → (row_by layout t.me.0 m).part n ≡ hand t.me.0.own.body h' → IsBusy layout heap u held bits h'
+pub busy_still : {layout : Layout} {heap : Heap} {n bits a : ℕ} {t u : Seat (Unit {0}) View} {held : List ℕ} {h : Hand}
+    (x : Action) (m : Move) (h' : Hand) → IsBusy layout heap t held bits h a → Did layout heap x m n t u
+    → (row_by layout t.me.0 m).part n ≡ hand t.me.0.own.body h' → IsBusy layout heap u held bits h' a
 busy_still {t = t} {held = held} x m h' p d is = busy_with x m held h' (hand t.me.0.own.body h') p d is refl p.left
     p.kept
 

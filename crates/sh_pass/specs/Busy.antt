@@ -39,11 +39,13 @@ abbrev pub Ends : Caller → Result Caller Caller → Type 0
 Ends v (Ok w) = (v.view.own.body.hand ≡ Idle) × (w ≡ v)
 Ends v (Err w) = (v.view.own.body.hand ≢ Idle) × (w ≡ v)
 
--- a seat that owns no shard, and what is kept of it: its holds, in some order, the bits of its tale, and its hand
-pub record IsBusy (layout : Layout) (heap : Heap) (t : Seat (Unit {0}) View) (held : List ℕ) (bits : ℕ) (begun : Hand) :
-    Type 0 where
+-- a seat that owns no shard, and what is kept of it: its holds, in some order, the bits of its tale, its hand, and its
+-- number
+pub record IsBusy (layout : Layout) (heap : Heap) (t : Seat (Unit {0}) View) (held : List ℕ) (bits : ℕ) (begun : Hand)
+    (number : ℕ) : Type 0 where
   pub seat : IsSeat layout heap t
   pub hand : t.me.0.own.body.hand ≡ begun
   pub left : t.me.0.own.body.owned ≡ None
   pub kept : HoldsKept held t.me.0.own.body.holds
   pub tally : IsTally bits t.me.0
+  pub own_number : number ≡ t.me.0.pass

@@ -52,13 +52,14 @@ pub record MayTouch (v : Caller) (x : PageName) : Type 0 where
   pub owned : (own_body v).owned ≡ Some x.shard
   pub page : x.page < pages_of v.view.shape
 
--- a seat, and what is kept of it: its holds, the bits of its tale, and its shard
+-- a seat, and what is kept of it: its holds, the bits of its tale, its shard, and its number
 pub record IsOwner (layout : Layout) (heap : Heap) (t : Seat (Unit {0}) View) (held : List ℕ) (bits : ℕ)
-    (shard : Option ℕ) : Type 0 where
+    (shard : Option ℕ) (number : ℕ) : Type 0 where
   pub seat : IsSeat layout heap t
   pub owned : t.me.0.own.body.owned ≡ shard
   pub kept : HoldsKept held t.me.0.own.body.holds
   pub tally : IsTally bits t.me.0
+  pub own_number : number ≡ t.me.0.pass
 
 -- ---- what it knows of a page and of its bell
 

@@ -36,7 +36,7 @@ impl<L: KeyLayout, H: KeepsHeap<L>> Model for Busy<L, H> {
     ghost view = { λ b. caller_of b.state.seat };
 
     ghost invariant = { λ b.
-        IsBusy L.layout (H.heap b.heap) b.state.seat b.state.held.items b.state.named b.state.hand };
+        IsBusy L.layout (H.heap b.heap) b.state.seat b.state.held.items b.state.named b.state.hand b.state.number };
 }
 
 impl<L: KeyLayout, H: KeepsHeap<L>> Pass<L, H> {
@@ -49,6 +49,7 @@ impl<L: KeyLayout, H: KeepsHeap<L>> Pass<L, H> {
             seat,
             held,
             named,
+            number,
             layout: _,
         } = state;
         Busy {
@@ -57,6 +58,7 @@ impl<L: KeyLayout, H: KeepsHeap<L>> Pass<L, H> {
                 seat,
                 held,
                 named,
+                number,
                 hand: Hand::Idle,
             },
             layout: PhantomData,
@@ -89,6 +91,7 @@ impl<L: KeyLayout, H: KeepsHeap<L>> Busy<L, H> {
             seat,
             held,
             named,
+            number,
             hand,
         } = state;
         match hand {
@@ -98,6 +101,7 @@ impl<L: KeyLayout, H: KeepsHeap<L>> Busy<L, H> {
                     seat,
                     held,
                     named,
+                    number,
                     layout: PhantomData,
                 },
             }),
@@ -107,6 +111,7 @@ impl<L: KeyLayout, H: KeepsHeap<L>> Busy<L, H> {
                     seat,
                     held,
                     named,
+                    number,
                     hand,
                 },
                 layout: PhantomData,

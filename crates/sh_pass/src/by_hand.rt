@@ -23,6 +23,8 @@ pub(crate) struct BusyState {
     pub(crate) held: ArrayVec<u64, HOLDS_MAX>,
     // A bit for each pass that its tale names.
     pub(crate) named: u64,
+    // Its own number.
+    pub(crate) number: u32,
     // What it has begun.
     pub(crate) hand: Hand,
 }
@@ -30,8 +32,10 @@ pub(crate) struct BusyState {
 impl BusyState {
     // Enters the slot of a key, to get it.
     fn enter_get<L: KeyLayout>(&mut self, table: &HeapTable<L>, key: u64) -> bool
-        requires { IsBusy L.layout table.now self.old.seat self.old.held.items self.old.named self.old.hand }
-        ensures busy { IsBusy L.layout table.now self.new.seat self.new.held.items self.new.named self.new.hand }
+        requires { IsBusy L.layout table.now self.old.seat self.old.held.items self.old.named self.old.hand
+            self.old.number }
+        ensures busy { IsBusy L.layout table.now self.new.seat self.new.held.items self.new.named self.new.hand
+            self.new.number }
         ensures acts { Acts L.layout (action.EnterGet key) self.old.seat.me.0 result self.new.seat.me.0 }
     {
         let Hand::Idle = self.hand else {
@@ -54,8 +58,10 @@ impl BusyState {
 
     // Enters the slot of a key, to remove it.
     fn enter_remove<L: KeyLayout>(&mut self, table: &HeapTable<L>, key: u64) -> bool
-        requires { IsBusy L.layout table.now self.old.seat self.old.held.items self.old.named self.old.hand }
-        ensures busy { IsBusy L.layout table.now self.new.seat self.new.held.items self.new.named self.new.hand }
+        requires { IsBusy L.layout table.now self.old.seat self.old.held.items self.old.named self.old.hand
+            self.old.number }
+        ensures busy { IsBusy L.layout table.now self.new.seat self.new.held.items self.new.named self.new.hand
+            self.new.number }
         ensures acts { Acts L.layout (action.EnterRemove key) self.old.seat.me.0 result self.new.seat.me.0 }
     {
         let Hand::Idle = self.hand else {
@@ -71,8 +77,10 @@ impl BusyState {
 
     // Marks the slot of the key that it removes.
     fn mark<L: KeyLayout>(&mut self, table: &HeapTable<L>) -> bool
-        requires { IsBusy L.layout table.now self.old.seat self.old.held.items self.old.named self.old.hand }
-        ensures busy { IsBusy L.layout table.now self.new.seat self.new.held.items self.new.named self.new.hand }
+        requires { IsBusy L.layout table.now self.old.seat self.old.held.items self.old.named self.old.hand
+            self.old.number }
+        ensures busy { IsBusy L.layout table.now self.new.seat self.new.held.items self.new.named self.new.hand
+            self.new.number }
         ensures acts { Acts L.layout action.Mark self.old.seat.me.0 result self.new.seat.me.0 }
     {
         let Hand::Removing(key) = self.hand else {
@@ -88,8 +96,10 @@ impl BusyState {
 
     // Gives back the count on the slot that it leaves.
     fn drop_count<L: KeyLayout>(&mut self, table: &HeapTable<L>) -> bool
-        requires { IsBusy L.layout table.now self.old.seat self.old.held.items self.old.named self.old.hand }
-        ensures busy { IsBusy L.layout table.now self.new.seat self.new.held.items self.new.named self.new.hand }
+        requires { IsBusy L.layout table.now self.old.seat self.old.held.items self.old.named self.old.hand
+            self.old.number }
+        ensures busy { IsBusy L.layout table.now self.new.seat self.new.held.items self.new.named self.new.hand
+            self.new.number }
         ensures acts { Acts L.layout action.Drop self.old.seat.me.0 result self.new.seat.me.0 }
     {
         let Hand::Leaving(slot_ref) = self.hand else {
@@ -102,8 +112,10 @@ impl BusyState {
 
     // Gives back the count of a hold on a key.
     fn drop_hold<L: KeyLayout>(&mut self, table: &HeapTable<L>, key: u64) -> bool
-        requires { IsBusy L.layout table.now self.old.seat self.old.held.items self.old.named self.old.hand }
-        ensures busy { IsBusy L.layout table.now self.new.seat self.new.held.items self.new.named self.new.hand }
+        requires { IsBusy L.layout table.now self.old.seat self.old.held.items self.old.named self.old.hand
+            self.old.number }
+        ensures busy { IsBusy L.layout table.now self.new.seat self.new.held.items self.new.named self.new.hand
+            self.new.number }
         ensures acts { Acts L.layout (action.DropHold key) self.old.seat.me.0 result self.new.seat.me.0 }
     {
         let Hand::Idle = self.hand else {
@@ -123,8 +135,10 @@ impl BusyState {
 
     // Ends the generation of the slot.
     fn finish<L: KeyLayout>(&mut self, table: &HeapTable<L>) -> bool
-        requires { IsBusy L.layout table.now self.old.seat self.old.held.items self.old.named self.old.hand }
-        ensures busy { IsBusy L.layout table.now self.new.seat self.new.held.items self.new.named self.new.hand }
+        requires { IsBusy L.layout table.now self.old.seat self.old.held.items self.old.named self.old.hand
+            self.old.number }
+        ensures busy { IsBusy L.layout table.now self.new.seat self.new.held.items self.new.named self.new.hand
+            self.new.number }
         ensures acts { Acts L.layout action.Finish self.old.seat.me.0 result self.new.seat.me.0 }
     {
         let Hand::Finishing(slot_ref, generation) = self.hand else {
@@ -141,8 +155,10 @@ impl BusyState {
 
     // Puts the slot in its hand.
     fn put<L: KeyLayout>(&mut self, table: &HeapTable<L>) -> bool
-        requires { IsBusy L.layout table.now self.old.seat self.old.held.items self.old.named self.old.hand }
-        ensures busy { IsBusy L.layout table.now self.new.seat self.new.held.items self.new.named self.new.hand }
+        requires { IsBusy L.layout table.now self.old.seat self.old.held.items self.old.named self.old.hand
+            self.old.number }
+        ensures busy { IsBusy L.layout table.now self.new.seat self.new.held.items self.new.named self.new.hand
+            self.new.number }
         ensures acts { Acts L.layout action.Put self.old.seat.me.0 result self.new.seat.me.0 }
     {
         let Hand::ToPut(slot_ref) = self.hand else {
@@ -155,8 +171,10 @@ impl BusyState {
 
     // Stores the link of the slot that it put.
     fn tie<L: KeyLayout>(&mut self, table: &HeapTable<L>) -> bool
-        requires { IsBusy L.layout table.now self.old.seat self.old.held.items self.old.named self.old.hand }
-        ensures busy { IsBusy L.layout table.now self.new.seat self.new.held.items self.new.named self.new.hand }
+        requires { IsBusy L.layout table.now self.old.seat self.old.held.items self.old.named self.old.hand
+            self.old.number }
+        ensures busy { IsBusy L.layout table.now self.new.seat self.new.held.items self.new.named self.new.hand
+            self.new.number }
         ensures acts { Acts L.layout action.Tie self.old.seat.me.0 result self.new.seat.me.0 }
     {
         let Hand::Tying(slot_ref, link, armed) = self.hand else {
@@ -173,8 +191,10 @@ impl BusyState {
 
     // Puts the page on its shard's bell.
     fn ring<L: KeyLayout>(&mut self, table: &HeapTable<L>) -> bool
-        requires { IsBusy L.layout table.now self.old.seat self.old.held.items self.old.named self.old.hand }
-        ensures busy { IsBusy L.layout table.now self.new.seat self.new.held.items self.new.named self.new.hand }
+        requires { IsBusy L.layout table.now self.old.seat self.old.held.items self.old.named self.old.hand
+            self.old.number }
+        ensures busy { IsBusy L.layout table.now self.new.seat self.new.held.items self.new.named self.new.hand
+            self.new.number }
         ensures acts { Acts L.layout action.Ring self.old.seat.me.0 result self.new.seat.me.0 }
     {
         let Hand::Ringing(page) = self.hand else {
@@ -187,8 +207,10 @@ impl BusyState {
 
     // Stores the link of the page that it put.
     fn ring_tie<L: KeyLayout>(&mut self, table: &HeapTable<L>) -> bool
-        requires { IsBusy L.layout table.now self.old.seat self.old.held.items self.old.named self.old.hand }
-        ensures busy { IsBusy L.layout table.now self.new.seat self.new.held.items self.new.named self.new.hand }
+        requires { IsBusy L.layout table.now self.old.seat self.old.held.items self.old.named self.old.hand
+            self.old.number }
+        ensures busy { IsBusy L.layout table.now self.new.seat self.new.held.items self.new.named self.new.hand
+            self.new.number }
         ensures acts { Acts L.layout action.RingTie self.old.seat.me.0 result self.new.seat.me.0 }
     {
         let Hand::RingTying(page, link) = self.hand else {
@@ -201,8 +223,10 @@ impl BusyState {
 
     /// Does the step of the action if it is one of these and its condition holds. Returns whether it did.
     pub(crate) fn act<L: KeyLayout>(&mut self, table: &HeapTable<L>, action: &Action) -> bool
-        requires { IsBusy L.layout table.now self.old.seat self.old.held.items self.old.named self.old.hand }
-        ensures busy { IsBusy L.layout table.now self.new.seat self.new.held.items self.new.named self.new.hand }
+        requires { IsBusy L.layout table.now self.old.seat self.old.held.items self.old.named self.old.hand
+            self.old.number }
+        ensures busy { IsBusy L.layout table.now self.new.seat self.new.held.items self.new.named self.new.hand
+            self.new.number }
         ensures acts { Acts L.layout action.now self.old.seat.me.0 result self.new.seat.me.0 }
     {
         match action {

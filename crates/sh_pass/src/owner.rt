@@ -34,6 +34,8 @@ pub struct Owner<L: KeyLayout, H: KeepsHeap<L>> {
     pub(crate) held: ArrayVec<u64, HOLDS_MAX>,
     // A bit for each pass that its tale names.
     pub(crate) named: u64,
+    // Its own number.
+    pub(crate) number: u32,
     // The shard that it owns.
     pub(crate) owned: Option<u64>,
     pub(crate) layout: PhantomData<L>,
@@ -47,7 +49,7 @@ impl<L: KeyLayout, H: KeepsHeap<L>> Model for Owner<L, H> {
 
     ghost view = { λ o. caller_of o.seat };
 
-    ghost invariant = { λ o. IsOwner L.layout (H.heap o.heap) o.seat o.held.items o.named o.owned };
+    ghost invariant = { λ o. IsOwner L.layout (H.heap o.heap) o.seat o.held.items o.named o.owned o.number };
 }
 
 impl<L: KeyLayout, H: KeepsHeap<L>> Owner<L, H> {
@@ -63,6 +65,7 @@ impl<L: KeyLayout, H: KeepsHeap<L>> Owner<L, H> {
             seat,
             held,
             named,
+            number,
             layout: _,
         } = state;
         Owner {
@@ -70,6 +73,7 @@ impl<L: KeyLayout, H: KeepsHeap<L>> Owner<L, H> {
             seat,
             held,
             named,
+            number,
             owned: None,
             layout: PhantomData,
         }
@@ -86,6 +90,7 @@ impl<L: KeyLayout, H: KeepsHeap<L>> Owner<L, H> {
             seat,
             held,
             named,
+            number,
             owned: _,
             layout: _,
         } = self;
@@ -95,6 +100,7 @@ impl<L: KeyLayout, H: KeepsHeap<L>> Owner<L, H> {
                 seat,
                 held,
                 named,
+                number,
                 layout: PhantomData,
             },
         }

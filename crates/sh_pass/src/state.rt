@@ -26,6 +26,8 @@ pub struct PassState<L: KeyLayout> {
     pub(crate) held: ArrayVec<u64, HOLDS_MAX>,
     // A bit for each pass that its tale names.
     pub(crate) named: u64,
+    // Its own number.
+    pub(crate) number: u32,
     pub(crate) layout: PhantomData<L>,
 }
 
@@ -36,7 +38,7 @@ impl<L: KeyLayout> Model for PassState<L> {
 
     ghost view = { λ s. caller_of s.seat };
 
-    ghost invariant = { λ s. IsPass L.layout s.seat s.held.items s.named };
+    ghost invariant = { λ s. IsPass L.layout s.seat s.held.items s.named s.number };
 }
 
 impl<L: KeyLayout> PassState<L> {
@@ -51,6 +53,13 @@ impl<L: KeyLayout> PassState<L> {
         // What holds of every pass holds of this one.
         let _known = &self.held;
         heap.table.shape()
+    }
+
+    /// Its number among the passes of its heap, from 0.
+    pub fn number(&self) -> u32
+        ensures { result ≡ self.now.view.pass }
+    {
+        self.number
     }
 
     /// Takes a hold on a key, so that its value stays readable. Refused as `BadKey`, `HoldsFull`, `Gone` or `Crowded`,

@@ -1,8 +1,8 @@
 //! Pools: heaps with pool slots for their passes.
 ghost use Rattle.std.specs.Prelude.{◌≡◌, ◌<◌, IfErr, IfOk, IfSome, MatchResult, OnOk, length};
 ghost use Rattle.sh_value.specs.declared.refusal.Refusal.TheVariants.{Memory};
-ghost use Rattle.sh_pass.specs.Passes.{AreOf, IsAtRest};
-ghost use Rattle.sh_pool.specs.PoolSlots.{ArePoolSlots, OpensPool};
+ghost use Rattle.sh_pass.specs.Passes.{IsAtRest};
+ghost use Rattle.sh_pool.specs.PoolSlots.{AreLast, ArePoolSlots, OpensPool};
 
 use crate::pool_slot::{PoolSlot, PoolSlotCell, Taken, give_to, pool_slot_cell, take_from};
 use sh_key::KeyLayout;
@@ -32,14 +32,14 @@ impl<L: KeyLayout> Model for Pool<L> {
     ghost invariant = { λ p. ArePoolSlots p.heap p.pool_slots.items };
 }
 
-// All passes of a new heap.
+// All passes of a new heap, in order.
 fn all_states<L: KeyLayout>(
     alloc: Global,
     heap: &Heap<L>,
     seats: Seats<L>,
 ) -> Result<Vec<PassState<L>>, Refusal>
     requires { seats ≡ heap.now }
-    ensures of { IfOk result (λ states. AreOf heap.now states.items) }
+    ensures last { IfOk result (λ states. AreLast heap.now heap.now.shape.passes states.items) }
     ensures count { IfOk result (λ states. length states.items ≡ heap.now.shape.passes) }
     ensures err { IfErr result (λ why. why ≡ Memory) }
 {
@@ -49,34 +49,38 @@ fn all_states<L: KeyLayout>(
     }
 }
 
-// A pool slot for each of these passes of a heap, with the pass in it.
+// A pool slot for each of these passes of a heap, with the pass in it. The heap comes back.
+#[tactic(auto, using(crate::proofs::Homes::homes_more))]
 fn pool_slots_for<L: KeyLayout>(
     alloc: Global,
-    heap: &Heap<L>,
+    heap: Heap<L>,
     states: Vec<PassState<L>>,
-) -> Result<Vec<PoolSlotCell<L>>, Refusal>
-    requires of { AreOf heap.now states.items }
-    requires count { length states.items ≡ heap.now.shape.passes }
-    ensures { MatchResult result (λ pool_slots. ArePoolSlots heap.now pool_slots.items) (λ why. why ≡ Memory) }
+) -> Result<(Heap<L>, Vec<PoolSlotCell<L>>), Refusal>
+    requires last { AreLast heap heap.shape.passes states.items }
+    requires count { length states.items ≡ heap.shape.passes }
+    ensures { MatchResult result (λ r. (r.0 ≡ heap) × ArePoolSlots heap r.1.items) (λ why. why ≡ Memory) }
 {
     let Ok(mut pool_slots) = Vec::with_capacity(alloc, states.len()) else {
         return Err(Refusal::Memory);
     };
+    let mut home = (heap, 0);
     for state in states {
-        pool_slots.push_reserved(pool_slot_cell(alloc, heap, state)?);
+        home.1 = pool_slots.len();
+        pool_slots.push_reserved(pool_slot_cell(alloc, &home, state)?);
     }
-    Ok(pool_slots)
+    let (heap, _) = home;
+    Ok((heap, pool_slots))
 }
 
 impl<L: KeyLayout> Pool<L> {
-    /// A pool of a new heap of this shape, with each pass in its pool slot. Refused as `BadShape` exactly if the shape
+    /// A pool of a new heap of this shape, with pass n in pool slot n. Refused as `BadShape` exactly if the shape
     /// does not fit the layout, and as `Memory` if memory is refused.
     pub fn open(alloc: Global, shape: Shape) -> Result<Pool<L>, Refusal>
         ensures { OpensPool L.layout shape result }
     {
         let (heap, seats) = Heap::<L>::open(alloc, shape)?;
         let states = all_states(alloc, &heap, seats)?;
-        let pool_slots = pool_slots_for(alloc, &heap, states)?;
+        let (heap, pool_slots) = pool_slots_for(alloc, heap, states)?;
         Ok(Pool { heap, pool_slots })
     }
 
@@ -87,6 +91,13 @@ impl<L: KeyLayout> Pool<L> {
         &self.heap
     }
 
+    /// The shape of the heap.
+    pub fn shape(&self) -> &Shape
+        ensures { result.now ≡ self.now.shape }
+    {
+        self.heap.shape()
+    }
+
     /// The number of pool slots: one for each pass, taken or not.
     pub fn pool_slots(&self) -> usize
         ensures { result ≡ self.now.shape.passes }
@@ -94,14 +105,24 @@ impl<L: KeyLayout> Pool<L> {
         self.pool_slots.len()
     }
 
-    /// Takes the pass of the pool slot of this number: it has begun nothing, and owns no shard. `None` if the pool slot
-    /// is empty, or if there is no such pool slot.
+    // The pool slot of this number. `None` if there is none.
+    #[tactic(auto, using(crate::proofs::Homes::cell_is))]
+    fn cell_at(&self, number: usize) -> Option<&PoolSlotCell<L>>
+        ensures is { IfSome result (λ cell. cell.now ≡ (self.now, number)) }
+        ensures below { IfSome result (λ _. number < self.now.shape.passes) }
+    {
+        self.pool_slots.get(number)
+    }
+
+    /// Takes the pass of this number out of its pool slot: it has begun nothing, and owns no shard. `None` if the pool
+    /// slot is empty, or if there is no such pool slot.
     pub fn take_at(&self, number: usize) -> Option<Taken<L>>
         ensures heap { IfSome result (λ taken. taken.state.heap ≡ self.now) }
+        ensures pass { IfSome result (λ taken. taken.state.view.pass ≡ number) }
         ensures rest { IfSome result (λ taken. IsAtRest taken.state) }
         ensures pool_slot { IfSome result (λ taken. (taken.pool_slot ≡ number) × (number < self.now.shape.passes)) }
     {
-        let taken = take_from(self.pool_slots.get(number)?, number)?;
+        let taken = take_from(self.cell_at(number)?, number)?;
         // What holds for every pass holds for this one.
         let _known = taken.state.shape(&self.heap);
         Some(taken)
@@ -111,6 +132,7 @@ impl<L: KeyLayout> Pool<L> {
     /// empty.
     pub fn take(&self) -> Option<Taken<L>>
         ensures heap { IfSome result (λ taken. taken.state.heap ≡ self.now) }
+        ensures pass { IfSome result (λ taken. taken.state.view.pass ≡ taken.pool_slot) }
         ensures rest { IfSome result (λ taken. IsAtRest taken.state) }
         ensures pool_slot { IfSome result (λ taken. taken.pool_slot < self.now.shape.passes) }
     {
@@ -122,18 +144,23 @@ impl<L: KeyLayout> Pool<L> {
         None
     }
 
-    /// Gives a pass of the heap back to its pool slot. Refused if that pool slot has a pass, or if there is no such
-    /// pool slot: then both are returned as they were. Neither is so for a pool slot that was taken from this pool.
+    /// Gives a pass of the heap back to its pool slot. Refused if the pool slot is for another pass, if it has a pass,
+    /// or if there is no such pool slot. Then both are returned as they were. None of this is so for a pass and a pool
+    /// slot that were taken from this pool together.
     pub fn give(
         &self,
         state: PassState<L>,
         pool_slot: PoolSlot<L>,
     ) -> Result<(), (PassState<L>, PoolSlot<L>)>
         requires { state.heap ≡ self.now }
-        ensures ok { OnOk result (pool_slot < self.now.shape.passes) }
+        ensures ok { OnOk result ((state.view.pass ≡ pool_slot) × (pool_slot < self.now.shape.passes)) }
         ensures err { IfErr result (λ back. (back.0 ≡ state) × (back.1 ≡ pool_slot)) }
     {
-        match self.pool_slots.get(pool_slot.number()) {
+        let number = pool_slot.number();
+        if state.number() as usize != number {
+            return Err((state, pool_slot));
+        }
+        match self.cell_at(number) {
             Some(cell) => give_to(cell, state, pool_slot),
             None => Err((state, pool_slot)),
         }

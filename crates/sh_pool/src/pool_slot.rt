@@ -26,11 +26,11 @@ pub struct Resting<L: KeyLayout> {
 }
 
 impl<L: KeyLayout> Fits for Resting<L> {
-    type Tag = Heap<L>;
+    type Tag = (Heap<L>, usize);
 
     ghost use Rattle.sh_pool.specs.PoolSlots.{RestsOf};
 
-    ghost fits = { λ heap r. RestsOf heap r.boxed.value };
+    ghost fits = { λ home r. RestsOf home r.boxed.value };
 }
 
 impl<L: KeyLayout> Resting<L> {
@@ -64,7 +64,7 @@ impl<L: KeyLayout> Drop for Resting<L> {
     }
 }
 
-// The place of one pass, with the pass or empty. A contract sees the heap whose passes it is for.
+// The place of one pass, with the pass or empty. A contract sees the heap and the number of the pass that it is for.
 pub(crate) type PoolSlotCell<L> = Counted<Option<Resting<L>>>;
 
 /// The pool slot of a pass that was taken: its number, and the box that the pass was in. `Pool::give` needs it.
@@ -127,24 +127,26 @@ impl<L: KeyLayout> Taken<L> {
     }
 }
 
-// A pool slot that has this pass.
+// A pool slot that has this pass, and is for it.
 pub(crate) fn pool_slot_cell<L: KeyLayout>(
     alloc: Global,
-    heap: &Heap<L>,
+    home: &(Heap<L>, usize),
     state: PassState<L>,
 ) -> Result<PoolSlotCell<L>, Refusal>
-    requires { state.heap ≡ heap.now }
-    ensures { MatchResult result (λ cell. cell ≡ heap.now) (λ why. why ≡ Memory) }
+    requires heap { state.heap ≡ home.now.0 }
+    requires number { state.view.pass ≡ home.now.1 }
+    ensures { MatchResult result (λ cell. cell ≡ home.now) (λ why. why ≡ Memory) }
 {
     let Ok(full) = Box::new(alloc, Some(state)) else {
         return Err(Refusal::Memory);
     };
-    Ok(Counted::new(Some(Resting::of(full)), heap))
+    Ok(Counted::new(Some(Resting::of(full)), home))
 }
 
 // Takes the pass of this pool slot, if it is there. The number is the pool slot's.
 pub(crate) fn take_from<L: KeyLayout>(cell: &PoolSlotCell<L>, number: usize) -> Option<Taken<L>>
-    ensures { IfSome result (λ taken. (taken.state.heap ≡ cell.now) × (taken.pool_slot ≡ number)) }
+    ensures { IfSome result (λ taken. (taken.state.heap ≡ cell.now.0) × (taken.state.view.pass ≡ cell.now.1)
+        × (taken.pool_slot ≡ number)) }
 {
     let (found, claim) = cell.turn(POOLED, TAKEN);
     if found != POOLED {
@@ -156,13 +158,14 @@ pub(crate) fn take_from<L: KeyLayout>(cell: &PoolSlotCell<L>, number: usize) -> 
     Some(Taken { state, pool_slot })
 }
 
-// Gives a pass of the heap back to this pool slot, if it is empty.
+// Gives the pass of this pool slot back, if the pool slot is empty.
 pub(crate) fn give_to<L: KeyLayout>(
     cell: &PoolSlotCell<L>,
     state: PassState<L>,
     pool_slot: PoolSlot<L>,
 ) -> Result<(), (PassState<L>, PoolSlot<L>)>
-    requires { state.heap ≡ cell.now }
+    requires heap { state.heap ≡ cell.now.0 }
+    requires number { state.view.pass ≡ cell.now.1 }
     ensures { IfErr result (λ back. (back.0 ≡ state) × (back.1 ≡ pool_slot)) }
 {
     let (found, claim) = cell.turn(CHECKED_OUT, TAKEN);

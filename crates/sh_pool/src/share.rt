@@ -70,6 +70,7 @@ impl<L: KeyLayout> KeepsHeap<L> for Share<L> {
 /// shares can be counted.
 pub fn take_pass<L: KeyLayout>(share: &Share<L>) -> Option<(Pass<L, Share<L>>, PoolSlot<L>)>
     ensures heap { IfSome result (λ taken. taken.0.heap ≡ share.now) }
+    ensures pass { IfSome result (λ taken. taken.0.view.pass ≡ taken.1) }
     ensures rest { IfSome result (λ taken. IsAtRest taken.0) }
     ensures pool_slot { IfSome result (λ taken. taken.1 < share.now.shape.passes) }
 {
@@ -78,13 +79,14 @@ pub fn take_pass<L: KeyLayout>(share: &Share<L>) -> Option<(Pass<L, Share<L>>, P
     Some((Pass::on(kept, state), pool_slot))
 }
 
-/// Gives a pass back to its pool slot, and drops its share. Refused if that pool slot has a pass, or if there is no
-/// such pool slot: then both are returned as they were. Neither is so for a pool slot that was taken from this pool.
+/// Gives a pass back to its pool slot, and drops its share. Refused if the pool slot is for another pass, if it has a
+/// pass, or if there is no such pool slot. Then both are returned as they were. None of this is so for a pass and a
+/// pool slot that were taken together.
 pub fn give_pass<L: KeyLayout>(
     pass: Pass<L, Share<L>>,
     pool_slot: PoolSlot<L>,
 ) -> Result<(), (Pass<L, Share<L>>, PoolSlot<L>)>
-    ensures ok { OnOk result (pool_slot < pass.heap.shape.passes) }
+    ensures ok { OnOk result ((pass.view.pass ≡ pool_slot) × (pool_slot < pass.heap.shape.passes)) }
     ensures err { IfErr result (λ back. (back.0 ≡ pass) × (back.1 ≡ pool_slot)) }
 {
     let (share, state) = pass.into_parts();

@@ -9,7 +9,7 @@ ghost use Rattle.script_heap.specs.HeapOutput.{IsRan, IsHeapRun};
 ghost use Rattle.script_output.specs.Ends.{IsEndFault};
 ghost use Rattle.script_output.specs.Faults.{IsScriptOf, IsFaultOf};
 
-use script_heap::heap_lines::{Ran, gathered, holders, opened};
+use script_heap::heap_lines::{Ran, gathered, members, opened};
 use script_output::Mode;
 use script_workers::gate::Gate;
 use script_workers::threads::threads_lines;
@@ -43,7 +43,7 @@ fn lines_on<L: KeyLayout + Send + Sync, R: Threads + Wait + Sync, G: Gate + Sync
     ensures told { IfOk result (λ r. IsRan false L.layout at.0.shape at.1 at.2 asked r.output.items r.is_waiting) }
     ensures fault { IfErr result IsEndFault }
 {
-    let sides = holders(alloc, heap, seats)?;
+    let sides = members(alloc, heap, seats)?;
     let (output, carrier) = threads_lines(rt, alloc, lines, tag, sides, gate)?;
     gathered(output, carrier, asked)
 }

@@ -13,3 +13,4 @@ pub mod Finding
 pub mod Searches
 pub mod Returning
 pub mod Stores
+pub mod QuietShards

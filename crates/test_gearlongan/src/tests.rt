@@ -3,6 +3,7 @@ ghost use Rattle.std.specs.Prelude.{◌≡◌};
 
 mod filling;
 mod gathering;
+mod growing;
 mod hearing;
 mod owning;
 mod reading;

@@ -2,7 +2,7 @@
 //!
 //! No clause says which chunk an insert goes to, or that what others freed is used before a chunk is opened. Nor does
 //! one say that a number is claimed again, or that two threads get one chunk.
-use sh_grown::{Caller, GrowingShare};
+use sh_grown::{Caller, Growing, GrowingShare, NotTold};
 use sh_value::{Refusal, Value};
 use std::alloc::Global;
 use std::fmt::Debug;
@@ -115,6 +115,23 @@ fn a_heap_whose_chunks_are_full_is_full(rt: HostRuntime) {
 }
 
 #[test]
+fn chunks_are_opened_ahead(rt: HostRuntime) {
+    let growing = GrowingShare::open(rt.alloc(), 1, 3).expect(&rt, "a heap");
+    agree(&rt, growing.heap().open_ahead(rt.alloc()), Ok(1));
+    agree(&rt, growing.heap().open_ahead(rt.alloc()), Ok(2));
+    agree(&rt, growing.heap().chunks(), 3);
+    agree(
+        &rt,
+        growing.heap().open_ahead(rt.alloc()),
+        Err(Refusal::Full),
+    );
+    let mut caller = growing.claim(rt.alloc()).expect(&rt, "a caller");
+    let keys = stored(&rt, rt.alloc(), &mut caller, 0, THREE);
+    agree(&rt, growing.heap().chunks(), 3);
+    has_all(&rt, &mut caller, &keys, 0);
+}
+
+#[test]
 fn holds_count_in_each_chunk(rt: HostRuntime) {
     let growing = GrowingShare::open(rt.alloc(), 2, 3).expect(&rt, "a heap");
     let mut caller = growing.claim(rt.alloc()).expect(&rt, "a caller");
@@ -136,6 +153,26 @@ fn holds_count_in_each_chunk(rt: HostRuntime) {
         agree(&rt, other.release(hold), Ok(()));
     }
     agree(&rt, other.release(hold), Err(Refusal::NotHeld));
+}
+
+// The last key is of chunk 1.
+#[test]
+fn a_guard_serves_as_the_hold_of_its_key(rt: HostRuntime) {
+    let growing = GrowingShare::open(rt.alloc(), 2, 3).expect(&rt, "a heap");
+    let mut caller = growing.claim(rt.alloc()).expect(&rt, "a caller");
+    let mut other = growing.claim(rt.alloc()).expect(&rt, "another caller");
+    let keys = stored(&rt, rt.alloc(), &mut caller, 0, FIRST + 1);
+    let Some(key) = keys.last() else {
+        return;
+    };
+    let guard = other.get_guard(*key).expect(&rt, "a guard");
+    agree(&rt, caller.remove(*key), Ok(()));
+    let mut value = Value::from(0);
+    agree(&rt, other.read_guard(&guard, &mut value), Ok(()));
+    agree(&rt, value, Value::from(FIRST));
+    agree(&rt, other.read(guard.hold()), Ok(Value::from(FIRST)));
+    agree(&rt, other.release_guard(guard), Ok(()));
+    agree(&rt, other.get_guard(*key).err(), Some(Refusal::Gone));
 }
 
 #[test]
@@ -182,6 +219,48 @@ fn a_collect_is_in_each_chunk(rt: HostRuntime) {
     let more = stored(&rt, rt.alloc(), &mut caller, 5000, THREE / 3);
     agree(&rt, growing.heap().chunks(), 3);
     has_all(&rt, &mut other, &more, 5000);
+}
+
+// How many values a chunk that was gathered has.
+fn live_in(growing: &Growing, number: usize) -> Option<u32> {
+    match growing.chunk(number)?.totals() {
+        Ok(sums) => Some(sums.live),
+        Err(_) => None,
+    }
+}
+
+// The chunks are gathered once no caller is claimed.
+#[test]
+fn chunks_are_gathered_and_counted(rt: HostRuntime) {
+    let growing = GrowingShare::open(rt.alloc(), 2, 3).expect(&rt, "a heap");
+    let mut caller = growing.claim(rt.alloc()).expect(&rt, "a caller");
+    let keys = stored(&rt, rt.alloc(), &mut caller, 0, FIRST + 1);
+    agree(&rt, growing.heap().gather(rt.alloc()), Err(NotTold::Away));
+    agree(&rt, caller.end().is_ok(), true);
+    agree(&rt, live_in(growing.heap(), 0), None);
+    agree(&rt, growing.heap().gather(rt.alloc()), Ok(()));
+    agree(&rt, live_in(growing.heap(), 0), Some(768));
+    agree(&rt, live_in(growing.heap(), 1), Some(1));
+    agree(&rt, growing.heap().chunk(2).is_none(), true);
+    // The joined passes are the last of each chunk.
+    let mut again = growing.claim(rt.alloc()).expect(&rt, "a caller again");
+    agree(&rt, again.number(), 1);
+    has_all(&rt, &mut again, &keys, 0);
+}
+
+// Chunk 1 has one shard of 8 pages, of which the first one has a value.
+#[test]
+fn a_page_of_a_chunk_is_counted(rt: HostRuntime) {
+    let growing = GrowingShare::open(rt.alloc(), 1, 2).expect(&rt, "a heap");
+    let mut caller = growing.claim(rt.alloc()).expect(&rt, "a caller");
+    let _keys = stored(&rt, rt.alloc(), &mut caller, 0, FIRST + 1);
+    agree(&rt, caller.end().is_ok(), true);
+    let Some(chunk) = growing.heap().chunk(1) else {
+        return;
+    };
+    agree(&rt, chunk.shape().shards(), 1);
+    agree(&rt, chunk.accounts(0, 0).map(|page| page.live), Ok(1));
+    agree(&rt, chunk.accounts(1, 0).err(), Some(NotTold::NoPage));
 }
 
 #[test]

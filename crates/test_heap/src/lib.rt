@@ -1,10 +1,12 @@
-//! Tests of heaps and passes, of passes that meet, and of pools.
+//! Tests of heaps, passes and members, of passes that meet, and of pools.
 #![tactic(auto)]
 
 #[cfg(test)]
 mod assertions;
 #[cfg(test)]
 mod gather;
+#[cfg(test)]
+mod members;
 #[cfg(test)]
 mod pass;
 #[cfg(test)]

@@ -113,9 +113,24 @@ fn a_pass_that_is_lost_stays_away(rt: HostRuntime) {
     holds(&rt, is_away(&pool, 0));
 }
 
-// Gives a pass back with a pool slot of another pool, which is refused. Returns the pass and the number of that pool
-// slot. The pool slot is lost.
+// Gives a pass back with the pool slot of another pass, which is refused.
 fn refused(
+    rt: &impl Abort,
+    pool: &Pool<Tiny>,
+    state: PassState<Tiny>,
+    pool_slot: PoolSlot<Tiny>,
+) -> (PassState<Tiny>, PoolSlot<Tiny>)
+    requires { state.heap ≡ pool.now }
+    ensures { result.0.heap ≡ pool.now }
+{
+    match pool.give(state, pool_slot) {
+        Ok(()) => panic!(rt; "the pool slot of another pass serves"),
+        Err(back) => back,
+    }
+}
+
+// The same with a pool slot of another pool, which is lost. Returns the pass and the number of that pool slot.
+fn refused_there(
     rt: &impl Abort,
     pool: &Pool<Tiny>,
     state: PassState<Tiny>,
@@ -124,17 +139,53 @@ fn refused(
     requires { state.heap ≡ pool.now }
     ensures { result.0.heap ≡ pool.now }
 {
-    match pool.give(state, pool_slot) {
-        Ok(()) => panic!(rt; "a pool_slot of another pool serves"),
-        Err((state, pool_slot)) => {
-            let number = pool_slot.number();
-            pool_slot.lose();
-            (state, number)
-        }
-    }
+    let (state, pool_slot) = refused(rt, pool, state, pool_slot);
+    let number = pool_slot.number();
+    pool_slot.lose();
+    (state, number)
 }
 
-// The pool slots of another pool: the first one has its pass in this pool, and the third one's number is too large.
+// Both pool slots are empty, and each takes its own pass alone.
+#[test]
+fn a_pass_comes_home_to_its_own_pool_slot_alone(rt: HostRuntime) {
+    let pool = opened(&rt, rt.alloc(), 2);
+    let Taken {
+        state: one,
+        pool_slot: first,
+    } = taken_at(&rt, &pool, 0);
+    let Taken {
+        state: other,
+        pool_slot: second,
+    } = taken_at(&rt, &pool, 1);
+    agree(&rt, (one.number(), other.number()), (0, 1));
+    let (one, second) = refused(&rt, &pool, one, second);
+    let (other, first) = refused(&rt, &pool, other, first);
+    holds(&rt, all_are_away(&pool));
+    holds(
+        &rt,
+        comes_home(
+            &pool,
+            Taken {
+                state: one,
+                pool_slot: first,
+            },
+        ),
+    );
+    holds(
+        &rt,
+        comes_home(
+            &pool,
+            Taken {
+                state: other,
+                pool_slot: second,
+            },
+        ),
+    );
+    holds(&rt, !is_away(&pool, 0));
+    holds(&rt, !is_away(&pool, 1));
+}
+
+// The pool slots of another pool, neither of which is for pass 1. The third one's number is too large.
 #[test]
 fn a_pool_slot_of_another_pool_is_refused(rt: HostRuntime) {
     let pool = opened(&rt, rt.alloc(), 2);
@@ -148,8 +199,8 @@ fn a_pool_slot_of_another_pool_is_refused(rt: HostRuntime) {
         pool_slot: third,
     } = taken_at(&rt, &larger, 2);
     let Taken { state, pool_slot } = taken_at(&rt, &pool, 1);
-    let (state, first) = refused(&rt, &pool, state, first);
-    let (state, third) = refused(&rt, &pool, state, third);
+    let (state, first) = refused_there(&rt, &pool, state, first);
+    let (state, third) = refused_there(&rt, &pool, state, third);
     agree(&rt, (first, third), (0, 2));
     holds(&rt, comes_home(&pool, Taken { state, pool_slot }));
     holds(&rt, !is_away(&pool, 1));

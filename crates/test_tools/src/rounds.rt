@@ -1,9 +1,12 @@
 //! Tests of the rounds of the stress program, on heaps that are right or have one defect: what a round finds, what a
 //! run reports, and what history it leaves.
+mod callers;
 mod defect;
+mod growing;
 mod heaps;
 mod model;
 mod passes;
+mod plans;
 mod runs;
 
 use crate::assertions::{agree, holds};
@@ -35,6 +38,7 @@ fn round_by<R: Threads + Wait + Sync>(
         passes,
         shards: 1,
         segments: 1,
+        chunks: 1,
         steps,
     };
     played(rt, alloc, &plan, defect, dice)
@@ -164,13 +168,13 @@ fn crowded_without_a_holder_is_found(rt: HostRuntime) {
 #[test]
 fn wrong_sums_are_found(rt: HostRuntime) {
     let fault = found(&rt, rt.alloc(), Defect::WrongSums);
-    agree(&rt, fault, Some(Fault::Wrong(Wrong::Accounts(0, 0))));
+    agree(&rt, fault, Some(Fault::Wrong(Wrong::Accounts(0, 0, 0))));
 }
 
 #[test]
 fn room_in_a_full_shard_is_found(rt: HostRuntime) {
     let fault = found(&rt, rt.alloc(), Defect::FullEarly);
-    agree(&rt, fault, Some(Fault::Wrong(Wrong::Room(0, 7))));
+    agree(&rt, fault, Some(Fault::Wrong(Wrong::Room(0, 0, 7))));
 }
 
 #[test]
@@ -219,7 +223,7 @@ fn a_fetch_that_keeps_its_hold_is_found(rt: HostRuntime) {
     let fault = found(&rt, rt.alloc(), Defect::FetchKeepsHold);
     holds(
         &rt,
-        matches!(fault, Some(Fault::Wrong(Wrong::Accounts(0, _)))),
+        matches!(fault, Some(Fault::Wrong(Wrong::Accounts(0, 0, _)))),
     );
 }
 
@@ -230,7 +234,7 @@ fn room_that_is_found_by_an_adoption_alone_is_found(rt: HostRuntime) {
     let mut rooms = 0u32;
     for _ in 0..200u32 {
         let outcome = round_by(&rt, rt.alloc(), Defect::LostRing, 3, 300, &mut dice);
-        if matches!(outcome.counts, Err(Fault::Wrong(Wrong::Room(0, _)))) {
+        if matches!(outcome.counts, Err(Fault::Wrong(Wrong::Room(0, 0, _)))) {
             rooms = rooms.saturating_add(1);
         }
     }

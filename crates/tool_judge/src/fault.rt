@@ -53,12 +53,12 @@ pub enum Wrong {
     /// Not all passes are joined.
     #[error("not all passes met")]
     Apart,
-    /// A page has a slot left or is blank, though an insert in its shard was refused as full.
-    #[error("page {0}.{1} has room in a shard that was full")]
-    Room(u32, u32),
-    /// The accounts of a page are not those that follow from the answers.
-    #[error("the accounts of page {0}.{1} are wrong")]
-    Accounts(u32, u32),
+    /// A page of a chunk and shard has a slot left or is blank, though an insert in its shard was refused as full.
+    #[error("page {1}.{2} of chunk {0} has room in a shard that was full")]
+    Room(u32, u32, u32),
+    /// The accounts of a page of a chunk and shard are not those that follow from the answers.
+    #[error("the accounts of page {1}.{2} of chunk {0} are wrong")]
+    Accounts(u32, u32, u32),
 }
 
 /// Why a round ended early.

@@ -23,7 +23,7 @@ pub struct PageTally {
     pub retired: u64,
 }
 
-/// The tallies of all pages of a heap.
+/// The tallies of all pages of a heap, or of a chunk of a heap that grows.
 #[derive(Drop)]
 pub struct Tally {
     pages: Vec<PageTally>,
@@ -59,20 +59,26 @@ impl Tally {
             .saturating_add(u64::from(page)) as usize
     }
 
-    /// Counts the slot of a key, by the history of the key.
-    pub fn add<L: KeyLayout>(&mut self, key: u64, history: &[Entry]) -> Result<(), Fault>
+    /// Counts the slot of a key, by the history of the key. The layout's key in the chunk is `within`: the key itself,
+    /// if the heap does not grow.
+    pub fn add<L: KeyLayout>(
+        &mut self,
+        key: u64,
+        within: u64,
+        history: &[Entry],
+    ) -> Result<(), Fault>
         // A key that was not inserted has no slot.
         ensures not_issued { value_of history.now key ≡ None → self.new ≡ self.old }
         ensures issued { OnOk result
-            (IsSome (value_of history.now key) → CountsSlot L.layout self.old self.new key history.now) }
+            (IsSome (value_of history.now key) → CountsSlot L.layout self.old self.new key within history.now) }
         ensures err { OnErr result (self.new ≡ self.old) }
         ensures why { IfErr result (λ fault. (fault ≡ Fault.Wrong (Wrong.NoKey key))
-            × NamesNoPage L.layout self.old key history.now) }
+            × NamesNoPage L.layout self.old key within history.now) }
     {
         if value_of(history, key).is_none() {
             return Ok(());
         }
-        let Some(parts) = L::unpack(key) else {
+        let Some(parts) = L::unpack(within) else {
             return Err(Fault::Wrong(Wrong::NoKey(key)));
         };
         let place = self.place(parts.shard, parts.page);

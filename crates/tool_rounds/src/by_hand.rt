@@ -12,16 +12,19 @@ use tool_judge::fault::Call;
 use tool_judge::line::{Span, Told};
 use tool_judge::record::Record;
 
-/// Begins a get, a release or a removal by hand.
+/// Begins a get, a release or a removal by hand, if the heap's calls can be made by hand.
 pub fn begin<R: Wait, C: Drop, P: LonePass<Receipt = C>>(
     mut lone: P,
     record: &mut Record,
     board: &Board<'_, R, C>,
     dice: &mut Dice,
 ) -> Actor<P> {
-    record.counts.one(Count::Begun);
     let key = board.look(&mut lone, dice.word());
-    let stopped = lone.begin();
+    let stopped = match lone.begin() {
+        Ok(stopped) => stopped,
+        Err(lone) => return Actor::Lone(lone),
+    };
+    record.counts.one(Count::Begun);
     let moments = &board.moments;
     match (dice.below(8), key) {
         (0, Some(key)) => get::<P>(stopped, record, moments, key),

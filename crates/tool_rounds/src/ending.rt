@@ -5,9 +5,10 @@
 ghost use Rattle.std.specs.Prelude.{◌≤◌};
 
 use crate::history::History;
-use crate::judging;
+use crate::judging::Judge;
 use crate::moments::Moments;
 use crate::pass::LonePass;
+use crate::plan::Plan;
 use crate::round::Outcome;
 use crate::worker::Worker;
 use sh_shape::{Shape, class_of};
@@ -162,31 +163,39 @@ fn gather_all<C: Drop, P: LonePass<Receipt = C>>(
     gathered
 }
 
-/// Ends a round on a heap of this shape, and returns what came of it.
+/// Ends a round on a heap whose chunks have these shapes, and returns what came of it.
 pub fn ended<C: Drop, P: LonePass<Receipt = C>>(
     alloc: Global,
-    shape: &Shape,
+    plan: &Plan,
+    shapes: &[Shape],
     moments: &Moments,
     mut workers: Vec<Worker<P>>,
     dice: &mut Dice,
 ) -> Outcome {
     settle(workers.as_mut_slice(), moments, dice);
-    let class = fill(workers.as_mut_slice(), moments, shape.shards(), dice);
+    let class = fill(workers.as_mut_slice(), moments, plan.shards, dice);
     let Gathered {
         carrier,
         mut counts,
         mut lines,
         fault,
     } = gather_all(alloc, workers);
+    let passes = plan.all_passes();
     let judged = match (fault, carrier) {
         (Some(fault), _) => Err(fault),
         (None, Some(carrier)) => {
-            judging::judge(alloc, shape, carrier, &mut lines, class, &mut counts)
+            let judge = Judge {
+                alloc,
+                passes,
+                shapes,
+                class,
+            };
+            judge.verdict(carrier, &mut lines, &mut counts)
         }
         (None, None) => Err(Fault::Wrong(Wrong::Apart)),
     };
     Outcome {
         counts: judged.map(|_| counts),
-        history: History::of::<P::Layout>(alloc, shape, lines),
+        history: History::of::<P::Layout>(alloc, passes, lines),
     }
 }

@@ -2,7 +2,6 @@
 ghost use Rattle.std.specs.Prelude.{◌≤◌, length};
 
 use sh_key::KeyLayout;
-use sh_shape::Shape;
 use sh_value::Value;
 use std::alloc::{AllocError, Global};
 use std::io;
@@ -130,10 +129,10 @@ impl History {
         }
     }
 
-    /// The history of these lines, on a heap of this shape.
-    pub fn of<L: KeyLayout>(alloc: Global, shape: &Shape, lines: Vec<Line>) -> History {
+    /// The history of these lines, on a heap with this many passes.
+    pub fn of<L: KeyLayout>(alloc: Global, passes: u32, lines: Vec<Line>) -> History {
         History {
-            passes: shape.passes(),
+            passes,
             guard_max: L::GUARD_MAX,
             lines,
             marks: Vec::new(alloc),

@@ -1,110 +1,149 @@
 //! The judge of a round: what all calls returned, key by key, and the accounts of each page.
-use crate::pass::LonePass;
+use crate::pass::{LonePass, PageName};
 use sh_key::KeyLayout;
 use sh_shape::Shape;
-use std::alloc::Global;
+use std::alloc::{AllocError, Global};
 use tool_judge::counts::{Count, Counts};
 use tool_judge::fault::{Fault, Wrong};
 use tool_judge::judge::judged;
 use tool_judge::line::Line;
 use tool_judge::tally::{Tally, agrees, is_filled};
 
-// Judges the lines of the first key, counts its slot, and returns the lines of the other keys.
-fn judge_key<'l, L: KeyLayout>(
-    alloc: Global,
-    shape: &Shape,
-    lines: &'l [Line],
-    key: u64,
-    tally: &mut Tally,
-    counts: &mut Counts,
-) -> Result<&'l [Line], Fault> {
-    let end = lines
-        .iter()
-        .position(|line| line.key != key)
-        .unwrap_or(lines.len());
-    let history = judged(alloc, key, &lines[..end], shape.passes(), L::GUARD_MAX)?;
-    tally.add::<L>(key, history.as_slice())?;
-    counts.one(Count::Keys);
-    counts.add(Count::Entries, history.len() as u64);
-    Ok(&lines[end..])
+/// What the judge of a round knows of its heap.
+#[derive(Clone, Copy)]
+pub struct Judge<'s> {
+    pub alloc: Global,
+    /// The number of its passes.
+    pub passes: u32,
+    /// The shapes of all chunks that it may have: one, if it does not grow.
+    pub shapes: &'s [Shape],
+    /// Each shard is full for values of this class.
+    pub class: u32,
 }
 
-// Judges the lines key by key, and counts the slot of each key.
-fn judge_all<L: KeyLayout>(
-    alloc: Global,
-    shape: &Shape,
-    lines: &[Line],
-    counts: &mut Counts,
-) -> Result<Tally, Fault> {
-    let mut tally = Tally::new(alloc, shape)?;
-    let mut rest = lines;
-    for _ in 0..lines.len() {
-        let Some(first) = rest.first() else {
-            break;
+impl Judge<'_> {
+    // Judges the lines of the first key, counts its slot, and returns the lines of the other keys.
+    fn judge_key<'l, P: LonePass>(
+        &self,
+        lines: &'l [Line],
+        key: u64,
+        tallies: &mut [Tally],
+        counts: &mut Counts,
+    ) -> Result<&'l [Line], Fault> {
+        let end = lines
+            .iter()
+            .position(|line| line.key != key)
+            .unwrap_or(lines.len());
+        let guard_max = P::Layout::GUARD_MAX;
+        let history = judged(self.alloc, key, &lines[..end], self.passes, guard_max)?;
+        let (chunk, within) = P::split(key);
+        let Some(tally) = tallies.get_mut(chunk as usize) else {
+            return Err(Fault::Wrong(Wrong::NoKey(key)));
         };
-        rest = judge_key::<L>(alloc, shape, rest, first.key, &mut tally, counts)?;
+        tally.add::<P::Layout>(key, within, history.as_slice())?;
+        counts.one(Count::Keys);
+        counts.add(Count::Entries, history.len() as u64);
+        Ok(&lines[end..])
     }
-    Ok(tally)
-}
 
-// Compares the accounts of a page with those that follow from what the calls returned.
-fn audit_page<P: LonePass>(
-    whole: &mut P::Whole,
-    tally: &Tally,
-    class: u32,
-    name: (u32, u32),
-    counts: &mut Counts,
-) -> Result<(), Fault> {
-    let (shard, page) = name;
-    let wrong = Fault::Wrong(Wrong::Accounts(shard, page));
-    let (Some(accounts), Some(expected)) = (P::accounts(whole, shard, page), tally.of(shard, page))
-    else {
-        return Err(wrong);
-    };
-    if !agrees(&accounts, expected) {
-        return Err(wrong);
-    }
-    if !is_filled(&accounts, class) {
-        return Err(Fault::Wrong(Wrong::Room(shard, page)));
-    }
-    counts.one(Count::Pages);
-    counts.add(Count::Live, u64::from(accounts.live));
-    counts.add(Count::Marked, u64::from(accounts.marked));
-    counts.add(Count::Retired, u64::from(accounts.retired));
-    counts.add(Count::Queued, u64::from(accounts.queued));
-    Ok(())
-}
-
-// Compares the accounts of each page with those that follow from what the calls returned.
-fn audit<P: LonePass>(
-    whole: &mut P::Whole,
-    shape: &Shape,
-    tally: &Tally,
-    class: u32,
-    counts: &mut Counts,
-) -> Result<(), Fault> {
-    for shard in 0..shape.shards() {
-        for page in 0..shape.pages() {
-            audit_page::<P>(whole, tally, class, (shard, page), counts)?;
+    // The tallies of all chunks, of which no slot is counted yet.
+    fn no_tallies(&self) -> Result<Vec<Tally>, AllocError> {
+        let mut tallies = Vec::new(self.alloc);
+        for shape in self.shapes {
+            tallies.push(Tally::new(self.alloc, shape)?)?;
         }
+        Ok(tallies)
     }
-    Ok(())
-}
 
-/// Judges what the calls of all passes returned, and sorts the lines by their keys. The carrier is all passes joined,
-/// and each shard is full for values of the class.
-pub fn judge<P: LonePass>(
-    alloc: Global,
-    shape: &Shape,
-    carrier: P,
-    lines: &mut Vec<Line>,
-    class: u32,
-    counts: &mut Counts,
-) -> Result<(), Fault> {
-    let Some(mut whole) = carrier.whole() else {
-        return Err(Fault::Wrong(Wrong::Apart));
-    };
-    lines.sort_by_key(|line| line.key)?;
-    let tally = judge_all::<P::Layout>(alloc, shape, lines.as_slice(), counts)?;
-    audit::<P>(&mut whole, shape, &tally, class, counts)
+    // Judges the lines key by key, and counts the slot of each key in the tally of its chunk.
+    fn judge_all<P: LonePass>(
+        &self,
+        lines: &[Line],
+        counts: &mut Counts,
+    ) -> Result<Vec<Tally>, Fault> {
+        let mut tallies = self.no_tallies()?;
+        let mut rest = lines;
+        for _ in 0..lines.len() {
+            let Some(first) = rest.first() else {
+                break;
+            };
+            rest = self.judge_key::<P>(rest, first.key, tallies.as_mut_slice(), counts)?;
+        }
+        Ok(tallies)
+    }
+
+    // Compares the accounts of a page with those that follow from what the calls returned.
+    fn audit_page<P: LonePass>(
+        &self,
+        whole: &mut P::Whole,
+        tally: &Tally,
+        name: PageName,
+        counts: &mut Counts,
+    ) -> Result<(), Fault> {
+        let PageName { chunk, shard, page } = name;
+        let wrong = Fault::Wrong(Wrong::Accounts(chunk, shard, page));
+        let (Some(accounts), Some(expected)) = (P::accounts(whole, name), tally.of(shard, page))
+        else {
+            return Err(wrong);
+        };
+        if !agrees(&accounts, expected) {
+            return Err(wrong);
+        }
+        if !is_filled(&accounts, self.class) {
+            return Err(Fault::Wrong(Wrong::Room(chunk, shard, page)));
+        }
+        counts.one(Count::Pages);
+        counts.add(Count::Live, u64::from(accounts.live));
+        counts.add(Count::Marked, u64::from(accounts.marked));
+        counts.add(Count::Retired, u64::from(accounts.retired));
+        counts.add(Count::Queued, u64::from(accounts.queued));
+        Ok(())
+    }
+
+    // The same of each page of a chunk.
+    fn audit_chunk<P: LonePass>(
+        &self,
+        whole: &mut P::Whole,
+        chunk: u32,
+        shape: &Shape,
+        tally: &Tally,
+        counts: &mut Counts,
+    ) -> Result<(), Fault> {
+        for shard in 0..shape.shards() {
+            for page in 0..shape.pages() {
+                let name = PageName { chunk, shard, page };
+                self.audit_page::<P>(whole, tally, name, counts)?;
+            }
+        }
+        Ok(())
+    }
+
+    // The same of each page of the heap.
+    fn audit<P: LonePass>(
+        &self,
+        whole: &mut P::Whole,
+        tallies: &[Tally],
+        counts: &mut Counts,
+    ) -> Result<(), Fault> {
+        let mut chunk = 0u32;
+        for (shape, tally) in self.shapes.iter().zip(tallies.iter()) {
+            self.audit_chunk::<P>(whole, chunk, shape, tally, counts)?;
+            chunk = chunk.wrapping_add(1);
+        }
+        Ok(())
+    }
+
+    /// Judges what the calls of all passes returned, and sorts the lines by their keys. The carrier is all passes
+    /// joined.
+    pub fn verdict<P: LonePass>(
+        &self,
+        carrier: P,
+        lines: &mut Vec<Line>,
+        counts: &mut Counts,
+    ) -> Result<(), Fault> {
+        let mut whole = carrier.whole()?;
+        lines.sort_by_key(|line| line.key)?;
+        let tallies = self.judge_all::<P>(lines.as_slice(), counts)?;
+        self.audit::<P>(&mut whole, tallies.as_slice(), counts)
+    }
 }

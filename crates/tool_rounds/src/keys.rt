@@ -1,5 +1,6 @@
 //! Turns on keys.
 use crate::moments::Moments;
+use crate::pass::LonePass;
 use crate::turn::Turn;
 use crate::user::User;
 use crate::using;
@@ -16,24 +17,30 @@ fn some_hold(record: &Record, dice: &mut Dice) -> Option<u64> {
     Some(dice.below(holds))
 }
 
-// The key after this one in the same slot, or in the next slot if this one is the slot's last.
-fn next_key<L: KeyLayout>(key: u64) -> u64 {
+// How far the next key in the same slot is behind this one, or the key in the next slot if this one is the slot's last.
+fn to_next_key<L: KeyLayout>(key: u64) -> u64 {
     let Some(parts) = L::unpack(key) else {
-        return key;
+        return 0;
     };
     let next = Parts {
         generation: parts.generation.saturating_add(1),
         ..parts
     };
     if L::in_range(next) {
-        L::pack(next)
+        L::pack(next).wrapping_sub(key)
     } else {
-        key.wrapping_add(1)
+        1
     }
 }
 
+// The key after this one in the same slot of its chunk, or in the next slot if this one is the slot's last.
+fn next_key<P: LonePass>(key: u64) -> u64 {
+    let (_, within) = P::split(key);
+    key.wrapping_add(to_next_key::<P::Layout>(within))
+}
+
 /// Takes a turn on a key that a thread left, if there is one, or on a key that the pass holds. Other turns do nothing.
-pub fn take_turn<L: KeyLayout, U: User>(
+pub fn take_turn<P: LonePass, U: User>(
     user: &mut U,
     record: &mut Record,
     moments: &Moments,
@@ -46,7 +53,7 @@ pub fn take_turn<L: KeyLayout, U: User>(
         (Turn::Get, Some(key), _) => using::get(user, record, moments, key, false),
         (Turn::Glance, Some(key), _) => using::glance(user, record, moments, key),
         (Turn::Guess, Some(key), _) => {
-            using::get(user, record, moments, next_key::<L>(key), true);
+            using::get(user, record, moments, next_key::<P>(key), true);
         }
         (Turn::Fetch, Some(key), _) => using::fetch(user, record, moments, key),
         (Turn::With, Some(key), _) => using::with(user, record, moments, key),

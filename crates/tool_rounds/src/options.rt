@@ -1,4 +1,5 @@
 //! The command line.
+use crate::plan::{LAYOUT_NAMES, Layout, layout_named};
 use clap::builder::ValueParser;
 use clap::{Arg, ArgAction, ArgMatches, Command, Error};
 use std::alloc::{AllocError, Global};
@@ -16,13 +17,21 @@ pub struct Options<'a> {
     pub rounds: u64,
     /// The seed of all choices.
     pub seed: u64,
+    /// The layout of each round, or `None` for each layout in turn.
+    pub layout: Option<Layout>,
     /// The file for the history of the last round, or of the key on which a fault was found.
     pub record: Option<&'a str>,
 }
 
 /// The end of the help.
-const AFTER_HELP: &str = "Example:
+const AFTER_HELP: &str =
+    "Without --layout every second round has the layout tiny, and the others have wide, deep,
+tagged and growing in turn. A growing heap has 2 to 5 chunks, the first one of one or two
+shards of 8 pages.
+
+Example:
   tool_stress --threads 4 --rounds 1000 --seed 7
+  tool_stress --layout growing --rounds 100
   tool_stress --rounds 1 --record round.history && tool_history < round.history
 
 If a fault is found, the history of its key is written to the standard output, or into
@@ -103,6 +112,12 @@ fn program<'a>(alloc: Global) -> Command<'a> {
         .after_help(AFTER_HELP)
 }
 
+fn layout_option<'a>(alloc: Global) -> Arg<'a> {
+    valued(alloc, "layout")
+        .value_parser(LAYOUT_NAMES)
+        .help("The layout of the heaps' keys, or heaps that grow")
+}
+
 fn record_option<'a>(alloc: Global) -> Arg<'a> {
     valued(alloc, "record").value_name("FILE").help(
         "Writes the history of the last round into FILE, for tool_history",
@@ -114,7 +129,7 @@ fn command<'a>(alloc: Global) -> Result<Command<'a>, AllocError> {
     for number in NUMBERS {
         command = command.arg(number_option(alloc, number))?;
     }
-    command.arg(record_option(alloc))
+    command.arg(layout_option(alloc))?.arg(record_option(alloc))
 }
 
 fn few(matches: &ArgMatches<'_>, name: &str, usual: u32) -> u32 {
@@ -125,6 +140,10 @@ fn many(matches: &ArgMatches<'_>, name: &str, usual: u64) -> u64 {
     matches.get_one::<u64>(name).unwrap_or(usual)
 }
 
+fn layout_of(matches: &ArgMatches<'_>) -> Option<Layout> {
+    layout_named(matches.get_str("layout")?)
+}
+
 fn options_of<'a>(matches: &ArgMatches<'a>) -> Options<'a> {
     Options {
         threads: few(matches, "threads", 4),
@@ -132,6 +151,7 @@ fn options_of<'a>(matches: &ArgMatches<'a>) -> Options<'a> {
         steps: many(matches, "steps", 2000),
         rounds: many(matches, "rounds", 100),
         seed: many(matches, "seed", 1),
+        layout: layout_of(matches),
         record: matches.get_str("record"),
     }
 }

@@ -106,13 +106,13 @@ pub fn insert<R: Wait, C: Drop, P: LonePass<Receipt = C>>(
 /// Gives a page of the owner's shard a class, any of the eight.
 pub fn prepare<P: LonePass>(owner: &mut P::Owner, record: &mut Record, dice: &mut Dice) {
     match P::prepare(owner, dice.below(8) as u32) {
-        Ok(_page) => {}
+        Ok(()) => {}
         Err(Refusal::Full) => record.counts.one(Count::Fulls),
         Err(refusal) => record.refused(Call::Insert, refusal),
     }
 }
 
-/// Inserts values of `len` words into the owner's shard until it is full.
+/// Inserts values of `len` words into the owner's shard until it is full, or into the heap if that grows.
 pub fn fill_own<P: LonePass>(
     owner: &mut P::Owner,
     record: &mut Record,

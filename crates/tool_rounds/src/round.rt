@@ -36,13 +36,13 @@ impl Outcome {
 // The passes, which have done nothing.
 fn workers<C: Drop, P: LonePass<Receipt = C>>(
     alloc: Global,
-    shape: &Shape,
+    plan: &Plan,
     lones: Vec<P>,
 ) -> Result<Vec<Worker<P>>, Fault> {
     let mut workers = Vec::new(alloc);
     let mut number = 0u32;
     for lone in lones {
-        let worker = Worker::new(alloc, lone, number, u64::from(shape.shards()));
+        let worker = Worker::new(alloc, lone, number, u64::from(plan.shards));
         if workers.push(worker).is_err() {
             return Err(Fault::Memory);
         }
@@ -71,13 +71,13 @@ fn work<C: Drop + Send, P: LonePass<Receipt = C> + Send, R: Threads + Wait + Syn
     );
 }
 
-/// Plays a round with all passes of a heap of this shape, and returns what came of it. The heap must be new: nothing
-/// was inserted, and no shard has an owner.
+/// Plays a round with all passes of a heap, and returns what came of it. The heap must be new: nothing was inserted,
+/// and no shard has an owner. The shapes are those of all chunks that it may have: one, if it does not grow.
 pub fn play<C: Drop + Send, P: LonePass<Receipt = C> + Send, R: Threads + Wait + Sync>(
     rt: &R,
     alloc: Global,
     plan: &Plan,
-    shape: &Shape,
+    shapes: &[Shape],
     lones: Vec<P>,
     dice: &mut Dice,
 ) -> Outcome {
@@ -85,10 +85,10 @@ pub fn play<C: Drop + Send, P: LonePass<Receipt = C> + Send, R: Threads + Wait +
         Ok(board) => board,
         Err(_) => return Outcome::unbegun(alloc, Fault::Memory),
     };
-    let mut workers = match workers(alloc, shape, lones) {
+    let mut workers = match workers(alloc, plan, lones) {
         Ok(workers) => workers,
         Err(fault) => return Outcome::unbegun(alloc, fault),
     };
     work(rt, plan, workers.as_mut_slice(), &board, dice.word());
-    ending::ended(alloc, shape, &board.moments, workers, dice)
+    ending::ended(alloc, plan, shapes, &board.moments, workers, dice)
 }

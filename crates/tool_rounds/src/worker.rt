@@ -64,7 +64,7 @@ impl<C: Drop, P: LonePass<Receipt = C>> Worker<P> {
             turn => {
                 let key = board.look(&mut lone, dice.word());
                 let record = &mut self.record;
-                keys::take_turn::<P::Layout, _>(&mut lone, record, &board.moments, dice, turn, key);
+                keys::take_turn::<P, _>(&mut lone, record, &board.moments, dice, turn, key);
                 Actor::Lone(lone)
             }
         }
@@ -94,14 +94,7 @@ impl<C: Drop, P: LonePass<Receipt = C>> Worker<P> {
             turn => {
                 let key = board.look(&mut owner, dice.word());
                 let record = &mut self.record;
-                keys::take_turn::<P::Layout, _>(
-                    &mut owner,
-                    record,
-                    &board.moments,
-                    dice,
-                    turn,
-                    key,
-                );
+                keys::take_turn::<P, _>(&mut owner, record, &board.moments, dice, turn, key);
                 Actor::Owner(owner)
             }
         }

@@ -14,7 +14,8 @@ use sh_step::Action;
 use sh_value::{Hold, Refusal, Value};
 use std::alloc::Global;
 use std::marker::PhantomData;
-use tool_rounds::pass::LonePass;
+use tool_judge::fault::{Fault, Wrong};
+use tool_rounds::pass::{LonePass, PageName};
 use tool_rounds::user::User;
 
 /// A pass of the heap that `H` names.
@@ -100,6 +101,10 @@ impl<'a, L: KeyLayout + Send, H: Home + Send + Sync> LonePass for Lone<'a, L, H>
 
     type Whole = Whole<'a, L>;
 
+    fn split(key: u64) -> (u32, u64) {
+        (0, key)
+    }
+
     fn adopt(self, alloc: Global, shard: u64) -> Result<Owner<'a, L, H>, (Self, Refusal)> {
         match Shard::adopt(alloc, self.into_pass(), shard) {
             Ok(shard) => Ok(Owner::new(shard)),
@@ -115,7 +120,7 @@ impl<'a, L: KeyLayout + Send, H: Home + Send + Sync> LonePass for Lone<'a, L, H>
         owner.collect();
     }
 
-    fn prepare(owner: &mut Owner<'a, L, H>, class: u32) -> Result<u32, Refusal> {
+    fn prepare(owner: &mut Owner<'a, L, H>, class: u32) -> Result<(), Refusal> {
         owner.prepare(class)
     }
 
@@ -123,8 +128,8 @@ impl<'a, L: KeyLayout + Send, H: Home + Send + Sync> LonePass for Lone<'a, L, H>
         owner.leave()
     }
 
-    fn begin(self) -> Stopped<'a, L, H> {
-        Stopped::new(self.into_pass().begin())
+    fn begin(self) -> Result<Stopped<'a, L, H>, Self> {
+        Ok(Stopped::new(self.into_pass().begin()))
     }
 
     fn act(stopped: &mut Stopped<'a, L, H>, action: &Action) -> bool {
@@ -139,11 +144,14 @@ impl<'a, L: KeyLayout + Send, H: Home + Send + Sync> LonePass for Lone<'a, L, H>
         Lone::new(sh_gather::join(self.into_pass(), other.into_pass()))
     }
 
-    fn whole(self) -> Option<Whole<'a, L>> {
-        whole(self.into_pass()).ok()
+    fn whole(self) -> Result<Whole<'a, L>, Fault> {
+        match whole(self.into_pass()) {
+            Ok(whole) => Ok(whole),
+            Err(_) => Err(Fault::Wrong(Wrong::Apart)),
+        }
     }
 
-    fn accounts(whole: &mut Whole<'a, L>, shard: u32, page: u32) -> Option<Accounts> {
-        whole.accounts(shard, page)
+    fn accounts(whole: &mut Whole<'a, L>, name: PageName) -> Option<Accounts> {
+        whole.accounts(name.shard, name.page)
     }
 }

@@ -2,9 +2,11 @@
 //! judges what their calls returned. It is also the longer example of how to use the library, by public calls alone.
 //!
 //! The rounds and their judge are in `tool_rounds`. This program opens a heap for each round (`opened`), and gives the
-//! rounds its passes (`lone`), owners (`owner`) and passes that run by hand (`stopped`).
+//! rounds its passes (`lone`), owners (`owner`) and passes that run by hand (`stopped`). Of a heap that grows it gives
+//! them the callers (`grower`).
 #![tactic(auto)]
 
+mod grower;
 mod home;
 mod lone;
 mod opened;

@@ -3,6 +3,7 @@ ghost use Rattle.std.specs.Prelude.{◌≡◌, Some};
 ghost use Rattle.std.specs.List.{All};
 ghost use Rattle.sh_pass.specs.Passes.{Caller};
 
+use crate::grower;
 use crate::home::Home;
 use crate::lone::Lone;
 use sh_key::{Deep, KeyLayout, Tagged, Tiny, Wide};
@@ -21,7 +22,7 @@ use tool_rounds::round;
 use tool_rounds::round::Outcome;
 
 // Why the heap could not be opened.
-fn unopened(refusal: Refusal) -> Fault {
+pub(crate) fn unopened(refusal: Refusal) -> Fault {
     match refusal {
         Refusal::Memory => Fault::Memory,
         _ => Fault::Wrong(Wrong::Refused(0, Call::Open, refusal)),
@@ -64,7 +65,7 @@ fn worked<'a, L: KeyLayout + Send, H: Home + Send + Sync, R: Threads + Wait + Sy
     rt: &R,
     alloc: Global,
     plan: &Plan,
-    shape: &Shape,
+    shape: Shape,
     heap: &'a Heap<L>,
     seats: Seats<L>,
     dice: &mut Dice,
@@ -76,7 +77,7 @@ fn worked<'a, L: KeyLayout + Send, H: Home + Send + Sync, R: Threads + Wait + Sy
         Ok(lones) => lones,
         Err(fault) => return Outcome::unbegun(alloc, fault),
     };
-    round::play(rt, alloc, plan, shape, lones, dice)
+    round::play(rt, alloc, plan, &[shape], lones, dice)
 }
 
 // Plays a round on a new heap of this layout.
@@ -86,13 +87,12 @@ fn play<L: KeyLayout + Send, R: Threads + Wait + Sync>(
     plan: &Plan,
     dice: &mut Dice,
 ) -> Outcome {
-    let passes = plan.threads.saturating_mul(plan.passes);
-    let shape = match Shape::new(plan.shards, plan.segments, passes) {
+    let shape = match Shape::new(plan.shards, plan.segments, plan.all_passes()) {
         Ok(shape) => shape,
         Err(refusal) => return Outcome::unbegun(alloc, unopened(refusal)),
     };
     match Heap::<L>::open(alloc, shape) {
-        Ok((heap, seats)) => worked::<L, Brand, R>(rt, alloc, plan, &shape, &heap, seats, dice),
+        Ok((heap, seats)) => worked::<L, Brand, R>(rt, alloc, plan, shape, &heap, seats, dice),
         Err(refusal) => Outcome::unbegun(alloc, unopened(refusal)),
     }
 }
@@ -115,6 +115,7 @@ impl Heaps for Library {
             Layout::Wide => play::<Wide, R>(rt, alloc, plan, dice),
             Layout::Deep => play::<Deep, R>(rt, alloc, plan, dice),
             Layout::Tagged => play::<Tagged, R>(rt, alloc, plan, dice),
+            Layout::Growing => grower::play(rt, alloc, plan, dice),
         }
     }
 }

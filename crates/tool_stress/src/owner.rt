@@ -39,11 +39,12 @@ impl<'a, L: KeyLayout, H: Home> Owner<'a, L, H> {
         self.shard.collect();
     }
 
-    /// Gives a page of the shard to values of this class, and returns the page.
-    pub fn prepare(&mut self, class: u32) -> Result<u32, Refusal>
+    /// Gives a page of the shard to values of this class.
+    pub fn prepare(&mut self, class: u32) -> Result<(), Refusal>
         requires { class < 8 }
     {
-        self.shard.prepare(class)
+        let _page = self.shard.prepare(class)?;
+        Ok(())
     }
 
     /// Leaves the shard.

@@ -5,7 +5,7 @@ ghost use Rattle.sh_script.specs.declared.calls.CallLine.{CallLine};
 
 use crate::assertions::{agree, holds};
 use script_calls::side::Side;
-use script_heap::heap_lines::{PassHolder, holders};
+use script_heap::heap_lines::{HeapMember, members};
 use script_workers::board::{Binding, Board};
 use script_workers::gate::{Gate, OpenGate};
 use script_workers::room::Room;
@@ -34,7 +34,7 @@ fn replies<R: Threads + Wait + Sync, G: Gate + Sync>(
     let Ok((heap, seats)) = Heap::<Tiny>::open(alloc, shape) else {
         return Err(Fault::BadShape);
     };
-    let sides = holders(alloc, &heap, seats)?;
+    let sides = members(alloc, &heap, seats)?;
     let (output, _) = threads_lines(rt, alloc, lines, None, sides, gate)?;
     Ok(output)
 }
@@ -63,11 +63,11 @@ fn told_of<R: Wait>(rt: &R, alloc: Global, name: usize) -> Result<Option<Option<
     let Ok((heap, seats)) = Heap::<Tiny>::open(alloc, shape) else {
         return Err(Fault::BadShape);
     };
-    let mut sides = holders(alloc, &heap, seats)?;
+    let mut sides = members(alloc, &heap, seats)?;
     let Some(side) = sides.pop() else {
         return Err(Fault::BadShape);
     };
-    match told_once_closed::<PassHolder<'_, Tiny>, Brand, R>(rt, alloc, side, name) {
+    match told_once_closed::<HeapMember<'_, Tiny>, Brand, R>(rt, alloc, side, name) {
         Ok(told) => Ok(told),
         Err(_) => Err(Fault::Memory),
     }

@@ -43,4 +43,6 @@ pub enum Defect {
     LostRing,
     /// The passes cannot be joined.
     Apart,
+    /// A heap that grows returns keys of its second chunk without the chunk's number.
+    KeyOfNoChunk,
 }

@@ -1,4 +1,5 @@
 //! Rounds on models: the heaps of a run, one of whose rounds may have a heap with a defect.
+use crate::rounds::callers::ModelCaller;
 use crate::rounds::defect::Defect;
 use crate::rounds::model::Model;
 use crate::rounds::passes::ModelPass;
@@ -39,6 +40,19 @@ fn passes<'a, R: Wait>(
     Ok(passes)
 }
 
+// The plan for a heap of one shard, or for one whose chunks have one shard each, and the shape of that.
+fn small(plan: &Plan) -> Result<(Plan, Shape), Fault> {
+    let plan = Plan {
+        shards: 1,
+        segments: 1,
+        ..*plan
+    };
+    match Shape::new(1, 1, plan.all_passes()) {
+        Ok(shape) => Ok((plan, shape)),
+        Err(refusal) => Err(Fault::Wrong(Wrong::Refused(0, Call::Open, refusal))),
+    }
+}
+
 /// Plays a round on a model with this defect.
 pub fn played<R: Threads + Wait + Sync>(
     rt: &R,
@@ -47,17 +61,52 @@ pub fn played<R: Threads + Wait + Sync>(
     defect: Defect,
     dice: &mut Dice,
 ) -> Outcome {
-    let count = plan.threads.saturating_mul(plan.passes);
-    let shape = match Shape::new(1, 1, count) {
-        Ok(shape) => shape,
-        Err(refusal) => {
-            let wrong = Wrong::Refused(0, Call::Open, refusal);
-            return Outcome::unbegun(alloc, Fault::Wrong(wrong));
-        }
+    let (plan, shape) = match small(plan) {
+        Ok(small) => small,
+        Err(fault) => return Outcome::unbegun(alloc, fault),
     };
     let model = Mutex::new(Model::new(alloc, defect));
-    match passes(rt, alloc, &model, defect, count) {
-        Ok(passes) => play(rt, alloc, plan, &shape, passes, dice),
+    match passes(rt, alloc, &model, defect, plan.all_passes()) {
+        Ok(passes) => play(rt, alloc, &plan, &[shape], passes, dice),
+        Err(fault) => Outcome::unbegun(alloc, fault),
+    }
+}
+
+// The callers of a heap of two chunks.
+fn callers<'a, R: Wait>(
+    rt: &'a R,
+    alloc: Global,
+    first: &'a Mutex<Model>,
+    second: &'a Mutex<Model>,
+    defect: Defect,
+    count: u32,
+) -> Result<Vec<ModelCaller<'a, R>>, Fault> {
+    let mut callers = Vec::new(alloc);
+    for _ in 0..count {
+        let caller = ModelCaller::new(rt, first, second, defect);
+        if callers.push(caller).is_err() {
+            return Err(Fault::Memory);
+        }
+    }
+    Ok(callers)
+}
+
+/// Plays a round on a heap that grows from one chunk to two, each a model. The second one has this defect.
+pub fn grown<R: Threads + Wait + Sync>(
+    rt: &R,
+    alloc: Global,
+    plan: &Plan,
+    defect: Defect,
+    dice: &mut Dice,
+) -> Outcome {
+    let (plan, shape) = match small(plan) {
+        Ok(small) => small,
+        Err(fault) => return Outcome::unbegun(alloc, fault),
+    };
+    let first = Mutex::new(Model::new(alloc, Defect::Sound));
+    let second = Mutex::new(Model::new(alloc, defect));
+    match callers(rt, alloc, &first, &second, defect, plan.all_passes()) {
+        Ok(callers) => play(rt, alloc, &plan, &[shape, shape], callers, dice),
         Err(fault) => Outcome::unbegun(alloc, fault),
     }
 }

@@ -7,7 +7,8 @@ use sh_step::Action;
 use sh_value::{Hold, Refusal, Value};
 use std::alloc::Global;
 use std::sync::{Mutex, Wait};
-use tool_rounds::pass::LonePass;
+use tool_judge::fault::{Fault, Wrong};
+use tool_rounds::pass::{LonePass, PageName};
 use tool_rounds::user::User;
 
 // What a pass has begun by hand.
@@ -155,6 +156,10 @@ impl<'a, R: Wait + Sync> LonePass for ModelPass<'a, R> {
 
     type Whole = ModelPass<'a, R>;
 
+    fn split(key: u64) -> (u32, u64) {
+        (0, key)
+    }
+
     fn adopt(self, _alloc: Global, shard: u64) -> Result<Self, (Self, Refusal)> {
         let answer = self.model.lock(self.rt).adopt(shard);
         match answer {
@@ -169,8 +174,9 @@ impl<'a, R: Wait + Sync> LonePass for ModelPass<'a, R> {
 
     fn collect(_owner: &mut Self) {}
 
-    fn prepare(owner: &mut Self, class: u32) -> Result<u32, Refusal> {
-        owner.model.lock(owner.rt).prepare(class)
+    fn prepare(owner: &mut Self, class: u32) -> Result<(), Refusal> {
+        let _page = owner.model.lock(owner.rt).prepare(class)?;
+        Ok(())
     }
 
     fn leave(owner: Self) -> Result<Self, (Self, Refusal)> {
@@ -181,8 +187,8 @@ impl<'a, R: Wait + Sync> LonePass for ModelPass<'a, R> {
         }
     }
 
-    fn begin(self) -> Self {
-        self
+    fn begin(self) -> Result<Self, Self> {
+        Ok(self)
     }
 
     fn act(stopped: &mut Self, action: &Action) -> bool {
@@ -208,14 +214,14 @@ impl<'a, R: Wait + Sync> LonePass for ModelPass<'a, R> {
         self
     }
 
-    fn whole(self) -> Option<Self> {
+    fn whole(self) -> Result<Self, Fault> {
         if self.defect == Defect::Apart {
-            return None;
+            return Err(Fault::Wrong(Wrong::Apart));
         }
-        Some(self)
+        Ok(self)
     }
 
-    fn accounts(whole: &mut Self, shard: u32, page: u32) -> Option<Accounts> {
-        whole.model.lock(whole.rt).accounts(shard, page)
+    fn accounts(whole: &mut Self, name: PageName) -> Option<Accounts> {
+        whole.model.lock(whole.rt).accounts(name.shard, name.page)
     }
 }

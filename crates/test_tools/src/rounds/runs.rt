@@ -72,7 +72,7 @@ fn a_run_without_a_fault_plays_all_rounds(rt: HostRuntime) {
 fn a_run_ends_with_its_first_fault(rt: HostRuntime) {
     let run = ran(&rt, rt.alloc(), Defect::WrongSums);
     agree(&rt, (run.status, run.rounds), (1, 2));
-    let report = "tool_stress: seed 1, round 1: the accounts of page 0.0 are wrong\n";
+    let report = "tool_stress: seed 1, round 1: the accounts of page 0.0 of chunk 0 are wrong\n";
     holds(&rt, run.errors.as_slice() == report.as_bytes());
     holds(&rt, run.output.is_empty());
 }

@@ -2,7 +2,7 @@ use Rattle.std.proofs.Common.{arith, rules, ◌≡◌, ◌∙◌, sym, ap, subst
 use Rattle.std.proofs.Common.{length-append, map, Option, Some, None}
 use Rattle.std.specs.Prelude.{IfNone, Err}
 use Rattle.sh_value.specs.declared.refusal.Refusal.TheVariants as refusal
-use Rattle.script_calls.specs.Standing.{ShardLeaves}
+use Rattle.sh_member.specs.Sides.{SideLeaves}
 use Rattle.std.specs.Vec.Iter.{into_iter_len}
 use Rattle.script_calls.specs.Meeting.{CarriesTale, tales_told}
 use Rattle.std.specs.Option.{option_map}
@@ -41,7 +41,7 @@ returns-then-not-retire-clause-stays g c =
     let seen = g.S.Side.seen in
     let step = c.in-Some.ensures.steps.0 in
     let now = seen c.retire.new.side in
-    let waits : ShardLeaves (seen c.in-Some.side).part.stands (Err refusal.Waiting) now.part.stands = search rules in
+    let waits : SideLeaves (seen c.in-Some.side).part.stands (Err refusal.Waiting) now.part.stands = search rules in
     inl (next_waits seen c.args.sides.items c.loop-side.yielded _ _ c.in-Some.side now.part.stands
     c.loop-side.invariant.rest step waits)
 

@@ -9,7 +9,7 @@ use Rattle.script_heap.proofs.heap_lines.told.Goals as goal
 pub push_whole-requires-clause-whole : goal.push_whole-requires-clause-whole
 push_whole-requires-clause-whole g c =
     let layout = g.L.KeyLayout.layout in
-    let p = c.into_pass-pass in
+    let p = c.pass_of-pass in
     carrier_whole g.at.3 layout g.at.0 g.at.1 g.at.2 c.args.output.items p.result
     (subst (CarrierRan g.at.3 (Some g.at.0) (heap_terms layout g.at.0.shape) g.at.1 g.at.2 c.args.output.items)
     (sym p.ensures) c.requires.1.1)
@@ -17,7 +17,7 @@ push_whole-requires-clause-whole g c =
 pub look-requires-clause-whole : goal.look-requires-clause-whole
 look-requires-clause-whole g c =
     let layout = g.L.KeyLayout.layout in
-    let p = c.into_pass-pass in
+    let p = c.pass_of-pass in
     carrier_whole g.at.3 layout g.at.0 g.at.1 g.at.2 c.args.output.items p.result
     (subst (CarrierRan g.at.3 (Some g.at.0) (heap_terms layout g.at.0.shape) g.at.1 g.at.2 c.args.output.items)
     (sym p.ensures) c.requires.1.1)
@@ -25,7 +25,7 @@ look-requires-clause-whole g c =
 pub returns : goal.returns
 returns g c =
     let layout = g.L.KeyLayout.layout in
-    let p = c.into_pass-pass in
+    let p = c.pass_of-pass in
     let ran : CarrierRan g.at.3 (Some g.at.0) (heap_terms layout g.at.0.shape) g.at.1 g.at.2 c.args.output.items
     (seen_of_caller layout p.result) =
     subst (CarrierRan g.at.3 (Some g.at.0) (heap_terms layout g.at.0.shape) g.at.1 g.at.2 c.args.output.items)

@@ -49,7 +49,7 @@ returns-clause-busy g c =
     let begun : after_drop _ _ ≡ c.after_drop-self.result = ap (λ (x : SlotRef). after_drop x c.drop_hold-found.result)
     (sym c.slot_ref.ensures) ∙ sym c.after_drop-self.ensures in
     let P : List ℕ → Type 0 = λ xs. IsBusy g.L.KeyLayout.layout c.args.table.now c.drop_hold-found.new.seat xs
-    c.args.self.now.named c.after_drop-self.result in
+    c.args.self.now.named c.after_drop-self.result c.args.self.now.number in
     subst P (f.2 ∙ sym c.remove.ensures.items) (busy_with (action.DropHold c.args.key)
     (move.DropHold c.args.key c.in-Some-place_of_key.name) (without (λ k. k == c.args.key) held)
     c.after_drop-self.result _ c.requires c.drop_hold-found.ensures refl begun c.requires.left

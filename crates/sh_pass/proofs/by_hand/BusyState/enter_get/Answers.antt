@@ -53,7 +53,7 @@ returns-in-Got-clause-busy g c =
     c.in-Some.name.generation c.enter_get-found.result c.guard_max.result _ answer.Got c.guard_max.ensures
     c.answer_to_get.ensures c.in-Got.is) in
     let P : List ℕ → Type 0 = λ xs. IsBusy g.L.KeyLayout.layout c.args.table.now c.enter_get-found.new.seat xs
-    c.args.self.now.named c.args.self.now.hand in
+    c.args.self.now.named c.args.self.now.hand c.args.self.now.number in
     subst P (sym c.push.ensures.items) (busy_with (action.EnterGet c.args.key) (move.EnterGet c.args.key c.in-Some.name)
     (held ++ c.args.key ∷ []) c.args.self.now.hand (got body c.args.key) c.requires c.enter_get-found.ensures left.0
     c.requires.hand c.requires.left

@@ -32,7 +32,7 @@ returns-clause-acts g c = done action.Finish (move.Finish c.in-Finishing.slot_re
 pub returns-clause-busy : goal.returns-clause-busy
 returns-clause-busy g c =
     let P : Hand → Type 0 = λ h. IsBusy g.L.KeyLayout.layout c.args.table.now c.finish-found.new.seat
-    c.args.self.now.held.items c.args.self.now.named h in
+    c.args.self.now.held.items c.args.self.now.named h c.args.self.now.number in
     elim c.if-is_reusable_after.branch [
       | then-is_reusable_after w ↦ subst P (sym w.self-is) (busy_still action.Finish
           (move.Finish c.in-Finishing.slot_ref c.in-Finishing.generation) (ToPut c.in-Finishing.slot_ref) c.requires

@@ -1,0 +1,9 @@
+use Rattle.script_calls.proofs.MemberLaws.{member_releases}
+use Rattle.script_calls.proofs.running.MemberSide.release.Goals as goal
+
+pub returns : goal.returns
+returns g c =
+    let layout = g.L.KeyLayout.layout in
+    let call = c.release in
+    let h = member_releases layout c.args.self.now call.new.self c.args.hold.key call.result call.ensures in
+    record { does = h.0; same = h.1 }

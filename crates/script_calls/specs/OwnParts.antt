@@ -1,0 +1,25 @@
+-- The own part of a pass: what it knows of its own, its entries, and each of its steps with the word that it found.
+use Rattle.std.specs.Prelude.{◌≡◌, List, [], Ok}
+use Rattle.sh_table.specs.declared.view.Own.{Own}
+use Rattle.sh_table.specs.declared.view.Told.{Told}
+use Rattle.sh_table.specs.Views.{fresh}
+use Rattle.sh_member.specs.declared.member.Side.TheVariants.{Pass, Shard, Moving}
+use Rattle.sh_member.specs.Sides.{SeenSide, SideLeaves}
+
+-- the own part of the pass
+abbrev pub own_part : SeenSide → Own
+own_part (Pass v) = v.view.own
+own_part (Shard o) = o.pages.owner.view.own
+own_part Moving = fresh
+
+-- the passes that it took in, with their own parts
+abbrev pub taken_in : SeenSide → List Told
+taken_in (Pass v) = v.view.told
+taken_in (Shard o) = o.pages.owner.view.told
+taken_in Moving = []
+
+-- the pass ends with this own part: if it owns a shard, the one that it has after it left, and otherwise its own
+abbrev pub EndsWith : SeenSide → Own → Type 0
+EndsWith (Pass v) own = own ≡ v.view.own
+EndsWith (Shard o) own = (t : SeenSide) × SideLeaves (Shard o) (Ok tt) t × (own ≡ own_part t)
+EndsWith Moving own = ⊥

@@ -1,0 +1,14 @@
+use Rattle.std.proofs.Common.{ap, ◌∙◌, inl, refl, rules}
+use Rattle.sh_pass.specs.Passes.{ReleaseDoes}
+use Rattle.sh_chunk.specs.Chunks.{chunked, chunk_of, key_within}
+use Rattle.sh_member.specs.Sides.{SideDoes}
+use Rattle.sh_grown.proofs.Places.{met_does}
+use Rattle.sh_grown.proofs.caller.Caller.release_guard.Goals as goal
+
+pub returns-clause-does : goal.returns-clause-does
+returns-clause-does c =
+    inl (met_does (SideDoes chunked (ReleaseDoes chunked (key_within c.args.guard.key)))
+    c.chunk_of-chunk.result (chunk_of c.args.guard.key) c.args.self.now.met.items _ _
+    c.release_guard_at.new.place _ c.release_guard_at.result
+    (c.chunk_of-chunk.ensures.is ∙ ap chunk_of c.key-key.ensures)
+    (search rules) c.index_mut.ensures.value c.release_guard_at.ensures refl)

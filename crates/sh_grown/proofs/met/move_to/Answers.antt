@@ -1,0 +1,18 @@
+use Rattle.sh_grown.proofs.Keeping.{place_then}
+use Rattle.sh_grown.proofs.Refusals.{place_adopts, place_stuck}
+use Rattle.sh_grown.proofs.met.move_to.Goals as goal
+
+pub returns-in_err-leave_at-clause-refused : goal.returns-in_err-leave_at-clause-refused
+returns-in_err-leave_at-clause-refused c =
+    place_stuck c.args.shard c.args.place.now c.leave_at.new.place c.from_residual.result
+    c.in_err-leave_at.ensures.waits
+
+pub returns-clause-refused : goal.returns-clause-refused
+returns-clause-refused c =
+    place_adopts c.args.shard c.args.place.now c.leave_at.new.place c.adopt_at.new.place c.adopt_at.result
+    c.leave_at.ensures.keeps c.in_ok-leave_at.ensures.left c.adopt_at.ensures.adopts
+
+pub returns-clause-keeps : goal.returns-clause-keeps
+returns-clause-keeps c =
+    place_then c.args.place.now c.leave_at.new.place c.adopt_at.new.place c.leave_at.ensures.keeps
+    c.adopt_at.ensures.keeps

@@ -1,0 +1,55 @@
+-- How a shard of a chunk is refused to a caller.
+use Rattle.std.specs.Prelude.{◌≡◌, ℕ, ◌⊎◌, List, Option, Some, None}
+use Rattle.sh_value.specs.declared.refusal.Refusal.TheVariants as refusal
+use Rattle.sh_shard.specs.Leaving.{Waiting}
+use Rattle.sh_shard.specs.Pages.{AdoptRefused}
+use Rattle.sh_shard.specs.Shards.{NoRoom, value_class}
+use Rattle.sh_member.specs.declared.member.Side.TheVariants.{Pass, Shard, Moving}
+use Rattle.sh_member.specs.Sides.{SeenSide}
+use Rattle.sh_grown.specs.declared.met.Met.{Met}
+use Rattle.sh_grown.specs.Keeping.{KeepsMember}
+
+-- the member owns this shard
+abbrev pub OwnsShard : (shard : ℕ) → SeenSide → Type 0
+OwnsShard shard (Pass v) = ⊥
+OwnsShard shard (Shard o) = o.pages.shard ≡ shard
+OwnsShard shard Moving = ⊥
+
+-- so does what a caller has in a chunk
+abbrev pub OwnsThere : (shard : ℕ) → Option Met → Type 0
+OwnsThere shard None = ⊥
+OwnsThere shard (Some m) = OwnsShard shard m.member
+
+-- the member has to keep the shard that it owns, since a free there is yet to end
+abbrev pub Waits : SeenSide → SeenSide → Type 0
+Waits (Shard o) (Shard n) = Waiting o.pages n.pages
+Waits (Shard o) (Pass w) = ⊥
+Waits (Shard o) Moving = ⊥
+Waits (Pass v) n = ⊥
+Waits Moving n = ⊥
+
+abbrev pub WaitsThere : Option Met → Option Met → Type 0
+WaitsThere (Some m) (Some n) = Waits m.member n.member
+WaitsThere (Some m) None = ⊥
+WaitsThere None n = ⊥
+
+-- The member asked for the shard: it has an owner, or there is no such shard. Or the member owns it, and it has no room
+-- for the value. Or the member has to keep another shard.
+abbrev pub RefusesShard : List ℕ → (shard : ℕ) → SeenSide → SeenSide → Type 0
+RefusesShard value shard (Pass v) (Pass w) =
+    AdoptRefused shard v w refusal.Taken ⊎ AdoptRefused shard v w refusal.NoShard
+RefusesShard value shard (Pass v) (Shard n) = ⊥
+RefusesShard value shard (Pass v) Moving = ⊥
+RefusesShard value shard (Shard o) (Shard n) =
+    ((o.pages.shard ≡ shard) × NoRoom (value_class value) o n) ⊎ Waiting o.pages n.pages
+RefusesShard value shard (Shard o) (Pass w) = ⊥
+RefusesShard value shard (Shard o) Moving = ⊥
+RefusesShard value shard Moving n = ⊥
+
+-- in the course of a call, from what the caller had in a chunk to what it has there, the shard was refused
+pub record WasRefused (value : List ℕ) (shard : ℕ) (old new : Option Met) : Type 0 where
+  pub before : Met
+  pub after : Met
+  pub begins : KeepsMember old (Some before)
+  pub refuses : RefusesShard value shard before.member after.member
+  pub ends : KeepsMember (Some after) new

@@ -1,0 +1,41 @@
+//! Tests of a heap that grows.
+use super::agree;
+use gearlongan::{Caller, GrowingShare, Refusal, Value};
+use std::alloc::Global;
+use std::process::Abort;
+
+// Stores a value, fetches it and removes it, by a caller that then ends.
+fn stored(alloc: Global) -> Result<Value, Refusal> {
+    let growing = GrowingShare::open(alloc, 64, 256)?;
+    let mut caller = growing.claim(alloc)?;
+    let key = caller.insert(alloc, &Value::of([7, 8]))?;
+    let value = caller.fetch(key)?;
+    caller.remove(key)?;
+    let Ok(()) = caller.end() else {
+        return Err(Refusal::Waiting);
+    };
+    Ok(value)
+}
+
+#[test]
+fn a_growing_heap_stores_a_value(rt: HostRuntime) {
+    agree(&rt, stored(rt.alloc()), Ok(Value::of([7, 8])));
+}
+
+// The key of a value of one word.
+fn key_of(rt: &impl Abort, alloc: Global, caller: &mut Caller, n: u64) -> u64 {
+    caller.insert(alloc, &Value::from(n)).expect(rt, "a key")
+}
+
+#[test]
+fn a_caller_reads_by_its_hold_what_another_one_removed(rt: HostRuntime) {
+    let growing = GrowingShare::open(rt.alloc(), 2, 3).expect(&rt, "a heap");
+    let mut one = growing.claim(rt.alloc()).expect(&rt, "a caller");
+    let mut other = growing.claim(rt.alloc()).expect(&rt, "another caller");
+    let key = key_of(&rt, rt.alloc(), &mut one, 7);
+    let hold = other.get(key).expect(&rt, "a hold");
+    agree(&rt, one.remove(key), Ok(()));
+    agree(&rt, other.read(hold), Ok(Value::from(7)));
+    agree(&rt, other.release(hold), Ok(()));
+    agree(&rt, one.fetch(key), Err(Refusal::Gone));
+}

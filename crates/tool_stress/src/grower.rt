@@ -1,0 +1,205 @@
+//! Heaps that grow: the callers of one, and a round on a new one.
+use crate::opened::unopened;
+use sh_chunk::Chunked;
+use sh_core::Accounts;
+use sh_grown::{Caller, Growing, GrowingShare, NotTold, chunk_shape};
+use sh_shape::{SEGMENT_PAGES, SLOT_PLACES, Shape};
+use sh_step::Action;
+use sh_value::{Hold, Refusal, Value, WORDS_MAX};
+use std::alloc::Global;
+use std::convert::Infallible;
+use std::sync::Wait;
+use std::thread::Threads;
+use tool_judge::dice::Dice;
+use tool_judge::fault::{Fault, Wrong};
+use tool_rounds::pass::{LonePass, PageName};
+use tool_rounds::plan::Plan;
+use tool_rounds::round;
+use tool_rounds::round::Outcome;
+use tool_rounds::user::User;
+
+/// A caller of a growing heap, whether it owns shards or not.
+#[derive(Drop)]
+pub struct Grower {
+    caller: Caller,
+    growing: GrowingShare,
+    alloc: Global,
+}
+
+impl User for Grower {
+    // Callers have no receipts.
+    type Receipt = ();
+
+    fn get(&mut self, key: u64) -> Result<Hold, Refusal> {
+        self.caller.get(key)
+    }
+
+    // A caller has no guards. It gets the key, and reads into the value.
+    fn glance(&mut self, key: u64, value: &mut Value) -> Result<Hold, Refusal> {
+        let hold = self.caller.get(key)?;
+        self.caller.read_into(hold, value)?;
+        Ok(hold)
+    }
+
+    fn read(&mut self, hold: Hold) -> Result<Value, Refusal> {
+        self.caller.read(hold)
+    }
+
+    fn fetch(&mut self, key: u64) -> Result<Value, Refusal> {
+        self.caller.fetch(key)
+    }
+
+    fn with(&mut self, key: u64) -> Result<Value, Refusal> {
+        let mut value = Value::empty();
+        self.caller.fetch_into(key, &mut value)?;
+        Ok(value)
+    }
+
+    fn take(&mut self, key: u64) -> Result<Value, Refusal> {
+        let mut value = Value::empty();
+        self.caller.take_into(key, WORDS_MAX, &mut value)?;
+        Ok(value)
+    }
+
+    fn remove(&mut self, key: u64) -> Result<(), Refusal> {
+        self.caller.remove(key)
+    }
+
+    fn release(&mut self, hold: Hold) -> Result<(), Refusal> {
+        self.caller.release(hold)
+    }
+
+    fn receipt(&mut self) {}
+
+    fn heed(&mut self, _told: ()) {}
+}
+
+impl LonePass for Grower {
+    type Layout = Chunked;
+
+    type Owner = Grower;
+
+    type Stopped = Infallible;
+
+    type Whole = GrowingShare;
+
+    fn split(key: u64) -> (u32, u64) {
+        let (chunk, within) = Chunked::split(key);
+        (u32::from(chunk), within)
+    }
+
+    // It adopts shards as it inserts.
+    fn adopt(self, _alloc: Global, _shard: u64) -> Result<Grower, (Self, Refusal)> {
+        Ok(self)
+    }
+
+    fn insert(owner: &mut Grower, value: &Value) -> Result<u64, Refusal> {
+        owner.caller.insert(owner.alloc, value)
+    }
+
+    fn collect(owner: &mut Grower) {
+        owner.caller.collect();
+    }
+
+    fn prepare(_owner: &mut Grower, _class: u32) -> Result<(), Refusal> {
+        Ok(())
+    }
+
+    fn leave(owner: Grower) -> Result<Self, (Grower, Refusal)> {
+        let mut grower = owner;
+        match grower.caller.leave() {
+            Ok(()) => Ok(grower),
+            Err(refusal) => Err((grower, refusal)),
+        }
+    }
+
+    fn begin(self) -> Result<Infallible, Self> {
+        Err(self)
+    }
+
+    fn act(stopped: &mut Infallible, _action: &Action) -> bool {
+        match *stopped {}
+    }
+
+    fn end(stopped: Infallible) -> Result<Self, Infallible> {
+        match stopped {}
+    }
+
+    // The other gives its passes back to the pools of the chunks.
+    fn join(self, other: Self) -> Self {
+        other.caller.give_back();
+        self
+    }
+
+    fn whole(self) -> Result<GrowingShare, Fault> {
+        let Grower {
+            caller,
+            growing,
+            alloc,
+        } = self;
+        caller.give_back();
+        match growing.heap().gather(alloc) {
+            Ok(()) => Ok(growing),
+            Err(NotTold::Memory) => Err(Fault::Memory),
+            Err(_) => Err(Fault::Wrong(Wrong::Apart)),
+        }
+    }
+
+    fn accounts(whole: &mut GrowingShare, name: PageName) -> Option<Accounts> {
+        let chunk = whole.heap().chunk(name.chunk as usize)?;
+        chunk.accounts(name.shard, name.page).ok()
+    }
+}
+
+// A new heap that grows. Its first chunk has the shards and segments of the plan: those with room for as many values of
+// one word as they have slots.
+fn opened(alloc: Global, plan: &Plan) -> Result<GrowingShare, Refusal> {
+    let values = u64::from(plan.segments) * u64::from(SEGMENT_PAGES * SLOT_PLACES);
+    let chunks = plan.chunks as usize;
+    GrowingShare::open_for(alloc, plan.shards, values, 1, plan.all_passes(), chunks)
+}
+
+// The shapes of all chunks that the heap may have.
+fn shapes(alloc: Global, plan: &Plan, growing: &Growing) -> Result<Vec<Shape>, Refusal> {
+    let passes = growing.passes();
+    let mut shapes = Vec::new(alloc);
+    shapes.push(Shape::large(plan.shards, plan.segments, passes)?)?;
+    for number in 1..growing.chunks_allowed() {
+        shapes.push(chunk_shape(number as u8, passes))?;
+    }
+    Ok(shapes)
+}
+
+// All callers of a growing heap.
+fn callers(alloc: Global, growing: &GrowingShare) -> Result<Vec<Grower>, Refusal> {
+    let mut growers = Vec::new(alloc);
+    for _ in 0..growing.heap().passes() {
+        growers.push(Grower {
+            caller: growing.claim(alloc)?,
+            growing: growing.share()?,
+            alloc,
+        })?;
+    }
+    Ok(growers)
+}
+
+// A new heap that grows: the shapes of its chunks, and its callers.
+fn begun(alloc: Global, plan: &Plan) -> Result<(Vec<Shape>, Vec<Grower>), Refusal> {
+    let growing = opened(alloc, plan)?;
+    let shapes = shapes(alloc, plan, growing.heap())?;
+    let growers = callers(alloc, &growing)?;
+    Ok((shapes, growers))
+}
+
+/// Plays a round on a new heap that grows.
+pub fn play<R: Threads + Wait + Sync>(
+    rt: &R,
+    alloc: Global,
+    plan: &Plan,
+    dice: &mut Dice,
+) -> Outcome {
+    match begun(alloc, plan) {
+        Ok((shapes, growers)) => round::play(rt, alloc, plan, shapes.as_slice(), growers, dice),
+        Err(refusal) => Outcome::unbegun(alloc, unopened(refusal)),
+    }
+}
