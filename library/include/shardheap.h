@@ -36,10 +36,10 @@
    there. leave leaves all shards of the pass. So do give and pass_close, which may be WAITING as leave may. An insert
    is FULL only if all chunks are open. A pass has 16 holds in each chunk, and is NOT_HELD for each key of a chunk that
    it has not used. BAD_KEY also comes for a chunk that is not open. A key has no room for a tag: tag is BAD_KEY for one
-   of a further chunk. Two calls of one pass are in their order if they are in one chunk. These calls do nothing on a
-   growing heap: adopt, prepare, pages_left, slots_out and next_own_key return NO_SHARD; gather, accounts, totals,
-   next_key, receipt_make and heed return AWAY. (TAKEN comes from a call on a key and from an insert only if another
-   handle's bytes were forged.)
+   of a further chunk, except in checked mode, where the chunk is lost. Two calls of one pass are in their order if they
+   are in one chunk. These calls do nothing on a growing heap: adopt, prepare, pages_left, slots_out and next_own_key
+   return NO_SHARD; gather, accounts, totals, next_key, receipt_make and heed return AWAY. (TAKEN comes from a call on a
+   key and from an insert only if another handle's bytes were forged.)
 
    KEYS. A key belongs to one heap and ends with it. The first keys of two heaps are the same number. So a pass that
    removes a key of another heap may remove a value of its own heap that nobody meant.
