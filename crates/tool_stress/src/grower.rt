@@ -7,7 +7,6 @@ use sh_shape::{SEGMENT_PAGES, SLOT_PLACES, Shape};
 use sh_step::Action;
 use sh_value::{Hold, Refusal, Value, WORDS_MAX};
 use std::alloc::Global;
-use std::convert::Infallible;
 use std::sync::Wait;
 use std::thread::Threads;
 use tool_judge::dice::Dice;
@@ -79,7 +78,8 @@ impl LonePass for Grower {
 
     type Owner = Grower;
 
-    type Stopped = Infallible;
+    // No call of a caller is made by hand.
+    type Stopped = Grower;
 
     type Whole = GrowingShare;
 
@@ -113,16 +113,16 @@ impl LonePass for Grower {
         }
     }
 
-    fn begin(self) -> Result<Infallible, Self> {
+    fn begin(self) -> Result<Self, Self> {
         Err(self)
     }
 
-    fn act(stopped: &mut Infallible, _action: &Action) -> bool {
-        match *stopped {}
+    fn act(_stopped: &mut Self, _action: &Action) -> bool {
+        false
     }
 
-    fn end(stopped: Infallible) -> Result<Self, Infallible> {
-        match stopped {}
+    fn end(stopped: Self) -> Result<Self, Self> {
+        Ok(stopped)
     }
 
     // The other gives its passes back to the pools of the chunks.

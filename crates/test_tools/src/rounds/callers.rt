@@ -6,7 +6,6 @@ use sh_key::Tiny;
 use sh_step::Action;
 use sh_value::{Hold, Refusal, Value};
 use std::alloc::Global;
-use std::convert::Infallible;
 use std::sync::{Mutex, Wait};
 use tool_judge::fault::Fault;
 use tool_rounds::pass::{LonePass, PageName};
@@ -168,7 +167,8 @@ impl<'a, R: Wait + Sync> LonePass for ModelCaller<'a, R> {
 
     type Owner = ModelCaller<'a, R>;
 
-    type Stopped = Infallible;
+    // No call of a caller is made by hand.
+    type Stopped = ModelCaller<'a, R>;
 
     type Whole = ModelCaller<'a, R>;
 
@@ -205,16 +205,16 @@ impl<'a, R: Wait + Sync> LonePass for ModelCaller<'a, R> {
         }
     }
 
-    fn begin(self) -> Result<Infallible, Self> {
+    fn begin(self) -> Result<Self, Self> {
         Err(self)
     }
 
-    fn act(stopped: &mut Infallible, _action: &Action) -> bool {
-        match *stopped {}
+    fn act(_stopped: &mut Self, _action: &Action) -> bool {
+        false
     }
 
-    fn end(stopped: Infallible) -> Result<Self, Infallible> {
-        match stopped {}
+    fn end(stopped: Self) -> Result<Self, Self> {
+        Ok(stopped)
     }
 
     fn join(self, _other: Self) -> Self {
