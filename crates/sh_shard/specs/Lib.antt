@@ -14,3 +14,12 @@ pub mod Searches
 pub mod Returning
 pub mod Stores
 pub mod QuietShards
+pub use Rattle.sh_table.specs.declared.view.Own
+pub use Rattle.sh_table.specs.Reached
+pub use Rattle.sh_table.specs.declared.view.Told
+pub use Rattle.sh_table.specs.declared.view.View
+pub use Rattle.sh_table.specs.Views
+pub use Rattle.sh_table.specs.Whole
+pub use Rattle.sh_pass.specs.Growing
+pub use Rattle.sh_pass.specs.Owners
+pub use Rattle.sh_pass.specs.Passes
