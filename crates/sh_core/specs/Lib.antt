@@ -25,7 +25,6 @@ pub use Rattle.sh_key.specs.Layout
 pub use Rattle.sh_shape.specs.Classes
 pub use Rattle.sh_shape.specs.Places
 pub use Rattle.sh_shape.specs.Shape
-pub use Rattle.sh_word.specs.Fields
 pub use Rattle.sh_slots.specs.declared.hand.Hand
 pub use Rattle.sh_slots.specs.declared.hand.SlotRef
 pub use Rattle.sh_slots.specs.Slots
@@ -34,6 +33,7 @@ pub use Rattle.sh_step.specs.declared.body.Body
 pub use Rattle.sh_step.specs.Collections
 pub use Rattle.sh_step.specs.Conditions
 pub use Rattle.sh_step.specs.declared.action.Event
+pub use Rattle.sh_step.specs.Fields
 pub use Rattle.sh_step.specs.declared.footstep.Footstep
 pub use Rattle.sh_step.specs.Footsteps
 pub use Rattle.sh_step.specs.declared.moves.Move

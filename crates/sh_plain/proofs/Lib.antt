@@ -5,3 +5,5 @@ pub mod Sound
 pub mod Held
 pub mod Leaves
 pub mod NewKey
+pub use Rattle.sh_history.proofs.LogLaws
+pub use Rattle.sh_history.proofs.Standing
