@@ -6,7 +6,7 @@ use Rattle.sh_key.specs.Layout.{Layout}
 use Rattle.sh_plain.specs.Store.{IsBook, InsertLeaves}
 use Rattle.sh_value.specs.declared.refusal.Refusal.{Refusal}
 use Rattle.sh_value.specs.declared.refusal.Refusal.TheVariants as refusal
-use Rattle.sh_table.specs.Tales.{ViewStands}
+use Rattle.sh_pass.specs.Tales.{ViewStands}
 use Rattle.sh_pass.specs.Growing.{SameTale}
 use Rattle.sh_pass.specs.Owners.{Aside}
 use Rattle.sh_pass.specs.Remaining.{Remains}

@@ -1,7 +1,7 @@
 // What is known of an owner between its calls.
 ghost use Rattle.std.specs.Prelude.{◌≡◌, Some};
 ghost use Rattle.sh_slots.specs.declared.hand.Hand.TheVariants.{Idle};
-ghost use Rattle.sh_table.specs.Tales.{ViewStands};
+ghost use Rattle.sh_pass.specs.Tales.{ViewStands};
 ghost use Rattle.sh_pass.specs.Owners.{own_body, seen_bell};
 ghost use Rattle.sh_shard.specs.Shards.{HoldsShard};
 
