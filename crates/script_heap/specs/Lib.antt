@@ -3,11 +3,11 @@ pub mod ByLine
 pub mod HeapOutput
 pub mod OwnSteps
 pub mod Owners
-pub use Rattle.sh_slots.specs.declared.hand.KeyRef
-pub use Rattle.sh_table.specs.Seats
+pub use Rattle.sh_core.specs.KeyRef
 pub use Rattle.sh_pass.specs.Passes
-pub use Rattle.sh_shard.specs.Pages
-pub use Rattle.sh_shard.specs.Shards
+pub use Rattle.sh_pass.specs.Seats
+pub use Rattle.sh_member.specs.Pages
+pub use Rattle.sh_member.specs.Shards
 pub use Rattle.sh_member.specs.declared.member.Side
 pub use Rattle.sh_member.specs.Sides
 pub use Rattle.script_calls.specs.Calls

@@ -7,8 +7,8 @@ use Rattle.script_calls.specs.Calls.{CallAnswers}
 use Rattle.script_calls.specs.Receipts.{MayHeed}
 use Rattle.script_calls.specs.Named.{HeardOfNumber}
 use Rattle.script_workers.specs.declared.worker.Made.{Made}
-use Rattle.sh_table.specs.declared.view.Order.{Order}
-use Rattle.sh_table.specs.Seats.{Heap}
+use Rattle.sh_pass.specs.Order.{Order}
+use Rattle.sh_pass.specs.Seats.{Heap}
 
 -- the calls of a pass's own lines, in order
 abbrev pub own_calls : ℕ → List CallLine → List Call

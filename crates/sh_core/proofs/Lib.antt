@@ -15,3 +15,4 @@ pub mod AtomicMap
 pub use Rattle.sh_step.proofs.ConditionLaws
 pub use Rattle.sh_step.proofs.FootstepLaws
 pub use Rattle.sh_step.proofs.PartTests
+pub use Rattle.sh_step.proofs.Truths

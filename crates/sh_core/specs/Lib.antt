@@ -25,7 +25,9 @@ pub use Rattle.sh_key.specs.Layout
 pub use Rattle.sh_shape.specs.Classes
 pub use Rattle.sh_shape.specs.Places
 pub use Rattle.sh_shape.specs.Shape
+pub use Rattle.sh_history.specs.declared.entry.Entry
 pub use Rattle.sh_slots.specs.declared.hand.Hand
+pub use Rattle.sh_slots.specs.declared.hand.KeyRef
 pub use Rattle.sh_slots.specs.declared.hand.SlotRef
 pub use Rattle.sh_slots.specs.Slots
 pub use Rattle.sh_step.specs.declared.action.Action
@@ -38,6 +40,8 @@ pub use Rattle.sh_step.specs.declared.footstep.Footstep
 pub use Rattle.sh_step.specs.Footsteps
 pub use Rattle.sh_step.specs.declared.moves.Move
 pub use Rattle.sh_step.specs.Moves
+pub use Rattle.sh_step.specs.declared.operation.Operation
 pub use Rattle.sh_step.specs.Operations
+pub use Rattle.sh_step.specs.Parts
 pub use Rattle.sh_step.specs.Plans
 pub use Rattle.sh_step.specs.Rows

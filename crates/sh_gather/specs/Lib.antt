@@ -6,3 +6,4 @@ pub mod LiveKeys
 pub mod PageLists
 pub mod Sums
 pub mod NextKeys
+pub use Rattle.sh_accounts.specs.Accounts

@@ -1,2 +1,5 @@
 pub mod SideBounds
 pub mod Sides
+pub use Rattle.sh_shard.specs.Leaving
+pub use Rattle.sh_shard.specs.Pages
+pub use Rattle.sh_shard.specs.Shards
