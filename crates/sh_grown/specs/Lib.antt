@@ -6,3 +6,4 @@ pub mod Keeping
 pub mod Refusals
 pub mod Shares
 pub mod Wholes
+pub use Rattle.sh_chunk.specs.Chunks
