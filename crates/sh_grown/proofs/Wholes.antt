@@ -1,6 +1,6 @@
 -- Why a chunk is not gathered.
 use Rattle.std.specs.Prelude.{Err}
-use Rattle.sh_table.specs.Seats.{Heap}
+use Rattle.sh_pass.specs.Seats.{Heap}
 use Rattle.sh_whole.specs.Homes.{GathersPool}
 use Rattle.sh_whole.specs.declared.refusal.NotTold.{NotTold}
 use Rattle.sh_whole.specs.declared.refusal.NotTold.TheVariants as untold

@@ -20,7 +20,7 @@ pub struct Chunk<'a> {
 }
 
 impl<'a> Model for Chunk<'a> {
-    ghost use Rattle.sh_table.specs.Seats.{Heap};
+    ghost use Rattle.sh_pass.specs.Seats.{Heap};
 
     ghost Value = { Heap };
 
