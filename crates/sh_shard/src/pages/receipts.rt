@@ -1,0 +1,26 @@
+// Receipts of the owner of the pages.
+ghost use Rattle.std.specs.Prelude.{◌≡◌};
+ghost use Rattle.sh_pass.specs.Receipts.{receipt_by};
+ghost use Rattle.sh_shard.specs.Pages.{pages_heeded};
+
+use crate::pages::Pages;
+use sh_key::KeyLayout;
+use sh_pass::{KeepsHeap, Receipt};
+
+impl<L: KeyLayout, H: KeepsHeap<L>> Pages<L, H> {
+    // A receipt for all that was returned to the owner.
+    pub(crate) fn receipt(&mut self) -> Receipt
+        ensures same { self.new ≡ self.old }
+        ensures tells { result ≡ receipt_by self.old.owner }
+    {
+        self.owner.receipt()
+    }
+
+    // All that the receipt covers happens before what is returned to the owner from now on.
+    pub(crate) fn heed(&mut self, receipt: Receipt)
+        requires { receipt.heap ≡ self.old.owner.heap }
+        ensures { self.new ≡ pages_heeded self.old receipt }
+    {
+        self.owner.heed(receipt);
+    }
+}
