@@ -4,12 +4,12 @@ ghost use Rattle.sh_slots.specs.declared.hand.Hand.TheVariants.{Idle};
 ghost use Rattle.sh_pass.specs.Tales.{ViewStands};
 ghost use Rattle.sh_pass.specs.Owners.{own_body, seen_bell};
 
-use crate::pages::Pages;
+use crate::pages::PagesOn;
 use sh_key::KeyLayout;
 use sh_pass::KeepsHeap;
 use sh_shape::Shape;
 
-impl<L: KeyLayout, H: KeepsHeap<L>> Pages<L, H> {
+impl<L: KeyLayout, H: KeepsHeap<L>> PagesOn<L, H> {
     // What is known of the owner.
     pub(crate) fn known(&self)
         ensures stands { ViewStands L.layout self.now.owner.view }
