@@ -129,7 +129,9 @@ impl Growing {
     }
 
     /// How many chunks are open: each cell is looked at once.
-    pub fn chunks(&self) -> usize {
+    pub fn chunks(&self) -> usize
+        ensures few { result ≤ length self.now.cells.items }
+    {
         self.cells
             .iter()
             .filter(|cell| cell.get().is_some())
