@@ -16,9 +16,10 @@ impl Caller {
     /// Stores a value under a new key, and returns the key.
     ///
     /// It tries the chunk of its last insert, and then each chunk in which it owns a shard. Then it collects in the
-    /// chunk of its last insert, and tries that again. At last it tries each shard of each chunk, from the first chunk
-    /// on. For that it leaves the shard that it owns in a chunk. It opens a chunk that is not open yet, so a new chunk
-    /// comes last.
+    /// chunk of its last insert, and tries that again. Then it walks over shards, from behind the one in which its last
+    /// walk found room: round that chunk, and over each later one that is open. At last it walks over each chunk, from
+    /// the first one on, and opens a chunk that is not open yet: so a new chunk comes last. A walk leaves the shard
+    /// that the caller owns in a chunk.
     ///
     /// Refused as `Full` if the heap may have no more chunks, and each shard has no room or has another owner. A shard
     /// that another caller's free keeps it from leaving counts as full, with the others of that chunk. Refused as
@@ -31,7 +32,7 @@ impl Caller {
             self.new.met.items }
         ensures stays { Stays self.old self.new }
     {
-        let found = self.try_met(value)?;
+        let found = self.try_open(alloc, value)?;
         match found {
             Some(key) => Ok(key),
             None => self.insert_in_any(alloc, value),
@@ -139,6 +140,43 @@ impl Caller {
         Ok(None)
     }
 
+    // The same in the shards that it owns, and then in the others of the chunks that are open, from that of its last
+    // walk on.
+    #[tactic(auto, using(crate::proofs::Keeping::tries_then))]
+    fn try_open(&mut self, alloc: Global, value: &Value) -> Result<Option<u64>, Refusal>
+        ensures tries { TriesInsert value.now self.old.met.items result self.new.met.items }
+        ensures stays { Stays self.old self.new }
+    {
+        let own = self.try_met(value)?;
+        if own.is_some() {
+            return Ok(own);
+        }
+        self.try_later(alloc, value)
+    }
+
+    // The same in the first shard with room that it can own, of the chunks from that of its last walk on, up to the
+    // first one that is not open.
+    #[cold]
+    #[inline(never)]
+    #[tactic(auto, using(crate::proofs::Keeping::keeps_then, crate::proofs::Keeping::tries_then))]
+    fn try_later(&mut self, alloc: Global, value: &Value) -> Result<Option<u64>, Refusal>
+        ensures tries { TriesInsert value.now self.old.met.items result self.new.met.items }
+        ensures stays { Stays self.old self.new }
+    {
+        let walked = self.walked as usize;
+        for number in walked..self.growing.chunks_allowed() {
+            let chunk = number as u8;
+            let Ok(()) = self.meet(chunk as usize) else {
+                return Ok(None);
+            };
+            let found = self.try_shards(alloc, chunk, value)?;
+            if found.is_some() {
+                return Ok(found);
+            }
+        }
+        Ok(None)
+    }
+
     // Stores a value in the first chunk that has room for it. A chunk that is not open is opened.
     #[cold]
     #[inline(never)]
@@ -157,8 +195,8 @@ impl Caller {
         Err(Refusal::Full)
     }
 
-    // Stores a value in the first shard of a chunk that it can own and that has room. It begins at the shard of its own
-    // number.
+    // Stores a value in the first shard of a chunk that it can own and that has room. Its next walk begins behind that
+    // shard.
     fn try_shards(
         &mut self,
         alloc: Global,
@@ -169,11 +207,14 @@ impl Caller {
         ensures stays { Stays self.old self.new }
     {
         let shards = self.shards_in(chunk) as usize;
+        let first = self.first_shard(chunk);
         for step in 0..shards {
-            let shard = (self.number % shards + step) % shards;
+            let shard = (first % shards + step) % shards;
             if self.move_in(alloc, chunk, shard)? {
                 let found = self.try_in(chunk, value)?;
                 if found.is_some() {
+                    self.walked = chunk;
+                    self.next = shard + 1;
                     return Ok(found);
                 }
             }
@@ -225,6 +266,16 @@ impl Caller {
             *place = Some(met);
         }
         Ok(())
+    }
+
+    // Which shard of a chunk it tries first. In the chunk of its last walk that is the one behind the shard with room,
+    // and elsewhere that of its own number. It goes round the shards, so that a number past them serves too.
+    fn first_shard(&self, chunk: u8) -> usize {
+        if chunk == self.walked {
+            self.next
+        } else {
+            self.number
+        }
     }
 
     // How many shards a chunk has that it has met, and otherwise 0.
