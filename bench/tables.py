@@ -234,8 +234,8 @@ def missed_text(outputs, document):
             sources.append(it.output)
     links = [f"{date_and_commit(output)} ({link('raw output', output, document)})" for output in sources]
     rows = [[it.key[0], (*it.key[1:], "1")[0], it.column, it.cell] for it in missed(outputs)]
-    runs = " and ".join(links)
-    about = f"{len(rows)} of {len(aimed(outputs))} numbers with an aim are above it, by the runs of {runs}."
+    runs = ", and ".join(links)
+    about = f"{len(rows)} of {len(aimed(outputs))} numbers with an aim are above it. The runs: {runs}."
     return f"{wrapped(about)}\n\n{table_text(Table(['Workload', 'Threads', 'Column', 'Number (aim)'], rows))}"
 
 
