@@ -1,5 +1,5 @@
--- A pass of a heap of any layout, and what its calls do. (What the handle of a pass holds may be a caller of a growing heap,
--- too: that has the layout of chunks, and is between a pass and an owner, so that it does none of these calls.)
+-- A pass of a heap of any layout, and what its calls do. (What the handle of a pass holds may be a caller of a growing
+-- heap, too: that has the layout of chunks, and is between a pass and an owner, so that it does none of these calls.)
 use Rattle.std.specs.Prelude.{◌≡◌, ℕ, ◌<◌, Result, Ok, Err}
 use Rattle.sh_key.specs.Layout.{Layout}
 use Rattle.sh_key.specs.Layouts.{tiny, wide, tagged, deep}
