@@ -56,6 +56,21 @@ TEST(inserts_open_chunks) {
     IS(caller.try_leave(), ok);
 }
 
+TEST(callers_leave_and_collect) {
+    auto heap = three_chunks(2);
+    auto caller = heap.take(), other = heap.take();
+    const auto keys = stored(caller, 0, chunk);
+    for (const auto it : keys) CHECK(other.remove(it));
+    caller.collect();
+    CHECK(stored(caller, 0, chunk).size() == chunk && heap.chunks() == 1);
+    caller.leave();
+    caller.leave();
+    CHECK(other.load(caller.insert({7}))->front() == 7);
+    gearlongan::caller none;
+    THROWS(none.leave(), empty);
+    THROWS(none.collect(), empty);
+}
+
 TEST(callers_move_and_come_home) {
     auto heap = three_chunks(1);
     {

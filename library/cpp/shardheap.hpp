@@ -54,8 +54,10 @@
 
 #include "gearlongan/errors.hpp"
 #include "gearlongan/growing.hpp"
+#include "gearlongan/guards.hpp"
 #include "gearlongan/handles.hpp"
 #include "gearlongan/heaps.hpp"
+#include "gearlongan/inserters.hpp"
 #include "gearlongan/keys.hpp"
 #include "gearlongan/passes.hpp"
 #include "gearlongan/ranges.hpp"

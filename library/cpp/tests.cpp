@@ -142,6 +142,18 @@ TEST(refusals_of_heaps_and_shards) {
     CHECK(!pass && owner);
 }
 
+// (A class without a constructor of its own is an aggregate in C++17, and its braces would call those of its base.)
+TEST(handles_begin_empty) {
+    const gearlongan::heap heap{};
+    const gearlongan::growing_heap growing{};
+    const gearlongan::pass pass{};
+    const gearlongan::shard shard{};
+    const gearlongan::caller caller{};
+    const gearlongan::guard guard{};
+    const gearlongan::receipt receipt{};
+    CHECK(!heap && !growing && !pass && !shard && !caller && !guard && !receipt);
+}
+
 TEST(what_is_empty_refuses) {
     gearlongan::heap heap;
     gearlongan::pass pass;

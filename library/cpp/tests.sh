@@ -59,7 +59,7 @@ cpp_other_standards() {
   for standard in c++20 c++23 c++2b; do
     "$1" "-std=$standard" -fsyntax-only -x c++ /dev/null 2> /dev/null || continue
     echo "== C++ by $1, $standard"
-    for source in tests values threads handing waiting checked; do
+    for source in tests values threads handing growing waiting checked; do
       # shellcheck disable=SC2086
       "$1" "-std=$standard" $warnings -Wshadow -fsyntax-only -Ilibrary/include -Ilibrary/cpp "library/cpp/$source.cpp"
     done

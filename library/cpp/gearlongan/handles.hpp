@@ -28,6 +28,44 @@ template <class Handle> void shift(Handle &from, Handle &to) noexcept {
     settle(&from);
 }
 
+inline void close(shardheap *handle) noexcept { shardheap_close(handle); }
+inline void close(shardheap_receipt *handle) noexcept { shardheap_receipt_close(handle); }
+
+/// What a heap, a growing heap and a receipt have in common: a handle that can be moved, and closes itself.
+template <class Handle> class owned {
+public:
+    owned(const owned &) = delete;
+    owned &operator=(const owned &) = delete;
+
+    /// Whether there is something here: false if it is empty.
+    [[nodiscard]] explicit operator bool() const noexcept { return raw_.full; }
+
+    /// The handle, for a call of shardheap.h that this header does not have. It stays the property of this object.
+    [[nodiscard]] Handle *raw() noexcept { return &raw_; }
+
+    /// Empties the object, as its destructor does.
+    ///
+    ///     gearlongan::receipt receipt = pass.receipt();
+    ///     receipt.close();
+    ///     heap.close();
+    ///     assert(!receipt && !heap);
+    void close() noexcept { detail::close(&raw_); }
+
+protected:
+    owned() noexcept = default;
+    owned(owned &&other) noexcept { shift(other.raw_, raw_); }
+    owned &operator=(owned &&other) noexcept {
+        if (this == &other) return *this;
+        close();
+        shift(other.raw_, raw_);
+        return *this;
+    }
+    ~owned() { close(); }
+
+private:
+    Handle raw_ = SHARDHEAP_INIT;
+};
+
 } // namespace detail
 
 } // namespace gearlongan

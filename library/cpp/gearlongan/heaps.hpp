@@ -34,27 +34,66 @@ struct room {
 using page_accounts = ::shardheap_page;
 using totals = ::shardheap_sums;
 
+namespace detail {
+
+/// What a heap and a growing heap have in common. `Heap` is the class of such a heap, and `Taken` what it gives to
+/// threads: a pass or a caller. The refusals of all calls here include errc::empty.
+template <class Heap, class Taken> class heap_base : public detail::owned<::shardheap> {
+public:
+    /// Takes a pass or a caller that is at home into an empty one. no_pass, memory; occupied, if `into` is not empty.
+    ///
+    ///     gearlongan::pass other;
+    ///     assert(heap.try_take(other) == gearlongan::errc::ok);
+    errc try_take(Taken &into) noexcept { return static_cast<errc>(shardheap_take(raw(), into.raw())); }
+
+    /// Makes an empty object a second one of this heap, for another thread. memory; occupied, if it is not empty.
+    ///
+    ///     gearlongan::heap other;
+    ///     assert(heap.try_share(other) == gearlongan::errc::ok);
+    errc try_share(Heap &into) noexcept { return static_cast<errc>(shardheap_share(raw(), into.raw())); }
+
+#if defined(__cpp_exceptions)
+    /// Takes a pass or a caller that is at home. It throws no_pass if there is none.
+    ///
+    ///     gearlongan::pass other = heap.take();
+    [[nodiscard]] Taken take() {
+        Taken taken;
+        detail::check(try_take(taken));
+        return taken;
+    }
+
+    /// Makes a second object of this heap, for another thread.
+    ///
+    ///     std::thread([other = heap.share()]() mutable { other.take().close(); }).join();
+    [[nodiscard]] Heap share() {
+        Heap other;
+        detail::check(try_share(other));
+        return other;
+    }
+#endif
+
+    /// How many passes or callers the heap has, at home or away: 0 of an empty object.
+    ///
+    ///     assert(heap.passes() == 4);
+    [[nodiscard]] std::uint64_t passes() noexcept { return shardheap_passes(raw()); }
+
+protected:
+    heap_base() noexcept = default;
+};
+
+} // namespace detail
+
 /// A heap, of which threads take passes. A heap object is used by one call at a time: each thread takes passes under a
 /// lock, or by an object of its own, which `share` makes. The heap goes with the last of these objects and its passes.
-/// The refusals of all calls here include errc::empty.
+/// The refusals of all calls here include errc::empty. It also has the calls of heap_base and of owned.
 ///
 ///     auto other = gearlongan::heap::open(gearlongan::layout::wide, {4, 2, 8});    // 4 shards of 16 pages, 8 passes
 ///     auto first = other.take();
 ///     other.close();
 ///     assert(first);    // it serves on
-class [[nodiscard]] heap {
+class [[nodiscard]] heap : public detail::heap_base<heap, pass> {
 public:
-    heap() noexcept = default;
-    heap(heap &&other) noexcept { detail::shift(other.raw_, raw_); }
-    heap &operator=(heap &&other) noexcept {
-        if (this == &other) return *this;
-        close();
-        detail::shift(other.raw_, raw_);
-        return *this;
-    }
-    heap(const heap &) = delete;
-    heap &operator=(const heap &) = delete;
-    ~heap() { close(); }
+    constexpr heap() noexcept {}
 
     /// Opens a heap in this object, which is empty. occupied, bad_layout, bad_shape, memory.
     ///
@@ -62,7 +101,7 @@ public:
     ///     assert(other.try_open(gearlongan::layout::tiny, {1, 1, 65}) == gearlongan::errc::bad_shape);
     errc try_open(layout of, shape parts) noexcept {
         return static_cast<errc>(
-            shardheap_open(&raw_, static_cast<std::uint32_t>(of), parts.shards, parts.segments, parts.passes));
+            shardheap_open(raw(), static_cast<std::uint32_t>(of), parts.shards, parts.segments, parts.passes));
     }
 
     /// Opens the least heap that has this room. occupied, bad_layout, memory; bad_shape, if the layout has none.
@@ -70,26 +109,14 @@ public:
     ///     gearlongan::heap other;
     ///     assert(other.try_open_for(gearlongan::layout::wide, {4, 20000, 2, 8}) == gearlongan::errc::ok);
     errc try_open_for(layout of, room with) noexcept {
-        return static_cast<errc>(shardheap_open_for(&raw_, static_cast<std::uint32_t>(of), with.owners, with.values,
+        return static_cast<errc>(shardheap_open_for(raw(), static_cast<std::uint32_t>(of), with.owners, with.values,
                                                     with.words, with.passes));
     }
-
-    /// Takes a pass that is at home into an empty one. no_pass, memory; occupied, if `into` is not empty.
-    ///
-    ///     gearlongan::pass other;
-    ///     assert(heap.try_take(other) == gearlongan::errc::ok);
-    errc try_take(pass &into) noexcept { return static_cast<errc>(shardheap_take(&raw_, into.raw())); }
-
-    /// Makes an empty heap object a second one of this heap, for another thread. memory; occupied, if it is not empty.
-    ///
-    ///     gearlongan::heap other;
-    ///     assert(heap.try_share(other) == gearlongan::errc::ok);
-    errc try_share(heap &into) noexcept { return static_cast<errc>(shardheap_share(&raw_, &into.raw_)); }
 
     /// Joins all passes of the heap in one, if all are at home: it is the only pass from then on. away, memory.
     ///
     ///     assert(heap.try_gather() == gearlongan::errc::away);
-    errc try_gather() noexcept { return static_cast<errc>(shardheap_gather(&raw_)); }
+    errc try_gather() noexcept { return static_cast<errc>(shardheap_gather(raw())); }
 
     /// Counts the slots of a page, by the numbers of its shard and its page there, both from 0. away, if the pass that
     /// gather left is not at home; no_page.
@@ -97,14 +124,14 @@ public:
     ///     gearlongan::page_accounts page;
     ///     assert(heap.try_accounts(0, 0, page) == gearlongan::errc::away);
     errc try_accounts(std::uint32_t shard, std::uint32_t page, page_accounts &into) noexcept {
-        return static_cast<errc>(shardheap_accounts(&raw_, shard, page, &into));
+        return static_cast<errc>(shardheap_accounts(raw(), shard, page, &into));
     }
 
     /// Counts the slots of all pages. away, as above.
     ///
     ///     gearlongan::totals sums;
     ///     assert(heap.try_totals(sums) == gearlongan::errc::away);
-    errc try_totals(totals &into) noexcept { return static_cast<errc>(shardheap_totals(&raw_, &into)); }
+    errc try_totals(totals &into) noexcept { return static_cast<errc>(shardheap_totals(raw(), &into)); }
 
     /// Finds the first key of the map at a place or behind it. Places are numbers of slots over the whole heap, and
     /// `place` becomes the one behind that of the key. A loop that begins at place 0 gets each key once, in the order
@@ -115,7 +142,7 @@ public:
     ///     assert(heap.try_next_key(place, next) == gearlongan::errc::away && place == 0);
     errc try_next_key(std::uint64_t &place, key &into) noexcept {
         std::uint64_t number = 0;
-        const auto code = static_cast<errc>(shardheap_next_key(&raw_, &place, &number));
+        const auto code = static_cast<errc>(shardheap_next_key(raw(), &place, &number));
         if (code == errc::ok) into = key(number);
         return code;
     }
@@ -134,24 +161,6 @@ public:
         heap opened;
         detail::check(opened.try_open_for(of, with));
         return opened;
-    }
-
-    /// Takes a pass that is at home. It throws no_pass if there is none.
-    ///
-    ///     gearlongan::pass other = heap.take();
-    [[nodiscard]] pass take() {
-        pass taken;
-        detail::check(try_take(taken));
-        return taken;
-    }
-
-    /// Makes a second object of this heap, for another thread.
-    ///
-    ///     std::thread([other = heap.share()]() mutable { other.take().close(); }).join();
-    [[nodiscard]] heap share() {
-        heap other;
-        detail::check(try_share(other));
-        return other;
     }
 
     /// Joins all passes in one, and counts the slots of a page and of all pages, as the calls above do.
@@ -180,25 +189,6 @@ public:
     ///     for (const gearlongan::key it : heap.keys()) assert(it == key);
     [[nodiscard]] key_range keys() & noexcept { return key_range(*this); }
 #endif
-
-    /// How many passes the heap has, at home or away: 0 of an empty object.
-    ///
-    ///     assert(heap.passes() == 4);
-    [[nodiscard]] std::uint64_t passes() noexcept { return shardheap_passes(&raw_); }
-
-    /// Whether there is a heap here: false if it is empty.
-    [[nodiscard]] explicit operator bool() const noexcept { return raw_.full; }
-
-    /// The handle, for a call of shardheap.h that this header does not have. It stays the property of this object.
-    [[nodiscard]] ::shardheap *raw() noexcept { return &raw_; }
-
-    /// Empties the object. The heap goes with the last of its objects and its passes.
-    ///
-    ///     heap.close();
-    void close() noexcept { shardheap_close(&raw_); }
-
-private:
-    ::shardheap raw_ = SHARDHEAP_INIT;
 };
 
 } // namespace gearlongan

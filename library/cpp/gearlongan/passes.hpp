@@ -2,12 +2,10 @@
 #ifndef GEARLONGAN_PASSES_HPP
 #define GEARLONGAN_PASSES_HPP
 
+#include "gearlongan/inserters.hpp"
 #include "gearlongan/ranges.hpp"
-#include "gearlongan/readers.hpp"
 
-#include <cstddef>
 #include <cstdint>
-#include <initializer_list>
 
 namespace gearlongan {
 
@@ -18,10 +16,7 @@ namespace gearlongan {
 ///     assert(other && !pass);
 class [[nodiscard]] pass : public reader {
 public:
-    pass() noexcept = default;
-    pass(pass &&) noexcept = default;
-    pass &operator=(pass &&) noexcept = default;
-    ~pass() = default;
+    constexpr pass() noexcept {}
 
     /// Makes this pass the owner of a shard, by its number from 0, and moves it to an empty `into`. no_shard, taken,
     /// memory; occupied, if `into` is not empty. After a refusal the pass is where it was.
@@ -50,41 +45,15 @@ public:
 ///
 ///     gearlongan::key third = shard.insert({1, 2, 3});
 ///     assert(shard.load(third)->size() == 3);
-class [[nodiscard]] shard : public reader {
+class [[nodiscard]] shard : public detail::inserter {
 public:
-    shard() noexcept = default;
-    shard(shard &&) noexcept = default;
-    shard &operator=(shard &&) noexcept = default;
-    ~shard() = default;
+    constexpr shard() noexcept {}
 
-    /// Stores a value of 0 to 16 words. If the shard is full it collects once and tries again. too_long, memory, full.
-    ///
-    ///     gearlongan::key third;
-    ///     assert(shard.try_insert({1, 2, 3}, third) == gearlongan::errc::ok);
-    inline errc try_insert(words_view words, key &into) noexcept { return stored(shardheap_insert, words, into); }
-    inline errc try_insert(std::initializer_list<std::uint64_t> words, key &into) noexcept {
-        return try_insert(words_view(words), into);
-    }
-
-    /// The same, but it does not collect.
+    /// Stores a value as try_insert does, but does not collect. too_long, memory, full.
     ///
     ///     gearlongan::key third;
     ///     assert(shard.try_insert_once(std::array<std::uint64_t, 3>{1, 2, 3}, third) == gearlongan::errc::ok);
     errc try_insert_once(words_view words, key &into) noexcept { return stored(shardheap_insert_once, words, into); }
-
-    /// Stores a record, as an insert does.
-    ///
-    ///     gearlongan::key third;
-    ///     assert(shard.try_insert_record(1.5, third) == gearlongan::errc::ok);
-    template <class T> errc try_insert_record(const T &record, key &into) noexcept {
-        return try_insert(detail::record_words<T>(record).words, into);
-    }
-
-    /// Collects what others freed on all pages of the shard, so that pages of which nothing is used may take values of
-    /// another length.
-    ///
-    ///     assert(shard.try_collect() == gearlongan::errc::ok);
-    errc try_collect() noexcept { return static_cast<errc>(shardheap_collect(&raw_)); }
 
     /// Counts the pages of the shard that have no class yet: each has room for 48 values of a word, or fewer longer
     /// ones.
@@ -139,18 +108,7 @@ public:
     errc try_leave(pass &into) & noexcept;
 
 #if defined(__cpp_exceptions)
-    /// Stores a value, and returns its key.
-    ///
-    ///     gearlongan::key third = shard.insert({1, 2, 3});
-    ///     assert(shard.insert({}) != third);
-    [[nodiscard]] inline key insert(words_view words) {
-        key into;
-        detail::check(try_insert(words, into));
-        return into;
-    }
-    [[nodiscard]] inline key insert(std::initializer_list<std::uint64_t> words) { return insert(words_view(words)); }
-
-    /// The same, but it does not collect.
+    /// Stores a value as insert does, but does not collect.
     ///
     ///     assert(shard.insert_once(std::vector<std::uint64_t>(16, 1)) != key);
     [[nodiscard]] key insert_once(words_view words) {
@@ -158,19 +116,6 @@ public:
         detail::check(try_insert_once(words, into));
         return into;
     }
-
-    /// Stores a record, and returns its key.
-    ///
-    ///     gearlongan::key third = shard.insert_record(std::array<float, 3>{1, 2, 3});
-    ///     assert((*pass.load_record<std::array<float, 3>>(third))[2] == 3);
-    template <class T> [[nodiscard]] key insert_record(const T &record) {
-        return insert(detail::record_words<T>(record).words);
-    }
-
-    /// Collects, as try_collect does.
-    ///
-    ///     shard.collect();
-    void collect() { detail::check(try_collect()); }
 
     /// Counts the pages that have no class yet, and the slots of the others that are not free, as the calls above do.
     ///
@@ -213,15 +158,6 @@ public:
     ///
     ///     shard.close();
     void close() noexcept { reader::close(); }
-
-private:
-    using insertion = std::uint32_t (*)(shardheap_pass *, const std::uint64_t *, std::size_t, std::uint64_t *);
-    inline errc stored(insertion insert_by, words_view words, key &into) noexcept {
-        std::uint64_t number = 0;
-        const auto code = static_cast<errc>(insert_by(&raw_, words.data(), words.size(), &number));
-        if (code == errc::ok) into = key(number);
-        return code;
-    }
 };
 
 inline errc pass::try_adopt(std::uint64_t number, shard &into) & noexcept {
