@@ -38,9 +38,7 @@ impl Heap {
     /// # Ok::<(), Error>(())
     /// ```
     pub fn growing(first: Room, chunks: u32) -> Result<Growing, Error> {
-        let Room { owners, values, words, passes } = first;
-        let handle = HeapHandle::open_growing(owners, values, words, passes, chunks)?;
-        Ok(Growing { handle })
+        HeapHandle::open_growing(first, chunks).map(|handle| Growing { handle })
     }
 }
 

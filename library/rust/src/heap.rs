@@ -92,9 +92,7 @@ impl Heap {
     /// # Ok::<(), Error>(())
     /// ```
     pub fn open(layout: Layout, shape: Shape) -> Result<Heap, Error> {
-        let Shape { shards, segments, passes } = shape;
-        let handle = HeapHandle::open(layout, shards, segments, passes)?;
-        Ok(Heap { handle })
+        HeapHandle::open(layout, shape).map(|handle| Heap { handle })
     }
 
     /// Opens the least heap that has this room.
@@ -114,9 +112,7 @@ impl Heap {
     /// # Ok::<(), Error>(())
     /// ```
     pub fn open_for(layout: Layout, room: Room) -> Result<Heap, Error> {
-        let Room { owners, values, words, passes } = room;
-        let handle = HeapHandle::open_for(layout, owners, values, words, passes)?;
-        Ok(Heap { handle })
+        HeapHandle::open_for(layout, room).map(|handle| Heap { handle })
     }
 
     /// Records what the passes of the heap return from now on: see the module [`history`](crate::history). It is there

@@ -1,0 +1,241 @@
+//! The handles of passes and receipts.
+use super::*;
+use crate::history::Log;
+use std::cell::{Cell, UnsafeCell};
+use std::thread;
+
+/// How many keys of a batch the library loads in one call: as many as it warms at a time.
+const BATCH: usize = 8;
+
+/// The handle of a pass, which may own a shard. It is not `Sync`: the thread that has it makes one call at a time.
+#[derive(Debug)]
+pub(crate) struct PassHandle {
+    raw: UnsafeCell<Raw>,
+    // How many holds it has: those of its guards.
+    holds: Cell<usize>,
+    // The number of its heap.
+    heap: u64,
+    log: Log,
+}
+
+/// The handle of a receipt, with the number of the heap that it is of.
+#[derive(Debug)]
+pub(crate) struct ReceiptHandle {
+    raw: Raw,
+    heap: u64,
+}
+
+impl Drop for ReceiptHandle {
+    fn drop(&mut self) {
+        // SAFETY: `&mut` gives the handle to this call alone. It is empty afterwards.
+        unsafe { shardheap_raw_receipt_close(&mut self.raw) }
+    }
+}
+
+/// How often the end of a pass tries to leave its shard, while others are in the middle of a free there.
+const LEAVE_TRIES: u32 = 1000;
+
+impl PassHandle {
+    /// The handle of a pass that was taken just now, from the heap with this number.
+    pub(super) fn of(raw: Raw, heap: u64, log: Log) -> PassHandle {
+        PassHandle { raw: UnsafeCell::new(raw), holds: Cell::new(0), heap, log }
+    }
+
+    #[inline]
+    fn at(&self) -> *mut Raw {
+        self.raw.get()
+    }
+
+    #[inline]
+    pub(crate) fn get(&self, key: Key) -> Result<(), Error> {
+        // SAFETY: the handle is this thread's, and no other call uses it.
+        self.log.get(key, || told(unsafe { shardheap_raw_get(self.at(), key.into()) }))?;
+        self.holds.set(self.holds.get() + 1);
+        Ok(())
+    }
+
+    #[inline]
+    pub(crate) fn release(&self, key: Key) -> Result<(), Error> {
+        // SAFETY: as in `get`.
+        self.log.release(key, || told(unsafe { shardheap_raw_release(self.at(), key.into()) }))?;
+        self.holds.set(self.holds.get() - 1);
+        Ok(())
+    }
+
+    #[inline]
+    pub(crate) fn remove(&self, key: Key) -> Result<(), Error> {
+        // SAFETY: as in `get`.
+        self.log.remove(key, || told(unsafe { shardheap_raw_remove(self.at(), key.into()) }))
+    }
+
+    /// Reads into the value's own room.
+    #[inline]
+    pub(crate) fn read(&self, key: Key, value: &mut Value) -> Result<(), Error> {
+        // SAFETY: as in `get`. `words` has room for `MAX_WORDS`; the library writes `length` of them.
+        self.log.read(key, value, |value| unsafe {
+            value.words.fill(|words, length| told(shardheap_raw_read(self.at(), key.into(), words, MAX_WORDS, length)))
+        })
+    }
+
+    /// Loads into the value's own room.
+    #[inline]
+    pub(crate) fn load(&self, key: Key, value: &mut Value) -> Result<(), Error> {
+        if self.log.is_on() {
+            return self.load_in_parts(key, value);
+        }
+        // SAFETY: as in `get`. `words` has room for `MAX_WORDS`; the library writes `length` of them.
+        unsafe {
+            value.words.fill(|words, length| told(shardheap_raw_load(self.at(), key.into(), words, MAX_WORDS, length)))
+        }
+    }
+
+    /// Loads each key, as far as there are places for the results.
+    pub(crate) fn load_each(&self, keys: &[Key], results: &mut [Result<Value, Error>]) {
+        if self.log.is_on() {
+            return self.load_one_by_one(keys, results);
+        }
+        let mut batch = [Loaded::NONE; BATCH];
+        for (keys, results) in keys.chunks(BATCH).zip(results.chunks_mut(BATCH)) {
+            let loads = &mut batch[..keys.len().min(results.len())];
+            for (load, key) in loads.iter_mut().zip(keys) {
+                load.key = (*key).into();
+            }
+            // SAFETY: as in `get`, and a slice has as many places as its length says.
+            let done = told(unsafe { shardheap_raw_load_each(self.at(), loads.as_mut_ptr(), loads.len()) });
+            for (result, load) in results.iter_mut().zip(loads) {
+                *result = done.and_then(|()| load.result());
+            }
+        }
+    }
+
+    /// Takes the value of a key into the value's own room, which each value fits.
+    #[inline]
+    pub(crate) fn take(&self, key: Key, value: &mut Value) -> Result<(), Error> {
+        if self.log.is_on() {
+            return self.take_in_parts(key, value);
+        }
+        // SAFETY: as in `load`.
+        unsafe {
+            value
+                .words
+                .fill(|words, length| told(shardheap_raw_take_value(self.at(), key.into(), words, MAX_WORDS, length)))
+        }
+    }
+
+    // A load as the calls that it consists of, which are recorded one by one.
+    #[cold]
+    fn load_in_parts(&self, key: Key, value: &mut Value) -> Result<(), Error> {
+        self.get(key)?;
+        let read = self.read(key, value);
+        self.release(key)?;
+        read
+    }
+
+    // A batch of loads that are recorded one by one.
+    #[cold]
+    fn load_one_by_one(&self, keys: &[Key], results: &mut [Result<Value, Error>]) {
+        for (key, result) in keys.iter().zip(results) {
+            let mut value = Value::default();
+            *result = self.load_in_parts(*key, &mut value).map(|()| value);
+        }
+    }
+
+    // The same of a take. The value stays as it was if another pass removes the key first.
+    #[cold]
+    fn take_in_parts(&self, key: Key, value: &mut Value) -> Result<(), Error> {
+        let mut taken = Value::default();
+        self.get(key)?;
+        let removed = self.read(key, &mut taken).and_then(|()| self.remove(key));
+        self.release(key)?;
+        removed?;
+        *value = taken;
+        Ok(())
+    }
+
+    pub(crate) fn receipt(&self) -> Result<ReceiptHandle, Error> {
+        // SAFETY: as in `get`, and the receipt's handle is an empty one of this call.
+        let raw = written(|receipt| unsafe { shardheap_raw_receipt_make(self.at(), receipt) })?;
+        Ok(ReceiptHandle { raw, heap: self.heap })
+    }
+
+    pub(crate) fn heed(&self, mut receipt: ReceiptHandle) -> Result<(), Error> {
+        if receipt.heap != self.heap {
+            return Err(Error::OtherHeap);
+        }
+        // SAFETY: as in `get`, and the receipt's handle is this function's. Both are of the heap with this number.
+        told(unsafe { shardheap_raw_heed(self.at(), &mut receipt.raw) })
+    }
+
+    #[inline]
+    pub(crate) fn insert(&self, words: &[u64]) -> Result<Key, Error> {
+        let mut key = 0;
+        self.log.insert(words, || {
+            // SAFETY: as in `get`, and a slice has as many words as its length says.
+            told(unsafe { shardheap_raw_insert(self.at(), words.as_ptr(), words.len(), &mut key) })?;
+            Ok(Key::from(key))
+        })
+    }
+
+    pub(crate) fn prepare(&self, words: u32) -> Result<u32, Error> {
+        // SAFETY: as in `get`.
+        written(|page| unsafe { shardheap_raw_prepare(self.at(), words, page) })
+    }
+
+    pub(crate) fn collect(&self) -> Result<(), Error> {
+        // SAFETY: as in `get`.
+        told(unsafe { shardheap_raw_collect(self.at()) })
+    }
+
+    pub(crate) fn pages_left(&self) -> Result<u64, Error> {
+        // SAFETY: as in `get`.
+        written(|pages| unsafe { shardheap_raw_pages_left(self.at(), pages) })
+    }
+
+    pub(crate) fn slots_out(&self) -> Result<u64, Error> {
+        // SAFETY: as in `get`.
+        written(|slots| unsafe { shardheap_raw_slots_out(self.at(), slots) })
+    }
+
+    /// The first live key of the shard from a place on, which becomes the place behind it.
+    pub(crate) fn next_own_key(&self, place: &mut u64) -> Result<Option<Key>, Error> {
+        let mut key = 0;
+        // SAFETY: as in `get`.
+        let code = unsafe { shardheap_raw_next_own_key(self.at(), place, &mut key) };
+        next_told(code, key)
+    }
+
+    pub(crate) fn adopt(&self, shard: u32) -> Result<(), Error> {
+        // SAFETY: as in `get`.
+        told(unsafe { shardheap_raw_adopt(self.at(), shard.into()) })
+    }
+
+    pub(crate) fn leave(&self) -> Result<(), Error> {
+        // SAFETY: as in `get`.
+        told(unsafe { shardheap_raw_leave(self.at()) })
+    }
+
+    fn give(&mut self) -> Result<(), Error> {
+        // SAFETY: `&mut` gives the handle to this call alone. It is empty if this succeeds, and otherwise as it was.
+        told(unsafe { shardheap_raw_give(self.raw.get_mut()) })
+    }
+}
+
+impl Drop for PassHandle {
+    /// Brings the pass home, once it has left the shard that it may own. A pass whose guards were forgotten is closed
+    /// instead: its next user would have fewer holds, or none.
+    fn drop(&mut self) {
+        self.log.close();
+        for _ in 0..LEAVE_TRIES {
+            if self.holds.get() == 0 && self.give().is_ok() {
+                return;
+            }
+            match self.leave() {
+                Err(Error::Waiting) => thread::yield_now(),
+                _ if self.holds.get() > 0 => break,
+                _ => {}
+            }
+        }
+        // SAFETY: `&mut` gives the handle to this call alone. It is empty afterwards.
+        unsafe { shardheap_raw_pass_lose(self.raw.get_mut()) };
+    }
+}
