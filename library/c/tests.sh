@@ -57,8 +57,8 @@ threaded() {
 all() {
   local compiler=$1 rounds=$2 name
   shift 2
-  for name in session blocks misuse pointers whole reuse taking batches receipts keys own_keys growing memory \
-    checked; do
+  for name in session growing_table blocks misuse pointers whole reuse taking batches receipts keys own_keys growing \
+    memory checked; do
     compiled "$compiler" "$name" "$@"
     run "$name"
   done
@@ -69,7 +69,7 @@ all() {
 in_checked_mode() {
   local compiler=$1 rounds=$2 name
   shift 2
-  for name in session pointers whole reuse taking batches receipts keys own_keys growing memory; do
+  for name in session growing_table pointers whole reuse taking batches receipts keys own_keys growing memory; do
     compiled "$compiler" "$name" -DSHARDHEAP_CHECKED "$@"
     run "$name"
   done

@@ -218,6 +218,19 @@ fn a_pass_is_shared(heap: &Heap, key: gearlongan::Key) {
     });
 }
 
+fn a_caller_is_shared(heap: &gearlongan::Growing, key: gearlongan::Key) {
+    let Ok(caller) = heap.take() else { return };
+    thread::scope(|scope| {
+        scope.spawn(|| caller.remove(key)); //~ E0277
+    });
+}
+
+fn a_receipt_is_shared(receipt: gearlongan::Receipt) {
+    thread::scope(|scope| {
+        scope.spawn(|| drop(&receipt)); //~ E0277
+    });
+}
+
 fn a_guard_of_a_pass_is_sent(pass: &'static gearlongan::Pass, key: gearlongan::Key) {
     let Ok(guard) = pass.get(key) else { return };
     thread::spawn(move || drop(guard)); //~ E0277

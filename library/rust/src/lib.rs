@@ -18,8 +18,30 @@
 //! [`Pass::adopt`], [`Pass::receipt`], and by an insert or a prepare that opens a segment; if it is refused they
 //! answer [`Error::Memory`].
 //!
+//! # Threads
+//!
+//! | Type | [`Send`] | [`Sync`] | So |
+//! |---|---|---|---|
+//! | [`Heap`], [`Growing`] | yes | yes | threads share a reference, and take a pass each |
+//! | [`Pass`], [`Shard`], [`Caller`] | yes | no | one thread has it at a time |
+//! | [`Guard`] | no | no | it stays with its pass |
+//! | [`Receipt`] | yes | no | it goes to the thread that heeds it |
+//! | [`Key`], [`Value`], [`Error`] | yes | yes | plain data |
+//!
+//! After a `fork` of a process with threads, the child makes no call of this crate.
+//!
+//! # Linking
+//!
+//! The crate needs Rust 1.79, x86-64 Linux, and the library `libshardheap`. The build script takes the library from the
+//! folder that `SHARDHEAP_LIB_DIR` names, from the repository of this crate, or from where pkg-config finds it. With
+//! `SHARDHEAP_SHARED` set it links the shared library.
+//!
+//! # Recording
+//!
 //! With the feature `record` a heap can record what its passes return, for a checker of histories: see the module
 //! `history`.
+//!
+//! # What is proved
 //!
 //! What the calls do is proved, in the library that this crate links. The crate itself is not proved: it is what makes
 //! of C's calls those of safe Rust.

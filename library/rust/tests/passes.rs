@@ -1,5 +1,5 @@
 //! Passes that come home, guards, and heaps that go before their passes.
-use gearlongan::{Error, Heap, Key, Layout, Pass, Receipt, Shape, Shard, Value};
+use gearlongan::{Caller, Error, Growing, Heap, Key, Layout, Pass, Receipt, Shape, Shard, Value};
 use std::collections::{HashMap, HashSet};
 use std::mem;
 use std::panic::{catch_unwind, resume_unwind, AssertUnwindSafe};
@@ -22,9 +22,12 @@ fn what_may_be_sent_and_shared() {
     fn shared<T: Send + Sync>() {}
     sent::<Pass>();
     sent::<Shard>();
+    sent::<Caller>();
     sent::<Receipt>();
     shared::<Heap>();
+    shared::<Growing>();
     shared::<Key>();
+    shared::<Value>();
     shared::<Error>();
 }
 
