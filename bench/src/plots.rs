@@ -30,6 +30,14 @@ pub fn write(folder: &Path, printed: &str) -> Result<(), String> {
 #[cfg(test)]
 mod tests {
     use super::*;
+    use crate::results::Figure;
+
+    const HEAD: &str = "| Workload | Threads | ns | to `sharded_slab` (aim) |\n|---|---|---|---|";
+
+    /// What a run printed that has these lines.
+    pub(super) fn figures(lines: &[&str]) -> Vec<Figure> {
+        results::figures(&format!("{HEAD}\n{}\n", lines.join("\n"))).expect("they are rows")
+    }
 
     // The kept output of a whole run is named for its date and its commit, and no other has three strokes.
     fn is_whole(name: &str) -> bool {

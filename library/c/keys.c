@@ -1,10 +1,5 @@
 /* The keys of a heap whose passes were gathered, one after the other. */
-#include "check.h"
-
-#define MOST 400
-
-static uint64_t kept[MOST];
-static int count;
+#include "kept.h"
 
 static void null_and_empty(void) {
     shardheap heap = SHARDHEAP_INIT;
@@ -16,46 +11,13 @@ static void null_and_empty(void) {
     TRUE(place == 55 && key == 77);
 }
 
-/* An owner of this shard inserts values of each length, and removes each third; another holds one that was removed. */
 static void fills(shardheap_pass *owner, shardheap_pass *other, uint64_t shard) {
-    static const uint64_t words[16] = {7};
-    uint64_t key;
     IS(shardheap_adopt(owner, shard), SHARDHEAP_OK);
-    for (size_t n = 0; n < 90; n++) {
-        IS(shardheap_insert(owner, words, n % 3 * 8, &key), SHARDHEAP_OK);
-        if (n == 3) IS(shardheap_get(other, key), SHARDHEAP_OK);
-        if (n % 3 == 0) IS(shardheap_remove(owner, key), SHARDHEAP_OK);
-        else if (n > 45) kept[count++] = key;
-        else IS(shardheap_remove(other, key), SHARDHEAP_OK);
-    }
-    for (size_t n = 0; n < 20; n++) {
-        IS(shardheap_insert(owner, words, 1, &key), SHARDHEAP_OK);
-        kept[count++] = key;
-    }
+    keeps(owner, other, 20);
     IS(shardheap_leave(owner), SHARDHEAP_OK);
 }
 
-/* Whether each of these keys comes once, and no other; in the order of their places. */
-static void each_once(shardheap *heap) {
-    int found[MOST] = {0}, all = 0;
-    uint64_t place = 0, key, before = 0;
-    uint32_t code;
-    while ((code = shardheap_next_key(heap, &place, &key)) == SHARDHEAP_OK) {
-        int n = 0;
-        while (n < count && kept[n] != key) n++;
-        TRUE(n < count && found[n] == 0);
-        TRUE(place > before);
-        before = place;
-        found[n] = 1;
-        all++;
-    }
-    IS(code, SHARDHEAP_NO_KEY);
-    TRUE(all == count && place == before);
-    key = 77;
-    place = UINT64_MAX;
-    IS(shardheap_next_key(heap, &place, &key), SHARDHEAP_NO_KEY);
-    TRUE(place == UINT64_MAX && key == 77);
-}
+static uint32_t next_of_heap(void *heap, uint64_t *place, uint64_t *key) { return shardheap_next_key(heap, place, key); }
 
 static void keys_of(uint32_t layout) {
     shardheap heap = SHARDHEAP_INIT;
@@ -72,13 +34,13 @@ static void keys_of(uint32_t layout) {
     IS(shardheap_give(&one), SHARDHEAP_OK);
     IS(shardheap_give(&two), SHARDHEAP_OK);
     IS(shardheap_gather(&heap), SHARDHEAP_OK);
-    each_once(&heap);
+    each_once(next_of_heap, &heap);
     /* the pass that is left goes on, and then the keys are others */
     IS(shardheap_take(&heap, &one), SHARDHEAP_OK);
     IS(shardheap_take_value(&one, kept[--count], room, 16, &length), SHARDHEAP_OK);
     IS(shardheap_take_value(&one, kept[--count], room, 16, &length), SHARDHEAP_OK);
     IS(shardheap_give(&one), SHARDHEAP_OK);
-    each_once(&heap);
+    each_once(next_of_heap, &heap);
     shardheap_close(&heap);
 }
 

@@ -2,6 +2,7 @@
    tried again, and in the end no block is left over. It is linked with --wrap=malloc, --wrap=realloc and --wrap=free,
    so that what the library asks for is counted here. */
 #include "check.h"
+#include "wrapped.h"
 
 static long budget = -1, blocks, granted; /* how many allocations are still granted; no bound below 0 */
 
@@ -11,13 +12,6 @@ static int refuses(void) {
     granted++;
     return 0;
 }
-
-void *__real_malloc(size_t size);
-void *__real_realloc(void *at, size_t size);
-void __real_free(void *at);
-void *__wrap_malloc(size_t size);
-void *__wrap_realloc(void *at, size_t size);
-void __wrap_free(void *at);
 
 void *__wrap_malloc(size_t size) {
     if (refuses()) return NULL;

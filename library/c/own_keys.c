@@ -1,12 +1,7 @@
 /* The live keys of the shard that a pass owns, one after the other, beside the calls of other passes. */
-#include "check.h"
+#include "kept.h"
 #include <pthread.h>
 #include <stdatomic.h>
-
-#define MOST 400
-
-static uint64_t kept[MOST];
-static int count;
 
 static void null_empty_and_no_shard(void) {
     shardheap heap = SHARDHEAP_INIT;
@@ -29,45 +24,12 @@ static void null_empty_and_no_shard(void) {
     shardheap_close(&heap);
 }
 
-/* Whether the walk gives each kept key once, and no other; in the order of their places. */
-static void each_once(shardheap_pass *owner) {
-    int found[MOST] = {0}, all = 0;
-    uint64_t place = 0, key, before = 0;
-    uint32_t code;
-    while ((code = shardheap_next_own_key(owner, &place, &key)) == SHARDHEAP_OK) {
-        int n = 0;
-        while (n < count && kept[n] != key) n++;
-        TRUE(n < count && found[n] == 0);
-        TRUE(place > before);
-        before = place;
-        found[n] = 1;
-        all++;
-        IS(shardheap_release(owner, key), SHARDHEAP_NOT_HELD);
-    }
-    IS(code, SHARDHEAP_NO_KEY);
-    TRUE(all == count && place == before);
-    key = 77;
-    place = UINT64_MAX;
-    IS(shardheap_next_own_key(owner, &place, &key), SHARDHEAP_NO_KEY);
-    TRUE(place == UINT64_MAX && key == 77);
-}
-
-/* Values of each length, of which the owner removes each third and another pass others. One of these is held. */
-static void fills(shardheap_pass *owner, shardheap_pass *other) {
-    static const uint64_t words[16] = {7};
-    uint64_t key;
-    count = 0;
-    for (size_t n = 0; n < 90; n++) {
-        IS(shardheap_insert(owner, words, n % 3 * 8, &key), SHARDHEAP_OK);
-        if (n == 3) IS(shardheap_get(other, key), SHARDHEAP_OK);
-        if (n % 3 == 0) IS(shardheap_remove(owner, key), SHARDHEAP_OK);
-        else if (n > 45) kept[count++] = key;
-        else IS(shardheap_remove(other, key), SHARDHEAP_OK);
-    }
-    for (size_t n = 0; n < 100; n++) {
-        IS(shardheap_insert(owner, words, 1, &key), SHARDHEAP_OK);
-        kept[count++] = key;
-    }
+/* The next key of an owner. The call leaves no hold on it. */
+static uint32_t next_of_owner(void *handle, uint64_t *place, uint64_t *key) {
+    shardheap_pass *owner = handle;
+    uint32_t code = shardheap_next_own_key(owner, place, key);
+    if (code == SHARDHEAP_OK) IS(shardheap_release(owner, *key), SHARDHEAP_NOT_HELD);
+    return code;
 }
 
 static void keys_of(uint32_t layout) {
@@ -82,13 +44,14 @@ static void keys_of(uint32_t layout) {
     IS(shardheap_adopt(&two, 0), SHARDHEAP_OK);
     IS(shardheap_insert(&two, words, 1, &key), SHARDHEAP_OK);
     IS(shardheap_adopt(&one, 1), SHARDHEAP_OK);
-    fills(&one, &two);
-    each_once(&one);
+    count = 0;
+    keeps(&one, &two, 100);
+    each_once(next_of_owner, &one);
     /* the next owner finds the same keys */
     IS(shardheap_leave(&one), SHARDHEAP_OK);
     IS(shardheap_leave(&two), SHARDHEAP_OK);
     IS(shardheap_adopt(&two, 1), SHARDHEAP_OK);
-    each_once(&two);
+    each_once(next_of_owner, &two);
     IS(shardheap_leave(&two), SHARDHEAP_OK);
     IS(shardheap_give(&one), SHARDHEAP_OK);
     IS(shardheap_give(&two), SHARDHEAP_OK);
@@ -106,7 +69,7 @@ static void full_page(void) {
     IS(shardheap_adopt(&pass, 0), SHARDHEAP_OK);
     for (count = 0; shardheap_insert(&pass, words, 1, &kept[count]) == SHARDHEAP_OK;) count++;
     TRUE(count == 8 * 48);
-    each_once(&pass);
+    each_once(next_of_owner, &pass);
     for (uint64_t slot = 0; slot < 8 * 48; slot++) {
         IS(shardheap_next_own_key(&pass, &place, &key), SHARDHEAP_OK);
         TRUE(place == slot + 1);
@@ -177,7 +140,7 @@ static void changes(void) {
     TRUE(key != kept[2]);
     kept[1] = key;
     count = 2;
-    each_once(&owner);
+    each_once(next_of_owner, &owner);
     IS(shardheap_leave(&owner), SHARDHEAP_OK);
     IS(shardheap_give(&owner), SHARDHEAP_OK);
     IS(shardheap_give(&other), SHARDHEAP_OK);

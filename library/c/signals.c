@@ -5,6 +5,7 @@
    middle. The handler's calls take and give back no memory: malloc, realloc and free are wrapped, and end the program
    if they are called there. The test fails if it takes longer than so many seconds. */
 #include "check.h"
+#include "wrapped.h"
 #include <pthread.h>
 #include <sched.h>
 #include <signal.h>
@@ -21,13 +22,6 @@ static uint64_t lasting;
 static _Atomic uint64_t handed;
 static _Atomic unsigned handled, in_a_call, inside, ends;
 static volatile sig_atomic_t in_handler;
-
-void *__real_malloc(size_t size);
-void *__real_realloc(void *at, size_t size);
-void __real_free(void *at);
-void *__wrap_malloc(size_t size);
-void *__wrap_realloc(void *at, size_t size);
-void __wrap_free(void *at);
 
 static void fail(const char *text) {
     if (write(2, text, strlen(text)) < 0) _exit(2);

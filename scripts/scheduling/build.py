@@ -127,7 +127,7 @@ def linked(object_file, to, sources, words):
 def scheduled(object_file, to):
     """The program under the scheduler of turns.c."""
     wraps = [f"-Wl,--wrap={name}" for name in WRAPPED]
-    linked(object_file, to, [HERE / "turns.c", HERE / "calls.c"], wraps)
+    linked(object_file, to, [HERE / "turns.c", HERE / "calls.c", HERE / "copies.c"], wraps)
 
 
 if __name__ == "__main__":

@@ -107,21 +107,6 @@ void __tsan_init(void)
 {
 }
 
-void *__tsan_memset(void *to, int byte, size_t length)
-{
-    return memset(to, byte, length);
-}
-
-void *__tsan_memcpy(void *to, const void *from, size_t length)
-{
-    return memcpy(to, from, length);
-}
-
-void *__tsan_memmove(void *to, const void *from, size_t length)
-{
-    return memmove(to, from, length);
-}
-
 /* Threads. */
 
 int __wrap_pthread_create(pthread_t *made, const pthread_attr_t *attributes, void *(*body)(void *), void *argument)

@@ -56,19 +56,3 @@ ALL(8)
 ALL(16)
 ALL(32)
 ALL(64)
-
-/* What newer compilers call and the library of gcc 12 lacks. It sees these accesses in the C library's functions. */
-void *__tsan_memset(void *to, int byte, size_t length)
-{
-    return memset(to, byte, length);
-}
-
-void *__tsan_memcpy(void *to, const void *from, size_t length)
-{
-    return memcpy(to, from, length);
-}
-
-void *__tsan_memmove(void *to, const void *from, size_t length)
-{
-    return memmove(to, from, length);
-}

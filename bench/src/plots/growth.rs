@@ -137,14 +137,8 @@ pub fn growth(figures: &[Figure]) -> String {
 
 #[cfg(test)]
 mod tests {
+    use super::super::tests::figures;
     use super::*;
-    use crate::results;
-
-    const HEAD: &str = "| Workload | Threads | ns | to `sharded_slab` (aim) |\n|---|---|---|---|";
-
-    fn figures(lines: &[&str]) -> Vec<Figure> {
-        results::figures(&format!("{HEAD}\n{}\n", lines.join("\n"))).expect("they are rows")
-    }
 
     #[test]
     fn ticks_are_round() {

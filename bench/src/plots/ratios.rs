@@ -145,14 +145,8 @@ pub fn ratios(figures: &[Figure]) -> String {
 
 #[cfg(test)]
 mod tests {
+    use super::super::tests::figures;
     use super::*;
-    use crate::results;
-
-    const HEAD: &str = "| Workload | Threads | ns | to `sharded_slab` (aim) |\n|---|---|---|---|";
-
-    fn figures(lines: &[&str]) -> Vec<Figure> {
-        results::figures(&format!("{HEAD}\n{}\n", lines.join("\n"))).expect("they are rows")
-    }
 
     #[test]
     fn ratios_are_around_the_1_and_stay_on_the_scale() {

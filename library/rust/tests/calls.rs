@@ -1,16 +1,11 @@
 //! Values that one thread alone takes, receipts, how full a shard is, and the keys of a heap.
-use gearlongan::{Error, Heap, Key, Layout, Pass, Room, Shape, Shard, Value};
+#[path = "common/layouts.rs"]
+mod layouts;
+
+use gearlongan::{Error, Heap, Key, Layout, Room, Value};
+use layouts::{two, LAYOUTS, SMALL};
 use std::sync::mpsc;
 use std::thread;
-
-const LAYOUTS: [Layout; 4] = [Layout::Wide, Layout::Tagged, Layout::Deep, Layout::Tiny];
-const SMALL: Shape = Shape { shards: 2, segments: 1, passes: 2 };
-
-fn two(layout: Layout) -> (Shard, Pass) {
-    let heap = Heap::open(layout, SMALL).expect("it opens");
-    let shard = heap.take().expect("a pass is at home").adopt(0).expect("it has no owner");
-    (shard, heap.take().expect("another is at home"))
-}
 
 #[test]
 fn a_value_is_taken_once() {

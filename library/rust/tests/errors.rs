@@ -1,14 +1,9 @@
 //! Each error of each call that one thread can have, in each layout, except memory, which `memory.rs` refuses.
-use gearlongan::{Error, Heap, Key, Layout, Pass, Room, Shape, Shard, Value};
+#[path = "common/layouts.rs"]
+mod layouts;
 
-const LAYOUTS: [Layout; 4] = [Layout::Wide, Layout::Tagged, Layout::Deep, Layout::Tiny];
-const SMALL: Shape = Shape { shards: 2, segments: 1, passes: 2 };
-
-fn two(layout: Layout) -> (Shard, Pass) {
-    let heap = Heap::open(layout, SMALL).expect("it opens");
-    let shard = heap.take().expect("a pass is at home").adopt(0).expect("it has no owner");
-    (shard, heap.take().expect("another is at home"))
-}
+use gearlongan::{Error, Heap, Key, Layout, Room, Shape, Value};
+use layouts::{two, LAYOUTS, SMALL};
 
 fn refused(layout: Layout, shards: u32, segments: u32, passes: u32) {
     let opened = Heap::open(layout, Shape { shards, segments, passes });

@@ -1,6 +1,10 @@
 //! The pool: values are cleared by their last user, and used again.
+#[path = "common/small.rs"]
+mod small;
+
 use gearlongan::slab::pool::{OwnedRef, OwnedRefMut, Ref, RefMut};
-use gearlongan::slab::{Clear, Config, Pool};
+use gearlongan::slab::{Clear, Pool};
+use small::Small;
 use std::collections::{HashMap, HashSet};
 use std::panic::{catch_unwind, AssertUnwindSafe, RefUnwindSafe, UnwindSafe};
 use std::sync::atomic::{AtomicUsize, Ordering::SeqCst};
@@ -158,15 +162,7 @@ fn a_value_whose_initialisation_panics_is_cleared() {
     assert!(pool.create_with(|text| assert!(text.is_empty())).is_some());
 }
 
-/// One heap, which has room for 4 shards of 384 values.
-struct Small;
-
-impl Config for Small {
-    const INITIAL_PAGE_SIZE: usize = 1;
-    const MAX_PAGES: usize = 1;
-    const MAX_THREADS: usize = 1;
-}
-
+/// How many values a `Small` slab has room for.
 const SMALL_ROOM: usize = 4 * 384;
 
 #[test]

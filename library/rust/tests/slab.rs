@@ -1,6 +1,13 @@
 //! The slab: each value is dropped once, by its last user, and the slab grows.
+#[path = "common/counted.rs"]
+mod counted;
+#[path = "common/small.rs"]
+mod small;
+
+use counted::Counted;
 use gearlongan::slab::{Config, Entry, OwnedEntry, Slab, VacantEntry};
 use gearlongan::Error;
+use small::Small;
 use std::future::Future;
 use std::panic::{catch_unwind, AssertUnwindSafe, RefUnwindSafe, UnwindSafe};
 use std::pin::{pin, Pin};
@@ -11,25 +18,8 @@ use std::thread;
 
 const COUNT: usize = if cfg!(debug_assertions) { 1_000 } else { 10_000 };
 
-/// One heap, which has room for 4 shards of 384 values.
-struct Small;
-
-impl Config for Small {
-    const INITIAL_PAGE_SIZE: usize = 1;
-    const MAX_PAGES: usize = 1;
-    const MAX_THREADS: usize = 1;
-}
-
+/// How many values a `Small` slab has room for.
 const SMALL_ROOM: usize = 4 * 384;
-
-/// A value that counts how many of its kind were dropped.
-struct Counted(usize, Arc<AtomicUsize>);
-
-impl Drop for Counted {
-    fn drop(&mut self) {
-        self.1.fetch_add(1, SeqCst);
-    }
-}
 
 #[test]
 fn what_may_be_sent_and_shared() {

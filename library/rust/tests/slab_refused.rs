@@ -1,6 +1,10 @@
 //! Each allocation of Rust that a call of a slab or a pool makes is refused in turn. The call returns None or does
 //! without, and the next one finds all as it was. (The heaps take memory by C's functions: see `memory.rs`.)
-use gearlongan::slab::{Config, Pool, Slab};
+#[path = "common/small.rs"]
+mod small;
+
+use gearlongan::slab::{Pool, Slab};
+use small::Small;
 use std::alloc::{GlobalAlloc, Layout, System};
 use std::cell::Cell;
 use std::ptr;
@@ -41,15 +45,7 @@ unsafe impl GlobalAlloc for Refusing {
 #[global_allocator]
 static ALLOCATOR: Refusing = Refusing;
 
-/// One heap, which has room for 4 shards of 384 values.
-struct Small;
-
-impl Config for Small {
-    const INITIAL_PAGE_SIZE: usize = 1;
-    const MAX_PAGES: usize = 1;
-    const MAX_THREADS: usize = 1;
-}
-
+/// How many values a `Small` slab has room for.
 const SMALL_ROOM: usize = 4 * 384;
 
 /// Runs it in a new thread, with the allocation of this number refused: whether there was one.

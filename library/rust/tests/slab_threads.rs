@@ -1,5 +1,12 @@
 //! A slab that threads share: removals of the same keys, more threads than passes, and what threads leave as they end.
-use gearlongan::slab::{Config, Slab};
+#[path = "common/counted.rs"]
+mod counted;
+#[path = "common/small.rs"]
+mod small;
+
+use counted::Counted;
+use gearlongan::slab::Slab;
+use small::Small;
 use std::sync::atomic::{AtomicUsize, Ordering::SeqCst};
 use std::sync::mpsc::channel;
 use std::sync::{Arc, Barrier};
@@ -7,24 +14,6 @@ use std::thread;
 use std::time::Duration;
 
 const COUNT: usize = if cfg!(debug_assertions) { 1_000 } else { 10_000 };
-
-/// One heap, which has room for 4 shards of 384 values.
-struct Small;
-
-impl Config for Small {
-    const INITIAL_PAGE_SIZE: usize = 1;
-    const MAX_PAGES: usize = 1;
-    const MAX_THREADS: usize = 1;
-}
-
-/// A value that counts how many of its kind were dropped.
-struct Counted(usize, Arc<AtomicUsize>);
-
-impl Drop for Counted {
-    fn drop(&mut self) {
-        self.1.fetch_add(1, SeqCst);
-    }
-}
 
 fn pairs(threads: usize) {
     let dropped = Arc::new(AtomicUsize::new(0));
