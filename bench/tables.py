@@ -6,7 +6,7 @@
     bench/tables.py --self-test                       fills a block of a small document, and plants faults
 
 RESULTS are files with what `cargo run --release --offline -- ..` printed, named by date and commit:
-`results/2026-11-24-7af2314.txt`. If several have all rows of a block, the last one counts.
+`results/2026-11-24-7af2314.txt`. If several have all rows of a block, or one number with an aim, the last one counts.
 
 A block is between two lines of its own:
 
@@ -209,17 +209,19 @@ def written(text, document, outputs):
 
 
 def aimed(outputs):
-    """Each number that has an aim."""
-    found = []
+    """Each number that has an aim. Of a number that several outputs have, the last one counts."""
+    found = {}
     for output in outputs:
         for table in output.tables:
             for row in table.rows:
                 for head, cell in zip(table.head, row):
                     number = AIMED.fullmatch(cell)
                     if number:
+                        place = key(row, table.head), head.removesuffix(AIM)
                         is_missed = float(number[1]) > float(number[2])
-                        found.append(Aimed(output, key(row, table.head), head.removesuffix(AIM), cell, is_missed))
-    return found
+                        found.pop(place, None)
+                        found[place] = Aimed(output, *place, cell, is_missed)
+    return list(found.values())
 
 
 def missed(outputs):
@@ -279,6 +281,10 @@ def self_test():
             wrong.append("a column that is nowhere is not seen")
         if [it.key for it in missed(outputs)] != [("get", "1")] or len(aimed(outputs)) != 2:
             wrong.append("the missed aim is not found alone")
+        older = pathlib.Path(room) / "2026-01-01-abc1233.txt"
+        older.write_text(PRINTED.replace("0.60-0.67", "0.60-0.97"))
+        if missed([output_of(older), *outputs]) != missed(outputs) or len(missed([output_of(older)])) != 2:
+            wrong.append("a missed aim of an older output counts")
         above = "<!-- bench missed -->\n<!-- end of bench missed -->\n"
         if "| get | 1 | to `slab` | 1.03 / 1.19 (0.9) |" not in written(above, document, outputs)[0]:
             wrong.append("the missed aim is not written")
