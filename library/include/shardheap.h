@@ -580,7 +580,8 @@ static inline uint32_t shardheap_untag(uint64_t number, uint64_t *key, uint32_t 
    1 KiB, and 8 KiB of these three. */
 
 /* Brings the pass home and empties the handle. The next caller that takes the pass has its holds. OWNS, with nothing
-   done, if it owns a shard. EMPTY. (OCCUPIED and MEMORY only if another handle's bytes were forged.)
+   done, if it owns a shard; in a growing heap it leaves its shards first, and may be refused as a leave is. EMPTY.
+   (OCCUPIED and MEMORY only if another handle's bytes were forged.)
 
        code = shardheap_give(&pass);
        if (code == SHARDHEAP_OWNS) code = shardheap_leave(&pass);    then it may be given */
