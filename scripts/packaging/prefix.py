@@ -12,6 +12,8 @@ TOP = pathlib.Path(__file__).resolve().parent.parent.parent
 TEMPLATES = TOP / "scripts/packaging"
 SONAME = "libshardheap.so.0"
 DOCUMENTS = "share/doc/libshardheap-dev"
+# The programs in C that a user may copy. Those in Rust are in the crate.
+EXAMPLES = ["session.c", "growing_table.c"]
 REGISTRY = "share/cargo/registry"
 BY_PATH = "share/shardheap/rust"
 
@@ -113,6 +115,9 @@ def documents(archive, made, prefix, lib, values):
     values = {**values, "KIT": record.said("rt", "version").split()[0]}
     values |= {"WITH": ", ".join(licensed), "WITHOUT": ", ".join(without)}
     shutil.copy(TOP / "CHANGELOG.md", folder)
+    (folder / "examples").mkdir()
+    for name in EXAMPLES:
+        shutil.copy(TOP / "library/c" / name, folder / "examples")
     (folder / "copyright").write_text(filled(TEMPLATES / "copyright.in", values))
     (folder / "README").write_text(filled(TEMPLATES / "README.in", values))
     (folder / "BUILD").write_text(build(archive, made, prefix, lib))

@@ -95,6 +95,10 @@ objdump -p $LIB/libshardheap.so | grep -q 'SONAME *libshardheap.so.0$'""",
     Row("C, shared, by pkg-config", f"{C} {FLAGS} -lpthread -o a\n./a\n{SHARED_ONE}",
         "sed -i 's|^libdir=.*|libdir=/nowhere|' $LIB/pkgconfig/shardheap.pc; rm $LIB/libshardheap.so",
         ("cc", "pkg-config")),
+    Row("C, the examples", f"""for it in session growing_table; do
+  cc -O2 $PREFIX/share/doc/libshardheap-dev/examples/$it.c {FLAGS} -lpthread -o a
+  ./a
+done""", "rm $PREFIX/share/doc/libshardheap-dev/examples/growing_table.c", ("cc", "pkg-config")),
     Row("C, static", f"{C} {STATIC} -o a\n./a\n{STATIC_ONE}", "objcopy -L shardheap_raw_load $LIB/libshardheap.a",
         ("cc", "pkg-config")),
     Row("C, static-pie", f"{C} -static-pie -fPIE {STATIC} -o a\n./a\nldd a > linked\nnot grep '=>' linked",
