@@ -1,5 +1,10 @@
 //! Passes that meet. Once two passes are joined, one of them can report for both. A pass that can report for all passes
 //! of its heap has the heap as a whole: the accounts of its pages, their sums, and its live keys.
+//!
+//! A join adds no step. The first pass takes over what the second knows: its log, its steps, and all that it had heard
+//! of. The second is gone then, so it steps no more. A pass that knows all passes of the heap is the only one left, and
+//! no word changes but by its own steps. So it may read one word after the other: the class and states of a page, and
+//! its stack, link by link.
 #![tactic(auto)]
 
 mod accounts;

@@ -2,6 +2,15 @@
 //!
 //! A key has the number of its chunk in bits 56 to 63. A caller has a member in each chunk that it has met, and each
 //! call on a key is the call of the member of the key's chunk.
+//!
+//! ```text
+//! chunk      0         1         2         3          each a pool of a heap of layout `Chunked`, in a cell that is
+//! cells   [ pool ]  [ pool ]  [ none ]  [ none ]      written once: two threads that open one chunk use the same
+//! caller    met       -                               its member, from the first call that needs the chunk on
+//! ```
+//!
+//! An insert tries the shards that its caller owns, then walks over the shards of the open chunks, and opens the next
+//! chunk at last.
 #![tactic(auto)]
 
 pub mod caller;

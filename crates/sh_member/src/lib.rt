@@ -5,6 +5,10 @@
 //! the shard that it owns: it adopts and leaves in place, as a handle needs which others hold by its address.
 //! `src/member` has a file for each kind of its calls.
 //!
+//! A member is an enum with a variant for each of the two. A call that needs a shard is `NoShard` if it owns none.
+//! Adopt and leave move the pass out of the place, and put back what it became, or the pass as it was if the call is
+//! refused.
+//!
 //! ```text
 //! fetch = get, read, release      take = get, read, remove, release      with = get, read, your closure, release
 //! ```

@@ -1,5 +1,15 @@
 //! What a pass does with one slot: what its hand holds, what a step on the slot's state word means to it, and what a
 //! step replies.
+//!
+//! Each function takes the word that a step found, and returns what that means to the pass:
+//!
+//! ```text
+//! get finds       live, in the key's generation, with room   ->  a hold
+//!                 the same without room                      ->  Crowded, and the hand leaves the slot
+//!                 any other word                             ->  Gone, and the hand leaves the slot
+//! drop finds      marked, with a count of 1                  ->  the hand finishes the slot
+//!                 any other word                             ->  nothing is left to do
+//! ```
 #![tactic(auto)]
 
 pub mod enter;

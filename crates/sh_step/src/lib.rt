@@ -2,6 +2,14 @@
 //!
 //! An action is one operation on one word by one pass. There are 19 kinds; some have several forms, as a `Drop` of what
 //! the hand left and a `Drop` of a hold.
+//!
+//! ```text
+//! Move::of      action, part       ->  the move, if the action's condition holds of the part
+//! Move::step    move               ->  the place of one word, and the operation on it
+//! Part::apply   move, word found   ->  the part after the step, and the reply
+//! ```
+//!
+//! Other threads may step between these calls. None of the three looks at a word but the one that the operation found.
 #![tactic(auto)]
 
 pub mod action;
