@@ -1,4 +1,4 @@
--- A heap of any layout.
+-- A heap of any layout: its layout is chosen as it is opened, and a contract sees which one it is.
 use Rattle.std.specs.Prelude.{◌≡◌, ℕ, Result, Ok, Err}
 use Rattle.sh_key.specs.Layout.{Layout}
 use Rattle.sh_key.specs.Layouts.{tiny, wide, tagged, deep}

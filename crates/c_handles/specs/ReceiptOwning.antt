@@ -1,4 +1,4 @@
--- What a receipt's slot owns.
+-- What the slot of a receipt's handle owns: the box of its value, or nothing.
 use base.Fml.{Fml}
 use base.Stored.{Coded}
 use denote.RawPtr.{Ptr}

@@ -1,4 +1,4 @@
--- All passes in one thread.
+-- A run in one thread: each line's pass heeds the receipt of the line before, so the last receipt has all entries.
 use Rattle.std.specs.Prelude.{◌≡◌, ℕ, ◌≤◌, true, List, [], Option, Some, None, slice_get, length, take}
 use Rattle.sh_script.specs.declared.calls.CallLine.{CallLine}
 use Rattle.script_output.specs.declared.answer.Answer.{Answer}

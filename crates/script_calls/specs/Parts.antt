@@ -1,4 +1,4 @@
--- What is known of a pass of a heap.
+-- What a run of calls sees of each pass: its heap and number, its own part, the passes that it took in, what it heard.
 use Rattle.std.specs.Prelude.{◌≡◌, ℕ, zero, suc, ◌==◌, nat_lt, not, Bool, false, List, [], ◌∷◌, ◌++◌}
 use Rattle.std.specs.Prelude.{Option, Some, None}
 use Rattle.std.specs.List.{AllZip}

@@ -1,4 +1,4 @@
--- Receipts, as a run of calls sees them.
+-- Receipts, as a run of calls sees them: what one contains, and what a pass knows after it heeded one.
 use Rattle.std.specs.Prelude.{◌≡◌, ℕ, List, ◌∷◌, ◌++◌, ◌⊎◌, map, length, Option, Some}
 use Rattle.sh_pass.specs.Heard.{Heard}
 use Rattle.sh_pass.specs.Order.{Order}

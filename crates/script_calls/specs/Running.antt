@@ -1,4 +1,4 @@
--- Passes of the running heap, as a run of calls sees them.
+-- Passes and owners of the running heap, and members, which are either, as a run of calls sees them.
 use Rattle.std.specs.Prelude.{map, Some, None}
 use Rattle.sh_key.specs.Layout.{Layout}
 use Rattle.sh_pass.specs.Told.{Told}

@@ -1,4 +1,4 @@
--- What comes of a state.
+-- States of a walk over orders: which two are alike, which lines are left, and what a pass's next line makes of one.
 use Rattle.std.specs.Prelude.{ℕ, ◌≡◌, ◌+◌, ◌-◌, ◌^◌, min, ◌++◌, List, [], ◌∷◌, Some, None, length, slice_get, slice_set}
 use Rattle.std.specs.List.{flat_map, range_with_len}
 use Rattle.sh_step.specs.declared.action.Event.{Event}

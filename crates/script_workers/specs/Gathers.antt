@@ -1,4 +1,4 @@
--- Workers that have ended.
+-- Workers that have ended: passes of the heap in the order of their numbers, each with all of its calls.
 use Rattle.std.specs.Prelude.{◌≡◌, ℕ, List, Option, Some, slice_get, length}
 use Rattle.sh_script.specs.declared.calls.CallLine.{CallLine}
 use Rattle.script_calls.specs.Parts.{RunTerms, SeenPass, new_part}

@@ -1,4 +1,4 @@
--- What a handle promises.
+-- Which worker was started: one that has ended here, or the one that its thread's handle promises.
 use Rattle.std.specs.Prelude.{ℕ}
 use Rattle.script_workers.specs.declared.run.Started.{Started}
 use Rattle.script_workers.specs.declared.run.Started.TheVariants.{Here, There}

@@ -1,4 +1,4 @@
--- What is true of a worker.
+-- What a worker did: the calls of its pass's own lines, in order, each after the insert of the key that it names.
 use Rattle.std.specs.Prelude.{◌≡◌, ℕ, ◌==◌, cond, Bool, List, [], ◌∷◌, length, Option}
 use Rattle.sh_script.specs.declared.calls.Call.{Call}
 use Rattle.sh_script.specs.declared.calls.CallLine.{CallLine}

@@ -1,4 +1,5 @@
--- Whole accounts.
+-- The heap as a whole: a pass whose tale names all passes, the accounts that it finds of a page, and how a join adds up
+-- what two passes know.
 use Rattle.std.specs.Prelude.{◌≡◌, ℕ, ◌+◌, ◌≤◌, List, [], ◌∷◌, ◌++◌, length, drop, count_by, Option, None}
 use Rattle.sh_word.specs.Fields.{Fields}
 use Rattle.sh_key.specs.Layout.{Layout}

@@ -1,4 +1,4 @@
--- Growing heaps.
+-- How a growing heap is opened, which shape each of its chunks has, and how a further chunk is opened.
 use Rattle.std.specs.Prelude.{◌≡◌, ◌==◌, ℕ, ◌<◌, ◌≤◌, ◌⊎◌, if◌then◌else◌, Result, Ok, Err, length}
 use Rattle.sh_shape.specs.Rooms.{IsLeastRoomy, NoneRoomy}
 use Rattle.sh_shape.specs.Shape.{Numbers}

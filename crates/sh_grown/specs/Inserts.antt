@@ -1,4 +1,4 @@
--- What inserts do over the chunks.
+-- What an insert of a caller does over the chunks: the member of one chunk stores the value, or it is refused by each.
 use Rattle.std.specs.Prelude.{◌≡◌, ℕ, ◌<◌, ◌⊎◌, List, Option, Some, None, Result, Ok, Err, IsSome, get_or, length}
 use Rattle.std.specs.Prelude.{slice_set}
 use Rattle.sh_chunk.specs.Chunks.{chunked, chunk_of, key_within}

@@ -1,4 +1,4 @@
--- Growing heaps as wholes.
+-- What is reported of all chunks of a growing heap: which are open, and what their gathers and totals add up to.
 use Rattle.std.specs.Prelude.{◌≡◌, ℕ, zero, suc, ◌+◌, ◌<◌, ◌⊎◌, IfSome, Result, Ok, Err, length, slice_get}
 use Rattle.once_cell.specs.Once.{cell_name}
 use Rattle.sh_pass.specs.Seats.{Heap}

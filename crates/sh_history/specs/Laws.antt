@@ -1,4 +1,4 @@
--- What each legal history keeps.
+-- What follows if a history is legal: of a key's value, of its removal, and of how often each pass released it.
 use Rattle.std.specs.Prelude.{◌≡◌, ℕ, ◌≤◌, ◌↔◌, true, List, Some, count_by}
 use Rattle.std.specs.List.{Contains}
 use Rattle.sh_history.specs.declared.entry.Entry.{Entry}

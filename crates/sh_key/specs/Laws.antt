@@ -1,4 +1,4 @@
--- The laws of packing.
+-- The laws of packing: parts in range and keys are one to one, and the keys are consecutive numbers.
 use Rattle.std.specs.Prelude.{◌≡◌, ℕ, ◌+◌, ◌^◌, ◌<◌, ◌≤◌, ◌↔◌, Some, IsSome}
 use Rattle.sh_key.specs.declared.parts.Parts.{Parts}
 use Rattle.sh_key.specs.Layout.{Layout, IsInRange, IsKeyOf, packed, unpacked, first_key, key_count}

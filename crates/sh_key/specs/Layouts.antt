@@ -1,4 +1,4 @@
--- The layouts by name.
+-- The layouts by name, each by its four numbers, which are within the limits.
 use Rattle.std.proofs.Common.{arith, lit<, refl}
 use Rattle.sh_key.specs.Layout.{Layout, HasNumbers}
 

@@ -1,4 +1,4 @@
--- Lists of numbers that differ.
+-- Lists of numbers in which none occurs twice, as the lists of a page's free slots are.
 use Rattle.std.specs.Prelude.{◌≢◌, ℕ, zero, suc, ◌<◌, List, [], ◌∷◌}
 
 -- x is none of the numbers

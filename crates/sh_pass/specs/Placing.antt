@@ -1,4 +1,4 @@
--- The place of a key.
+-- The place that a key names, as far as the number of pages of a shard decides it.
 use Rattle.std.specs.Prelude.{◌≡◌, ◌≢◌, ℕ, Some, None}
 use Rattle.sh_key.specs.Layout.{Layout}
 use Rattle.sh_shape.specs.Shape.{Numbers}

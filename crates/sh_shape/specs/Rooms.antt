@@ -1,4 +1,4 @@
--- Shapes with room for values.
+-- Shapes with room for values: which shape has the room, which is the least, and when there is none.
 use Rattle.std.specs.Prelude.{◌≡◌, ℕ, ◌*◌, ◌≤◌, Some}
 use Rattle.sh_key.specs.Layout.{Layout}
 use Rattle.sh_shape.specs.Classes.{class_of, slots}

@@ -1,4 +1,4 @@
--- Records in a store.
+-- Records in a store: which record a value is, and what the calls on records leave in the store's book.
 use Rattle.std.specs.Prelude.{◌≡◌, ◌⊎◌, ℕ, ◌<◌, ◌==◌, if◌then◌else◌, List, [], ◌∷◌, ◌++◌, map, Result, Ok, Err, Option}
 use Rattle.std.specs.Prelude.{Some, None}
 use Rattle.sh_value.specs.declared.hold.Hold.{Hold}
