@@ -13,7 +13,6 @@ use Rattle.sh_core.specs.Event.{Event}
 use Rattle.sh_core.specs.Body.{Body}
 use Rattle.sh_core.specs.Footstep.{Footstep}
 use Rattle.sh_core.specs.Move.{Move}
-use Rattle.sh_core.specs.Move.TheVariants as move
 use Rattle.sh_core.specs.Collections.{if1}
 use Rattle.sh_core.specs.Conditions.{May, action_of}
 use Rattle.sh_core.specs.Footsteps.{footstep_of, puts}

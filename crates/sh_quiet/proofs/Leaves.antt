@@ -6,7 +6,7 @@ use Rattle.sh_core.specs.Shape.{Numbers, IsShape, Fits}
 use Rattle.sh_core.specs.Hand.TheVariants.{Idle}
 use Rattle.sh_core.specs.Event.{Event}
 use Rattle.sh_core.specs.Body.{Body}
-use Rattle.sh_core.specs.Footsteps.{takes, bell_takes, met, bell_met, puts, arms}
+use Rattle.sh_core.specs.Footsteps.{takes, bell_takes, met, bell_met, puts}
 use Rattle.sh_core.specs.Plans.{Plan, plan_of, home}
 use Rattle.sh_core.specs.Rows.{own}
 use Rattle.sh_core.proofs.PartTests.{owns_is}
