@@ -47,7 +47,7 @@ one_kept (x ∷ xs) zero place kept = first_kept x xs place kept
 one_kept (x ∷ xs) (suc i) place kept = later_kept x xs i place (one_kept xs i place kept)
 
 -- what was found at a place is what is there, or it is past the end
-place_found : (xs : List (Option Met)) (i : ℕ) (found place : Option Met) → found ≡ get_or xs i found
+pub place_found : (xs : List (Option Met)) (i : ℕ) (found place : Option Met) → found ≡ get_or xs i found
     → KeepsMember found place → KeepsMember (get_or xs i None) place
 place_found [] i found place is kept = tt
 place_found (x ∷ xs) zero found place is kept = subst (λ o. KeepsMember o place) is kept
