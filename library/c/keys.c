@@ -17,7 +17,9 @@ static void fills(shardheap_pass *owner, shardheap_pass *other, uint64_t shard) 
     IS(shardheap_leave(owner), SHARDHEAP_OK);
 }
 
-static uint32_t next_of_heap(void *heap, uint64_t *place, uint64_t *key) { return shardheap_next_key(heap, place, key); }
+static uint32_t next_of_heap(void *heap, uint64_t *place, uint64_t *key) {
+    return shardheap_next_key(heap, place, key);
+}
 
 static void keys_of(uint32_t layout) {
     shardheap heap = SHARDHEAP_INIT;

@@ -50,8 +50,8 @@ private:
 };
 static_assert(sizeof(loaded) == sizeof(shardheap_loaded), "a batch is a batch of the library");
 
-/// What a pass, a shard and a caller have in common: any key may be held, read, removed and taken. A function that takes
-/// a `reader &` takes each of them. The refusals of all calls here include errc::empty.
+/// What a pass, a shard and a caller have in common: any key may be held, read, removed and taken. A function that
+/// takes a `reader &` takes each of them. The refusals of all calls here include errc::empty.
 class reader {
 public:
     reader(const reader &) = delete;
