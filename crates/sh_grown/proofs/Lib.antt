@@ -1,6 +1,7 @@
 pub mod Claims
 pub mod Full
 pub mod Keeping
+pub mod OfChunks
 pub mod Places
 pub mod Refusals
 pub mod Shapes

@@ -3,6 +3,7 @@ pub mod ChunkShapes
 pub mod Growing
 pub mod Inserts
 pub mod Keeping
+pub mod OfChunks
 pub mod Refusals
 pub mod Shares
 pub mod Sums

@@ -329,6 +329,7 @@ pub(crate) fn leave_at(place: &mut Option<Met>) -> Result<(), Refusal>
     ensures err { IfErr result (λ why. why ≡ Waiting) }
     ensures waits { OnErr result (WaitsThere place.old place.new) }
     ensures there { IsSome place.old → IsSome place.new }
+    ensures unmet { IsSome place.new → IsSome place.old }
     ensures keeps { KeepsMember place.old place.new }
 {
     let Some(met) = place else {
