@@ -1,5 +1,6 @@
 pub mod Claims
 pub mod Full
+pub mod Heeding
 pub mod Keeping
 pub mod OfChunks
 pub mod Places

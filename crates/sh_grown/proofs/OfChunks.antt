@@ -9,13 +9,16 @@ use Rattle.sh_value.specs.declared.refusal.Refusal.{Refusal}
 use Rattle.sh_pass.specs.Passes.{Caller}
 use Rattle.sh_pass.specs.Seats.{Heap}
 use Rattle.sh_member.specs.declared.member.Side.TheVariants.{Pass, Shard, Moving}
-use Rattle.sh_member.specs.Sides.{SeenSide, SideDoes}
+use Rattle.sh_member.specs.Shards.{Sharded}
+use Rattle.sh_member.specs.Sides.{SeenSide, SideDoes, SideHeeds}
 use Rattle.sh_grown.specs.declared.growing.Growing.{Growing}
 use Rattle.sh_grown.specs.declared.met.Met.{Met}
+use Rattle.sh_grown.specs.declared.receipts.ChunkReceipt.{ChunkReceipt}
 use Rattle.sh_grown.specs.Callers.{IsClaimed, IsNewcomer, IsPooled, MetDoes}
 use Rattle.sh_grown.specs.Inserts.{InsertsIn}
 use Rattle.sh_grown.specs.Keeping.{KeepsMember, SamePlace}
 use Rattle.sh_grown.specs.OfChunks.{AreOfChunks, IsOfChunk, heap_by, heap_of}
+use Rattle.sh_grown.specs.Receipts.{HeedsAt}
 
 -- ---- in a list
 
@@ -73,6 +76,15 @@ insert_keeps value (Shard o) Moving (Err why) h = absurd h
 insert_keeps value Moving b (Ok key) h = absurd h
 insert_keeps value Moving b (Err why) h = absurd h
 
+heed_keeps : (r : Caller) (a b : SeenSide) → SideHeeds chunked r a b → heap_by b ≡ heap_by a
+heed_keeps r (Pass v) (Pass w) h = ap (λ (c : Caller). Some c.heap) h.0
+heed_keeps r (Pass v) (Shard n) h = absurd h
+heed_keeps r (Pass v) Moving h = absurd h
+heed_keeps r (Shard o) (Shard n) h = ap (λ (s : Sharded). Some s.pages.owner.heap) h.0
+heed_keeps r (Shard o) (Pass w) h = absurd h
+heed_keeps r (Shard o) Moving h = absurd h
+heed_keeps r Moving b h = absurd h
+
 -- ---- of what a caller has in a chunk
 
 same_chunk : (growing : Growing) (chunk : ℕ) (m n : Met) → IsOfChunk growing chunk m
@@ -110,6 +122,13 @@ place_keeps growing chunk (Some m) None was kept is = absurd kept
 place_keeps growing chunk None (Some n) was kept is = absurd (let e = was refl in cc)
 place_keeps growing chunk None None was kept is = is
 
+heeder_keeps : (given : ChunkReceipt) (growing : Growing) (chunk : ℕ) (a b : Option Met) → HeedsAt given a b
+    → ForSome a (λ m. IsOfChunk growing chunk m) → ForSome b (λ m. IsOfChunk growing chunk m)
+heeder_keeps given growing chunk (Some m) (Some n) h is =
+    still_of growing chunk m n (heed_keeps given.receipt m.member n.member h.0) h.1 is
+heeder_keeps given growing chunk (Some m) None h is = absurd h
+heeder_keeps given growing chunk None b h is = absurd h
+
 pooled_is : (growing : Growing) (heap : Heap) (number chunk : ℕ) (m : Met) → IsPooled heap number m
     → m.note.known ≡ Some heap → IfSome (slice_get growing.cells.items chunk) (λ c. m.note.cell ≡ cell_name c)
     → IsOfChunk growing chunk m
@@ -141,6 +160,13 @@ pub inserts_of : (value : List ℕ) (growing : Growing) (xs : List (Option Met))
 inserts_of value growing xs i found place answer all is h =
     each_kept (λ k m. IsOfChunk growing k m) xs i found place all is
     (inserts_keeps value growing i found place answer h)
+
+-- after it heeded a receipt
+pub heeds_of : (given : ChunkReceipt) (growing : Growing) (xs : List (Option Met)) (i : ℕ) (found place : Option Met)
+    → AreOfChunks growing xs → found ≡ get_or xs i found → HeedsAt given found place
+    → AreOfChunks growing (slice_set xs i place)
+heeds_of given growing xs i found place all is h =
+    each_kept (λ k m. IsOfChunk growing k m) xs i found place all is (heeder_keeps given growing i found place h)
 
 -- after a call that keeps what the caller has there
 pub keeps_of : (growing : Growing) (xs : List (Option Met)) (i : ℕ) (found place : Option Met)

@@ -4,6 +4,7 @@ pub mod Growing
 pub mod Inserts
 pub mod Keeping
 pub mod OfChunks
+pub mod Receipts
 pub mod Refusals
 pub mod Shares
 pub mod Sums
