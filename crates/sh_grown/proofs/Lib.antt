@@ -1,3 +1,4 @@
+pub mod CallSteps
 pub mod Claims
 pub mod Full
 pub mod Heeding
@@ -6,5 +7,6 @@ pub mod OfChunks
 pub mod Places
 pub mod Refusals
 pub mod Shapes
+pub mod Stepping
 pub mod Sums
 pub mod Wholes

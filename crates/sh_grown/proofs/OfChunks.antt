@@ -63,7 +63,7 @@ side_keeps does (Shard o) (Pass w) answer h = absurd h
 side_keeps does (Shard o) Moving answer h = absurd h
 side_keeps does Moving b answer h = absurd h
 
-insert_keeps : (value : List ℕ) (a b : SeenSide) (answer : Result ℕ Refusal) → InsertsIn value a answer b
+pub insert_keeps : (value : List ℕ) (a b : SeenSide) (answer : Result ℕ Refusal) → InsertsIn value a answer b
     → heap_by b ≡ heap_by a
 insert_keeps value (Pass v) b (Ok key) h = ap heap_by h.1
 insert_keeps value (Pass v) b (Err why) h = ap heap_by h.1

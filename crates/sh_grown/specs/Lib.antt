@@ -7,6 +7,7 @@ pub mod OfChunks
 pub mod Receipts
 pub mod Refusals
 pub mod Shares
+pub mod Steps
 pub mod Sums
 pub mod Wholes
 pub use Rattle.sh_chunk.specs.Chunks
