@@ -1,5 +1,6 @@
 // How a caller inserts: over the chunks, and at last into a new one.
-ghost use Rattle.std.specs.Prelude.{◌≡◌, ℕ, ◌⊎◌, IfErr, IfOk, IfSome, List, None, OnErr, OnOk, get_or, length};
+ghost use Rattle.std.specs.Prelude.{◌≡◌, ◌≤◌, ◌-◌, ℕ, ◌⊎◌, IfErr, IfOk, IfSome, List, None, OnErr, OnOk, get_or};
+ghost use Rattle.std.specs.Prelude.{length};
 ghost use Rattle.sh_value.specs.declared.refusal.Refusal.TheVariants.{Memory};
 ghost use Rattle.sh_chunk.specs.Chunks.{chunk_of};
 ghost use Rattle.sh_grown.specs.Callers.{Stays, WhyWithout};
@@ -7,6 +8,8 @@ ghost use Rattle.sh_grown.specs.Inserts.{InsertsInChunk, InsertTakesInChunk, Col
 ghost use Rattle.sh_grown.specs.Inserts.{HasMet, OnNone, unless_memory};
 ghost use Rattle.sh_grown.specs.Keeping.{KeepsMembers};
 ghost use Rattle.sh_grown.specs.Refusals.{ChunkRefused, OwnsThere, RangeRefused, RefusedIn};
+ghost use Rattle.sh_grown.specs.Steps.{TakesIn, collect_most, insert_most, move_most, range_most, shard_most};
+ghost use Rattle.sh_grown.specs.Steps.{walk_most};
 
 use crate::caller::Caller;
 use crate::met::{collect_at, insert_at, meet, move_to, shards_at};
@@ -55,6 +58,7 @@ impl Caller {
     pub fn insert_in(&mut self, chunk: u8, value: &Value) -> Result<u64, Refusal>
         ensures inserts { InsertsInChunk value.now chunk self.old.met.items result self.new.met.items }
         ensures bounded { InsertTakesInChunk value.now chunk self.old.met.items self.new.met.items }
+        ensures steps { TakesIn chunk (insert_most (length value.now)) self.old self.new }
         ensures chunk { IfOk result (λ key. chunk_of key ≡ chunk) }
         ensures keeps { OnErr result (KeepsMembers self.old.met.items self.new.met.items) }
         ensures stays { Stays self.old self.new }
@@ -69,6 +73,7 @@ impl Caller {
     /// The caller's logs and holds stay as they were.
     pub fn collect_in(&mut self, chunk: u8) -> Result<(), Refusal>
         ensures collects { CollectsInChunk chunk self.old.met.items result self.new.met.items }
+        ensures steps { TakesIn chunk collect_most self.old self.new }
         ensures keeps { KeepsMembers self.old.met.items self.new.met.items }
         ensures stays { Stays self.old self.new }
     {
@@ -96,6 +101,7 @@ impl Caller {
         ensures tries { TriesInsert value.now self.old.met.items result self.new.met.items }
         ensures refused { OnNone result ((shard : ℕ) → OwnsThere shard (get_or self.old.met.items chunk None)
             → RefusedIn value.now chunk shard self.old.met.items self.new.met.items) }
+        ensures steps { TakesIn chunk (insert_most (length value.now)) self.old self.new }
         ensures stays { Stays self.old self.new }
     {
         match self.insert_in(chunk, value) {
@@ -219,6 +225,7 @@ impl Caller {
         requires { HasMet self.old.met.items chunk }
         ensures tries { TriesInsert value.now self.old.met.items result self.new.met.items }
         ensures refused { OnNone result (ChunkRefused value.now chunk self.old.met.items self.new.met.items) }
+        ensures steps { TakesIn chunk (walk_most (length value.now)) self.old self.new }
         ensures stays { Stays self.old self.new }
     {
         let shards = self.shards_in(chunk);
@@ -242,6 +249,7 @@ impl Caller {
         ensures tries { TriesInsert value.now self.old.met.items result self.new.met.items }
         ensures refused { OnNone result
             (RangeRefused value.now chunk from to self.old.met.items self.new.met.items) }
+        ensures steps { TakesIn chunk (range_most (length value.now) (to - from)) self.old self.new }
         ensures stays { Stays self.old self.new }
     {
         for shard in from..to {
@@ -266,6 +274,7 @@ impl Caller {
         ensures tries { TriesInsert value.now self.old.met.items result self.new.met.items }
         ensures refused { OnNone result
             (RefusedIn value.now chunk shard self.old.met.items self.new.met.items) }
+        ensures steps { TakesIn chunk (shard_most (length value.now)) self.old self.new }
         ensures stays { Stays self.old self.new }
     {
         match self.move_in(alloc, chunk, shard) {
@@ -281,6 +290,7 @@ impl Caller {
         ensures owns { OnOk result (OwnsThere shard (get_or self.new.met.items chunk None)) }
         ensures refused { IfErr result (λ why. (why ≡ Memory)
             ⊎ ((value : List ℕ) → RefusedIn value chunk shard self.old.met.items self.new.met.items)) }
+        ensures steps { TakesIn chunk move_most self.old self.new }
         ensures keeps { KeepsMembers self.old.met.items self.new.met.items }
         ensures stays { Stays self.old self.new }
     {
@@ -329,7 +339,9 @@ impl Caller {
 
     // Which of this many shards of a chunk it tries first. In the chunk of its last walk that is the one behind the
     // shard with room, and elsewhere that of its own number.
-    fn first_shard(&self, chunk: u8, shards: usize) -> usize {
+    fn first_shard(&self, chunk: u8, shards: usize) -> usize
+        ensures few { result ≤ shards }
+    {
         if shards == 0 {
             return 0;
         }
