@@ -1,9 +1,9 @@
 // How a caller inserts: over the chunks, and at last into a new one.
-ghost use Rattle.std.specs.Prelude.{◌≡◌, ◌≤◌, ◌-◌, ℕ, ◌⊎◌, IfErr, IfOk, IfSome, List, None, OnErr, OnOk, get_or};
-ghost use Rattle.std.specs.Prelude.{length};
+ghost use Rattle.std.specs.Prelude.{◌≡◌, ◌≤◌, ◌-◌, ℕ, ◌⊎◌, IfErr, IfOk, IfSome, List, MatchResult, None, OnErr, OnOk};
+ghost use Rattle.std.specs.Prelude.{get_or, length};
 ghost use Rattle.sh_value.specs.declared.refusal.Refusal.TheVariants.{Memory};
 ghost use Rattle.sh_chunk.specs.Chunks.{chunk_of};
-ghost use Rattle.sh_grown.specs.Callers.{Stays, WhyWithout};
+ghost use Rattle.sh_grown.specs.Callers.{Meets, Stays, WhyWithout};
 ghost use Rattle.sh_grown.specs.Inserts.{InsertsInChunk, InsertTakesInChunk, CollectsInChunk, Inserts, TriesInsert};
 ghost use Rattle.sh_grown.specs.Inserts.{HasMet, OnNone, unless_memory};
 ghost use Rattle.sh_grown.specs.Keeping.{KeepsMembers};
@@ -303,6 +303,9 @@ impl Caller {
     #[inline(never)]
     fn meet_opened(&mut self, alloc: Global, chunk: u8) -> Result<(), Refusal>
         ensures met { OnOk result (HasMet self.new.met.items chunk) }
+        ensures meets { MatchResult result
+            (λ _. Meets self.old.growing self.old.number chunk self.old.met.items self.new.met.items)
+            (λ _. self.new.met.items ≡ self.old.met.items) }
         ensures err { IfErr result WhyWithout }
         ensures keeps { KeepsMembers self.old.met.items self.new.met.items }
         ensures stays { Stays self.old self.new }
