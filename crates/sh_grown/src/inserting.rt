@@ -8,7 +8,8 @@ ghost use Rattle.sh_grown.specs.Inserts.{InsertsInChunk, InsertTakesInChunk, Col
 ghost use Rattle.sh_grown.specs.Inserts.{HasMet, OnNone, unless_memory};
 ghost use Rattle.sh_grown.specs.Keeping.{KeepsMembers};
 ghost use Rattle.sh_grown.specs.Refusals.{ChunkRefused, OwnsThere, RangeRefused, RefusedIn};
-ghost use Rattle.sh_grown.specs.Steps.{TakesIn, collect_most, insert_most, move_most, range_most, shard_most};
+ghost use Rattle.sh_grown.specs.Steps.{TakesEach, TakesIn, TakesInAll, again_most, chunk_most, collect_most};
+ghost use Rattle.sh_grown.specs.Steps.{insert_most, move_most, open_most, own_most, range_most, shard_most};
 ghost use Rattle.sh_grown.specs.Steps.{walk_most};
 
 use crate::caller::Caller;
@@ -40,10 +41,14 @@ impl Caller {
     /// `Memory` if memory was refused to a shard, an adoption or a new chunk. `Taken` comes if the caller's pass is not
     /// in a chunk's pool, which no caller brings about. A refused insert adds nothing to the caller's logs, and leaves
     /// its holds as they were.
+    ///
+    /// In each chunk it takes at most the steps of three inserts and a collect there. For each shard of the chunk it
+    /// takes at most those of two leaves, two adoptions and two inserts besides.
     #[tactic(auto, using(crate::proofs::Keeping::inserts_then))]
     pub fn insert(&mut self, alloc: Global, value: &Value) -> Result<u64, Refusal>
         ensures inserts { Inserts (length self.old.growing.cells.items) value.now self.old.met.items result
             self.new.met.items }
+        ensures steps { TakesInAll (chunk_most (length value.now)) self.old self.new }
         ensures stays { Stays self.old self.new }
     {
         let found = self.try_open(alloc, value)?;
@@ -117,6 +122,7 @@ impl Caller {
     #[tactic(auto, using(crate::proofs::Keeping::tries_then))]
     fn try_met(&mut self, value: &Value) -> Result<Option<u64>, Refusal>
         ensures tries { TriesInsert value.now self.old.met.items result self.new.met.items }
+        ensures steps { TakesEach (own_most (length value.now)) self.old self.new }
         ensures stays { Stays self.old self.new }
     {
         let front = self.try_in(self.front, value)?;
@@ -135,6 +141,7 @@ impl Caller {
     #[tactic(auto, using(crate::proofs::Keeping::tries_then))]
     fn try_collected(&mut self, value: &Value) -> Result<Option<u64>, Refusal>
         ensures tries { TriesInsert value.now self.old.met.items result self.new.met.items }
+        ensures steps { TakesEach (again_most (length value.now)) self.old self.new }
         ensures stays { Stays self.old self.new }
     {
         if self.collect_in(self.front).is_err() {
@@ -147,12 +154,12 @@ impl Caller {
     #[inline(never)]
     fn try_own(&mut self, value: &Value) -> Result<Option<u64>, Refusal>
         ensures tries { TriesInsert value.now self.old.met.items result self.new.met.items }
+        ensures steps { TakesEach (insert_most (length value.now)) self.old self.new }
         ensures stays { Stays self.old self.new }
     {
         for number in 0..self.growing.chunks_allowed() {
-            let found = self.try_in(number as u8, value)?;
-            if found.is_some() {
-                return Ok(found);
+            if let Some(found) = self.try_in(number as u8, value)? {
+                return Ok(Some(found));
             }
         }
         Ok(None)
@@ -163,6 +170,7 @@ impl Caller {
     #[tactic(auto, using(crate::proofs::Keeping::tries_then))]
     fn try_open(&mut self, alloc: Global, value: &Value) -> Result<Option<u64>, Refusal>
         ensures tries { TriesInsert value.now self.old.met.items result self.new.met.items }
+        ensures steps { TakesEach (open_most (length value.now)) self.old self.new }
         ensures stays { Stays self.old self.new }
     {
         let own = self.try_met(value)?;
@@ -179,6 +187,7 @@ impl Caller {
     #[tactic(auto, using(crate::proofs::Keeping::keeps_then, crate::proofs::Keeping::tries_then))]
     fn try_later(&mut self, alloc: Global, value: &Value) -> Result<Option<u64>, Refusal>
         ensures tries { TriesInsert value.now self.old.met.items result self.new.met.items }
+        ensures steps { TakesEach (walk_most (length value.now)) self.old self.new }
         ensures stays { Stays self.old self.new }
     {
         let walked = self.walked as usize;
@@ -187,9 +196,8 @@ impl Caller {
             let Ok(()) = self.meet(chunk as usize) else {
                 return Ok(None);
             };
-            let found = self.try_shards(alloc, chunk, value)?;
-            if found.is_some() {
-                return Ok(found);
+            if let Some(found) = self.try_shards(alloc, chunk, value)? {
+                return Ok(Some(found));
             }
         }
         Ok(None)
@@ -201,6 +209,7 @@ impl Caller {
     fn insert_in_any(&mut self, alloc: Global, value: &Value) -> Result<u64, Refusal>
         ensures inserts { Inserts (length self.old.growing.cells.items) value.now self.old.met.items result
             self.new.met.items }
+        ensures steps { TakesEach (walk_most (length value.now)) self.old self.new }
         ensures stays { Stays self.old self.new }
     {
         for number in 0..self.growing.chunks_allowed() {
