@@ -11,6 +11,8 @@ use Rattle.sh_pass.specs.Seats.{Heap}
 use Rattle.sh_member.specs.declared.member.Side.TheVariants.{Pass, Shard, Moving}
 use Rattle.sh_member.specs.Shards.{Sharded}
 use Rattle.sh_member.specs.Sides.{SeenSide, SideDoes, SideHeeds}
+use Rattle.sh_grown.specs.ChunkShapes.{IsShaped}
+use Rattle.sh_grown.specs.Growing.{shape_in}
 use Rattle.sh_grown.specs.declared.growing.Growing.{Growing}
 use Rattle.sh_grown.specs.declared.met.Met.{Met}
 use Rattle.sh_grown.specs.declared.receipts.ChunkReceipt.{ChunkReceipt}
@@ -92,6 +94,9 @@ same_chunk : (growing : Growing) (chunk : ℕ) (m n : Met) → IsOfChunk growing
 same_chunk growing chunk m n is heap same = record {
   cell = λ c found. ap (λ t. t.cell) same.1 ∙ is.cell c found;
   heap = ap (λ t. t.known) same.1 ∙ (is.heap ∙ sym heap);
+  known = subst (λ (k : Option Heap). IsSome k) (sym (ap (λ t. t.known) same.1)) is.known;
+  shape = λ h found. is.shape h (sym (ap (λ t. t.known) same.1) ∙ found);
+  shards = same.2 ∙ is.shards;
 }
 
 still_of : (growing : Growing) (chunk : ℕ) (m n : Met) → heap_by n.member ≡ heap_by m.member → SamePlace m n
@@ -131,16 +136,20 @@ heeder_keeps given growing chunk None b h is = absurd h
 
 pooled_is : (growing : Growing) (heap : Heap) (number chunk : ℕ) (m : Met) → IsPooled heap number m
     → m.note.known ≡ Some heap → IfSome (slice_get growing.cells.items chunk) (λ c. m.note.cell ≡ cell_name c)
-    → IsOfChunk growing chunk m
-pooled_is growing heap number chunk m pooled seen cell = record {
+    → IsShaped heap.shape (shape_in growing chunk) → IsOfChunk growing chunk m
+pooled_is growing heap number chunk m pooled seen cell shape = record {
   cell = λ c found. subst (λ o. IfSome o (λ x. m.note.cell ≡ cell_name x)) found cell;
   heap = seen ∙ (ap Some (sym pooled.of) ∙ ap heap_by (sym pooled.member));
+  known = subst (λ (k : Option Heap). IsSome k) (sym seen) refl;
+  shape = λ h found.
+      in_some (λ (k : Heap). IsShaped k.shape (shape_in growing chunk)) heap shape h (sym seen ∙ found);
+  shards = pooled.shards ∙ shape.shards;
 }
 
 newcomer_is : (growing : Growing) (number chunk : ℕ) (m : Met) → IsNewcomer growing number chunk m
     → IsOfChunk growing chunk m
 newcomer_is growing number chunk m is =
-    pooled_is growing is.heap number chunk m is.pooled is.seen is.cell
+    pooled_is growing is.heap number chunk m is.pooled is.seen is.cell is.shape
 
 -- ---- of all that a caller has
 
@@ -179,10 +188,10 @@ keeps_of growing xs i found place all is was kept =
 pub meets_of : (growing : Growing) (heap : Heap) (number : ℕ) (xs : List (Option Met)) (i : ℕ) (m : Met)
     → AreOfChunks growing xs → IsPooled heap number m → m.note.known ≡ Some heap
     → IfSome (slice_get growing.cells.items i) (λ c. m.note.cell ≡ cell_name c)
-    → AreOfChunks growing (slice_set xs i (Some m))
-meets_of growing heap number xs i m all pooled seen cell =
+    → IsShaped heap.shape (shape_in growing i) → AreOfChunks growing (slice_set xs i (Some m))
+meets_of growing heap number xs i m all pooled seen cell shape =
     each_set (λ k n. IsOfChunk growing k n) xs i (Some m) all
-    (in_some (λ n. IsOfChunk growing i n) m (pooled_is growing heap number i m pooled seen cell))
+    (in_some (λ n. IsOfChunk growing i n) m (pooled_is growing heap number i m pooled seen cell shape))
 
 claimed_of : (growing : Growing) (number : ℕ) (members : List (Option Met)) → IsClaimed growing number members
     → (chunk : ℕ) → ForSome (get_or members chunk None) (λ m. IsOfChunk growing chunk m)

@@ -1,9 +1,11 @@
 -- Which chunk each member of a caller is of.
-use Rattle.std.specs.Prelude.{◌≡◌, ℕ, List, Option, Some, None, get_or, slice_get}
+use Rattle.std.specs.Prelude.{◌≡◌, ℕ, List, Option, Some, None, IsSome, get_or, slice_get}
 use Rattle.std.specs.Option.{ForSome}
 use Rattle.once_cell.specs.Once.{cell_name}
 use Rattle.sh_pass.specs.Seats.{Heap}
 use Rattle.sh_member.specs.Sides.{SeenSide}
+use Rattle.sh_grown.specs.ChunkShapes.{IsShaped}
+use Rattle.sh_grown.specs.Growing.{shape_in}
 use Rattle.sh_grown.specs.declared.growing.Growing.{Growing}
 use Rattle.sh_grown.specs.declared.met.Met.{Met}
 use Rattle.sh_grown.specs.Keeping.{Kept, kept_by}
@@ -20,10 +22,14 @@ heap_by m = heap_of (kept_by m)
 abbrev pub IsCellOf : Growing → (chunk cell : ℕ) → Type 0
 IsCellOf growing chunk cell = ForSome (slice_get growing.cells.items chunk) (λ c. cell ≡ cell_name c)
 
--- what a caller has in the chunk of this number: its note is of the chunk's cell, and knows the heap of its member
+-- what a caller has in the chunk of this number: its note is of the chunk's cell, and knows the heap of its member,
+-- which has the shape of that chunk
 pub record IsOfChunk (growing : Growing) (chunk : ℕ) (m : Met) : Type 0 where
   pub cell : IsCellOf growing chunk m.note.cell
   pub heap : m.note.known ≡ heap_by m.member
+  pub known : IsSome m.note.known
+  pub shape : ForSome m.note.known (λ h. IsShaped h.shape (shape_in growing chunk))
+  pub shards : m.shards ≡ (shape_in growing chunk).shards
 
 -- the same of each chunk that the caller has met
 abbrev pub AreOfChunks : Growing → List (Option Met) → Type 0
