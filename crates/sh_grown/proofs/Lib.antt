@@ -7,6 +7,7 @@ pub mod OfChunks
 pub mod Places
 pub mod Refusals
 pub mod Shapes
+pub mod StepSums
 pub mod Stepping
 pub mod Sums
 pub mod Wholes

@@ -1,22 +1,21 @@
--- How many steps are taken at most: over several calls, over the chunks, and in all.
-use Rattle.std.proofs.Common.{◌≡◌, ◌≢◌, ℕ, zero, suc, ◌+◌, ◌-◌, ◌*◌, ◌<◌, ◌≤◌, List, [], ◌∷◌, Option, Some, None}
-use Rattle.std.proofs.Common.{length, refl, inl, inr, ⊎_elim, ap, arith, below_more, get_or, subst, sym, ◌∙◌}
+-- How many steps are taken at most over several calls, and over the chunks.
+use Rattle.std.proofs.Common.{◌≡◌, ◌≢◌, ℕ, zero, suc, ◌+◌, ◌*◌, ◌<◌, ◌≤◌, List, [], ◌∷◌, Option, Some, None}
+use Rattle.std.proofs.Common.{refl, inl, inr, ⊎_elim, ap, arith, below_more, get_or, subst, sym, ◌∙◌}
 use Rattle.std.specs.Prelude.{Result, Ok, Err, IfSome, IsSome, MatchResult, slice_set}
 use Rattle.std.proofs.Math.Nat.{add-mul, mul-le-mul_right}
 use Rattle.std.proofs.lemmas.Bool.{cases_eq, cases_lt}
 use Rattle.std.proofs.lemmas.List.{get_or-set_other}
 use Rattle.sh_value.specs.declared.refusal.Refusal.{Refusal}
 use Rattle.sh_pass.specs.Seats.{Heap}
-use Rattle.sh_member.specs.Pages.{sum_below}
 use Rattle.sh_grown.specs.declared.growing.Growing.{Growing}
 use Rattle.sh_grown.specs.declared.met.Met.{Met}
 use Rattle.sh_grown.specs.declared.caller.Caller.{Caller as SeenCaller}
 use Rattle.sh_grown.specs.Callers.{IsNewcomer, Meets, Stays, WhyUnmet}
 use Rattle.sh_grown.specs.Inserts.{HasMet}
 use Rattle.sh_grown.specs.OfChunks.{heap_by}
-use Rattle.sh_grown.specs.Steps.{StepsThere, TakesBelow, TakesEach, TakesIn, TakesInAll, Took, TookAt}
-use Rattle.sh_grown.specs.Steps.{TookEach, TookFrom, TookInOne, bound_at, bound_in, no_steps, pages_by}
-use Rattle.sh_grown.specs.Steps.{pages_in, range_most, shard_most, steps_by, walk_most}
+use Rattle.sh_grown.specs.Steps.{TakesBelow, TakesEach, TakesIn, Took, TookAt, TookEach, TookFrom}
+use Rattle.sh_grown.specs.Steps.{TookInOne, bound_at, no_steps, pages_by, pages_in, range_most, shard_most, steps_by}
+use Rattle.sh_grown.specs.Steps.{walk_most}
 
 -- ---- numbers
 
@@ -26,7 +25,7 @@ part_of a b = omega arith
 pub as_many : (a : ℕ) → a ≤ a
 as_many a = omega arith
 
-none_least : (a : ℕ) → 0 ≤ a
+pub none_least : (a : ℕ) → 0 ≤ a
 none_least a = omega arith
 
 none_after : (a b : ℕ) → a ≤ b → a + 0 ≤ b
@@ -40,12 +39,6 @@ none_before a = omega arith
 
 sum_then : (a b c i j k l : ℕ) → b ≤ a + i → c ≤ b + k → j ≡ i → j + k ≤ l → c ≤ a + l
 sum_then a b c i j k l p q same few = omega arith
-
-both_less : (a b c d : ℕ) → a ≤ b → c ≤ d → a + c ≤ b + d
-both_less a b c d p q = omega arith
-
-less_by : (a b most : ℕ) → b ≤ a + most → b - a ≤ most
-less_by a b most few = omega arith
 
 -- sums of the steps of an insert in one chunk, and of a collect there
 pub inserts_more : (i c : ℕ) → i ≤ 3 * i + c
@@ -355,42 +348,3 @@ below_each n most a b p =
     (get_or a.met.items chunk None) (get_or b.met.items chunk None) (λ s z. none_least (most s z))
     (p.others chunk past))
     (cases_lt chunk n)
-
--- ---- in all
-
-sum_less : (f g : ℕ → ℕ) → ((k : ℕ) → f k ≤ g k) → (n : ℕ) → sum_below f n ≤ sum_below g n
-sum_less f g few zero = none_least 0
-sum_less f g few (suc n) =
-    both_less (f n) (g n) (sum_below f n) (sum_below g n) (few n) (sum_less f g few n)
-
--- the number of steps that were taken, which is at most the bound
-counted : (new : Met → Type 0) (most : ℕ → ℕ → ℕ) (a b : Option Met) → TookFrom new most a b
-    → (steps : ℕ) × StepsThere new steps a b × (steps ≤ bound_in most b)
-counted new most (Some m) (Some n) p = (
-  steps_by n.member - steps_by m.member,
-  refl,
-  less_by (steps_by m.member) (steps_by n.member) (bound_at most n) p.steps,
-)
-counted new most (Some m) None p = absurd p
-counted new most None (Some n) p = (
-  steps_by n.member - steps_by p.0.member,
-  (p.0, p.1, refl),
-  less_by (steps_by p.0.member) (steps_by n.member) (bound_at most n) p.2.steps,
-)
-counted new most None None p = (0, refl, none_least 0)
-
-pub in_all : (most : ℕ → ℕ → ℕ) (a b : SeenCaller) → TakesEach most a b → TakesInAll most a b
-in_all most a b p =
-    let count : (chunk : ℕ)
-    → (steps : ℕ) × StepsThere (IsNewcomer a.growing a.number chunk) steps (get_or a.met.items chunk None)
-    (get_or b.met.items chunk None) × (steps ≤ bound_in most (get_or b.met.items chunk None)) =
-    λ chunk.
-    counted (IsNewcomer a.growing a.number chunk) most (get_or a.met.items chunk None)
-    (get_or b.met.items chunk None) (p chunk) in
-    record {
-      steps = λ chunk. (count chunk).0;
-      each = λ chunk. (count chunk).1;
-      few = λ chunk. (count chunk).2;
-      sum = sum_less (λ chunk. (count chunk).0) (λ chunk. bound_in most (get_or b.met.items chunk None))
-          (λ chunk. (count chunk).2) (length a.growing.cells.items);
-    }

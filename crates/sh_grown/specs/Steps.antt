@@ -13,6 +13,7 @@ use Rattle.sh_grown.specs.declared.growing.Growing.{Growing}
 use Rattle.sh_grown.specs.declared.met.Met.{Met}
 use Rattle.sh_grown.specs.declared.caller.Caller.{Caller as SeenCaller}
 use Rattle.sh_grown.specs.Callers.{IsNewcomer}
+use Rattle.sh_grown.specs.Growing.{shape_in}
 use Rattle.sh_grown.specs.OfChunks.{heap_by}
 
 -- ---- bounds, for a chunk with this many shards, each of which has this many pages
@@ -161,10 +162,9 @@ StepsThere new steps (Some m) None = ⊥
 StepsThere new steps None (Some n) = (m : Met) × new m × (steps ≡ steps_by n.member - steps_by m.member)
 StepsThere new steps None None = steps ≡ 0
 
--- the bound for a chunk, and 0 if the caller has not met it
-abbrev pub bound_in : (most : ℕ → ℕ → ℕ) → Option Met → ℕ
-bound_in most None = 0
-bound_in most (Some m) = bound_at most m
+-- the bound for the chunk of this number, which has the shape of that chunk
+abbrev pub bound_of : Growing → (most : ℕ → ℕ → ℕ) → (chunk : ℕ) → ℕ
+bound_of growing most chunk = most (shape_in growing chunk).shards (pages_of (shape_in growing chunk))
 
 -- In each chunk a caller took at most the steps of the chunk's bound. So over the chunks that the heap may have it took
 -- at most the sum of their bounds.
@@ -172,9 +172,9 @@ pub record TookInAll (growing : Growing) (number : ℕ) (most : ℕ → ℕ → 
   pub steps : ℕ → ℕ
   pub each : (chunk : ℕ)
       → StepsThere (IsNewcomer growing number chunk) (steps chunk) (get_or old chunk None) (get_or new chunk None)
-  pub few : (chunk : ℕ) → steps chunk ≤ bound_in most (get_or new chunk None)
+  pub few : (chunk : ℕ) → steps chunk ≤ bound_of growing most chunk
   pub sum : sum_below steps (length growing.cells.items)
-      ≤ sum_below (λ chunk. bound_in most (get_or new chunk None)) (length growing.cells.items)
+      ≤ sum_below (bound_of growing most) (length growing.cells.items)
 
 abbrev pub TakesInAll : (most : ℕ → ℕ → ℕ) → SeenCaller → SeenCaller → Type 0
 TakesInAll most a b = TookInAll a.growing a.number most a.met.items b.met.items
