@@ -5,4 +5,3 @@ pub mod Remarks
 pub mod HandTexts
 pub mod PassTexts
 pub mod OwedLinks
-pub mod Whys
