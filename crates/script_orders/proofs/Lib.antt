@@ -19,4 +19,3 @@ mod FoundLists
 mod FoundTests
 mod Seeing
 mod CountedLines
-mod SaidLines
