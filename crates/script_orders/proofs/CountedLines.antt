@@ -11,18 +11,18 @@ none_counted = refl
 pub line_counted : (text line more : List ℕ) → pieces_of text ≡ line ∷ pieces_of more → is_counted line ≡ true
     → lines_counted text ≡ line ∷ lines_counted more
 unfolding lines_counted
-line_counted text line more is yes = ap (filter is_counted) is ∙ rw yes refl
+line_counted text line more is counted = ap (filter is_counted) is ∙ rw counted refl
 
 pub line_passed : (text line more : List ℕ) → pieces_of text ≡ line ∷ pieces_of more → is_counted line ≡ false
     → lines_counted text ≡ lines_counted more
 unfolding lines_counted
-line_passed text line more is no = ap (filter is_counted) is ∙ rw no refl
+line_passed text line more is passed = ap (filter is_counted) is ∙ rw passed refl
 
 pub last_counted : (text : List ℕ) → pieces_of text ≡ text ∷ [] → is_counted text ≡ true
     → lines_counted text ≡ text ∷ []
 unfolding lines_counted
-last_counted text is yes = ap (filter is_counted) is ∙ rw yes refl
+last_counted text is counted = ap (filter is_counted) is ∙ rw counted refl
 
 pub last_passed : (text : List ℕ) → pieces_of text ≡ text ∷ [] → is_counted text ≡ false → lines_counted text ≡ []
 unfolding lines_counted
-last_passed text is no = ap (filter is_counted) is ∙ rw no refl
+last_passed text is passed = ap (filter is_counted) is ∙ rw passed refl
