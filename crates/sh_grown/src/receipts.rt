@@ -22,8 +22,8 @@ pub struct ChunkReceipt {
     pub(crate) note: Note<Share<Chunked>>,
 }
 
-/// A witness of what happened before: it covers, in each chunk that a caller has met, all results of the caller there
-/// until it gave the receipt, and all that the caller had heard of others.
+/// A witness of what happened before. In each chunk that a caller has met, it covers all results of the caller until it
+/// gave the receipt. It covers too what the caller had heard of others there.
 ///
 /// `Caller::receipt` gives it, and another caller of the same growing heap heeds it. It may go to another thread in any
 /// way. It stays true whatever other threads do, and dropping it loses nothing. It takes no memory: it has a byte for
