@@ -7,7 +7,7 @@ use Rattle.sh_pass.specs.Heard.{Heard}
 use Rattle.sh_pass.specs.Order.{Order}
 use Rattle.sh_pass.specs.Seats.{Heap}
 use Rattle.sh_pass.specs.Passes.{Caller}
-use Rattle.sh_member.specs.Sides.{SideStands}
+use Rattle.sh_member.specs.Sides.{SideIsValid}
 use Rattle.script_calls.specs.OwnParts.{steps_of}
 use Rattle.script_calls.specs.Parts.{RunTerms, PassPart}
 use Rattle.script_calls.specs.Receipts.{seen_of_receipt}
@@ -26,7 +26,7 @@ LinesHeard orders terms tag run [] [] after = after ≡ run
 LinesHeard orders terms tag run [] (a ∷ answers) after = ⊥
 LinesHeard orders terms tag run (l ∷ lines) [] after = ⊥
 LinesHeard orders terms tag run (l ∷ lines) (a ∷ answers) after = (next : CallsRun)
-    × LineAnswered terms tag run l a next × SideStands terms.layout (next.parts l.pass).stands
+    × LineAnswered terms tag run l a next × SideIsValid terms.layout (next.parts l.pass).stands
     × HeardOfSteps orders run.parts l.pass × LinesHeard orders terms tag next lines answers after
 
 -- the same of all lines of a run; and before each pass did anything to end, it had heard of all steps of all lines

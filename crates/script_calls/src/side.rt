@@ -1,7 +1,7 @@
 //! A pass of a heap, with or without a shard: what runs the calls of a script.
 ghost use Rattle.std.specs.Prelude.{◌≡◌, ◌<◌, ◌+◌, ◌∷◌, ◌++◌, IfOk, None};
 ghost use Rattle.sh_key.specs.Layout.{first_key, key_count};
-ghost use Rattle.sh_member.specs.Sides.{SideStands};
+ghost use Rattle.sh_member.specs.Sides.{SideIsValid};
 ghost use Rattle.script_calls.specs.Parts.{SeenPass, SamePass, tale_told};
 ghost use Rattle.script_calls.specs.Calls.{AdoptAnswers, LeaveAnswers, InsertAnswers, GetAnswers, ReadAnswers};
 ghost use Rattle.script_calls.specs.Calls.{RemoveAnswers, ReleaseAnswers};
@@ -89,5 +89,5 @@ pub trait Side: Drop {
     /// that it knows is true, and nothing is begun.
     fn whole(&self)
         ensures tale { HasOrderedTale (seen self.now) }
-        ensures stands { SideStands (seen self.now).terms.layout (seen self.now).part.stands };
+        ensures stands { SideIsValid (seen self.now).terms.layout (seen self.now).part.stands };
 }

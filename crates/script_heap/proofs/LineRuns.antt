@@ -24,7 +24,7 @@ use Rattle.sh_pass.specs.Views.{Each}
 use Rattle.sh_pass.specs.Growing.{GoesOn}
 use Rattle.sh_pass.specs.Owners.{SeenBell}
 use Rattle.sh_member.specs.declared.member.Side.TheVariants.{Pass, Shard, Moving}
-use Rattle.sh_member.specs.Sides.{SeenSide, SideStands}
+use Rattle.sh_member.specs.Sides.{SeenSide, SideIsValid}
 use Rattle.sh_script.specs.declared.calls.CallLine.{CallLine}
 use Rattle.script_output.specs.declared.answer.Answer.{Answer}
 use Rattle.script_calls.specs.OwnParts.{own_part, shape_in, steps_of}
@@ -50,7 +50,7 @@ settled_new : (layout : Layout) (heap : Heap) (p : ℕ) → Settled layout heap.
 unfolding body_by
 settled_new layout heap p = record { shape_is = refl; made = refl; shard = refl; idle = refl; bell = tt }
 
-settled_so : (layout : Layout) (shape : Numbers) (s : SeenSide) → SideStands layout s → shape_in s ≡ shape
+settled_so : (layout : Layout) (shape : Numbers) (s : SeenSide) → SideIsValid layout s → shape_in s ≡ shape
     → Settled layout shape s
 settled_so layout shape (Pass v) h e = record {
   shape_is = e;
@@ -181,13 +181,13 @@ module _ (layout : Layout) (shape : Numbers) (tag : Option ℕ) (events : List E
       }
 
   settled_next : (before next : CallsRun) (l : CallLine) (a : Answer) → LineAnswered run_terms tag before l a next
-      → SideStands layout (next.parts l.pass).stands → AllSettled before.parts → AllSettled next.parts
+      → SideIsValid layout (next.parts l.pass).stands → AllSettled before.parts → AllSettled next.parts
   settled_next before next l a line stands settled p lt = dite (ℕ_discrete p l.pass)
       (λ (e : p ≡ l.pass).
       let shape_is : shape_in (next.parts p).stands ≡ shape =
       (line_follows run_terms tag before next l a line p).shape ∙ (settled p lt).shape_is in
       settled_so layout shape (next.parts p).stands
-      (subst (λ (z : ℕ). SideStands layout (next.parts z).stands) (sym e) stands) shape_is)
+      (subst (λ (z : ℕ). SideIsValid layout (next.parts z).stands) (sym e) stands) shape_is)
       (λ (ne : p ≢ l.pass). subst (λ (v : PassPart). Settled layout shape v.stands)
       (sym (ap (λ (r : CallsRun). r.parts p) line.next_is ∙ part_there before.parts l.pass p line.part ne))
       (settled p lt))

@@ -10,7 +10,7 @@ use Rattle.sh_chunk.specs.Chunks.{chunked}
 use Rattle.sh_pass.specs.Passes.{Caller}
 use Rattle.sh_pass.specs.Seats.{Heap}
 use Rattle.sh_member.specs.declared.member.Side.TheVariants.{Pass, Shard, Moving}
-use Rattle.sh_member.specs.Sides.{IsOfHeap, IsReceiptBy, SeenSide, SideStands}
+use Rattle.sh_member.specs.Sides.{IsOfHeap, IsReceiptBy, SeenSide, SideIsValid}
 use Rattle.sh_grown.specs.declared.growing.Growing.{Growing}
 use Rattle.sh_grown.specs.declared.met.Met.{Met}
 use Rattle.sh_grown.specs.declared.receipts.ChunkReceipt.{ChunkReceipt}
@@ -73,7 +73,7 @@ agree known given h k is here both =
     sym (subst (λ o. IfSome o (λ y. y ≡ h)) here (subst (λ o. IfSome o (λ x. Agrees known x)) is both))
 
 pub of_one_heap : (m : SeenSide) (known given : Option Heap) (heap : Heap) → given ≡ Some heap → known ≡ heap_by m
-    → IfSome given (λ x. Agrees known x) → SideStands chunked m → IsOfHeap m heap
+    → IfSome given (λ x. Agrees known x) → SideIsValid chunked m → IsOfHeap m heap
 of_one_heap (Pass v) known given heap is here both stands = agree known given heap v.heap is here both
 of_one_heap (Shard o) known given heap is here both stands =
     agree known given heap o.pages.owner.heap is here both
