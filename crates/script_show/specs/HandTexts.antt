@@ -1,7 +1,7 @@
 -- What a trace writes of what a pass has begun.
 use Rattle.std.specs.Prelude.{ℕ, ◌++◌, nat_lt, Bool, List, codes, decimal, length, if◌then◌else◌}
 use Rattle.sh_shape.specs.Places.{pages_of}
-use Rattle.sh_bell.specs.Bell.{home_of, local_of}
+use Rattle.sh_bell.specs.Bell.{shard_of_page, local_of}
 use Rattle.sh_stack.specs.declared.link.Link.{Link}
 use Rattle.sh_stack.specs.declared.link.Link.TheVariants.{Unwritten, End, Next}
 use Rattle.sh_stack.specs.Stack.{link_of}
@@ -21,7 +21,7 @@ target_text what (Next item) = codes " to " ++ what ++ codes " " ++ decimal item
 -- a page by its shard and its number there
 abbrev pub place_of_page : View → ℕ → List ℕ
 place_of_page view page =
-    decimal (home_of (pages_of view.shape) page) ++ codes "." ++ decimal (local_of (pages_of view.shape) page)
+    decimal (shard_of_page (pages_of view.shape) page) ++ codes "." ++ decimal (local_of (pages_of view.shape) page)
 
 abbrev pub page_name : View → ℕ → List ℕ
 page_name view page = codes "page " ++ place_of_page view page
