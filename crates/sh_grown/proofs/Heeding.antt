@@ -12,7 +12,7 @@ use Rattle.sh_pass.specs.Seats.{Heap}
 use Rattle.sh_member.specs.declared.member.Side.TheVariants.{Pass, Shard, Moving}
 use Rattle.sh_member.specs.Sides.{IsOfHeap, IsReceiptBy, SeenSide, SideIsValid}
 use Rattle.sh_grown.specs.declared.growing.Growing.{Growing}
-use Rattle.sh_grown.specs.declared.met.Met.{Met}
+use Rattle.sh_grown.specs.declared.met.ChunkMember.{ChunkMember}
 use Rattle.sh_grown.specs.declared.receipts.ChunkReceipt.{ChunkReceipt}
 use Rattle.sh_grown.specs.Callers.{Meets}
 use Rattle.sh_grown.specs.OfChunks.{AreOfChunks, IsCellOf, IsOfChunk, heap_by}
@@ -47,7 +47,8 @@ cells_same growing chunk a b few p q =
     ⊎_elim (λ h. p h.0 h.2 ∙ sym (q h.0 h.2)) (λ h. absurd (omega (arith, few, h.0)))
     (slice_get_cases growing.cells.items chunk).1
 
-at_met : (growing : Growing) (chunk : ℕ) (given : ChunkReceipt) (o : Option Met) → IsReceiptIn growing chunk given
+at_met : (growing : Growing) (chunk : ℕ) (given : ChunkReceipt) (o : Option ChunkMember)
+    → IsReceiptIn growing chunk given
     → ForSome o (λ m. IsOfChunk growing chunk m) → IsSome o → IsReceiptAt given o
 at_met growing chunk given (Some m) is of some =
     let here = of m refl in (
@@ -58,8 +59,9 @@ at_met growing chunk given (Some m) is of some =
 at_met growing chunk given None is of some = absurd (cc)
 
 -- the receipt of a chunk is of what the caller has met there
-pub receipt_at_place : (growing : Growing) (chunk : ℕ) (given : ChunkReceipt) (xs : List (Option Met))
-    (found : Option Met) → IsReceiptIn growing chunk given → AreOfChunks growing xs → IsSome (get_or xs chunk None)
+pub receipt_at_place : (growing : Growing) (chunk : ℕ) (given : ChunkReceipt) (xs : List (Option ChunkMember))
+    (found : Option ChunkMember) → IsReceiptIn growing chunk given → AreOfChunks growing xs
+        → IsSome (get_or xs chunk None)
     → found ≡ get_or xs chunk found → IsReceiptAt given found
 receipt_at_place growing chunk given xs found is all some here =
     let at : found ≡ get_or xs chunk None = here ∙ inside xs chunk found None (met_within xs chunk some) in
@@ -87,7 +89,7 @@ receipt_heap (Shard o) r is = ap (λ (c : Caller). Some c.heap) (sym is)
 receipt_heap Moving r is = absurd is
 
 -- with one chunk more
-pub covers_more : (n : ℕ) (members : List (Option Met)) (given : List (Option ChunkReceipt))
+pub covers_more : (n : ℕ) (members : List (Option ChunkMember)) (given : List (Option ChunkReceipt))
     (more : Option ChunkReceipt) → length given ≡ n → CoversEach n members given
     → CoversPlace (get_or members n None) more → CoversEach (n + 1) members (given ++ more ∷ [])
 covers_more n members given more count covers here =
@@ -97,7 +99,7 @@ covers_more n members given more count covers here =
     (subst (λ o. CoversPlace (get_or members n None) o)
     (sym (subst (λ k. get_or (given ++ more ∷ []) k None ≡ more) count (last_is given more None))) here)
 
-covered_is : (growing : Growing) (chunk : ℕ) (o : Option Met) (p : Option ChunkReceipt) (given : ChunkReceipt)
+covered_is : (growing : Growing) (chunk : ℕ) (o : Option ChunkMember) (p : Option ChunkReceipt) (given : ChunkReceipt)
     → chunk < length growing.cells.items → ForSome o (λ m. IsOfChunk growing chunk m) → CoversPlace o p
     → p ≡ Some given → IsReceiptIn growing chunk given
 covered_is growing chunk (Some m) (Some r) given few of covers is =
@@ -113,7 +115,7 @@ covered_is growing chunk (Some m) None given few of covers is = absurd covers
 covered_is growing chunk None p given few of covers is = absurd (let e = sym covers ∙ is in cc)
 
 -- each is of its chunk
-pub covers_in : (growing : Growing) (n : ℕ) (members : List (Option Met)) (given : List (Option ChunkReceipt))
+pub covers_in : (growing : Growing) (n : ℕ) (members : List (Option ChunkMember)) (given : List (Option ChunkReceipt))
     → length given ≡ n → n ≤ length growing.cells.items → AreOfChunks growing members → CoversEach n members given
     → AreReceiptsIn growing given
 covers_in growing n members given count few of covers =
@@ -125,18 +127,19 @@ covers_in growing n members given count few of covers =
 -- ---- what a caller does that heeds it
 
 -- nothing is heeded yet
-pub heeds_none : (growing : Growing) (number : ℕ) (given : List (Option ChunkReceipt)) (xs : List (Option Met))
+pub heeds_none : (growing : Growing) (number : ℕ) (given : List (Option ChunkReceipt)) (xs : List (Option ChunkMember))
     → HeedsBelow growing number 0 given xs xs
 heeds_none growing number given xs = record {
   each = λ chunk less. absurd (omega (arith, less));
   others = λ chunk past. refl;
 }
 
-met_same : (growing : Growing) (number chunk : ℕ) (o : Option Met) → IsSome o → MeetsAt growing number chunk o o
+met_same : (growing : Growing) (number chunk : ℕ) (o : Option ChunkMember) → IsSome o → MeetsAt growing number chunk o o
 met_same growing number chunk (Some m) some = refl
 met_same growing number chunk None some = absurd (cc)
 
-meets_at : (growing : Growing) (number chunk : ℕ) (old met : List (Option Met)) → Meets growing number chunk old met
+meets_at : (growing : Growing) (number chunk : ℕ) (old met : List (Option ChunkMember))
+    → Meets growing number chunk old met
     → chunk < length met → MeetsAt growing number chunk (get_or old chunk None) (get_or met chunk None)
 meets_at growing number chunk old met (inl h) less =
     subst (λ xs. MeetsAt growing number chunk (get_or old chunk None) (get_or xs chunk None)) (sym h.1)
@@ -147,18 +150,19 @@ meets_at growing number chunk old met (inr h) less =
     ∙ get_or-set_same old chunk (Some h.1) None (omega (arith, less, size)) in
     subst (λ o. MeetsAt growing number chunk o (get_or met chunk None)) (sym h.0) (h.1, h.2, here)
 
-meets_others : (growing : Growing) (number chunk : ℕ) (old met : List (Option Met)) → Meets growing number chunk old met
+meets_others : (growing : Growing) (number chunk : ℕ) (old met : List (Option ChunkMember))
+    → Meets growing number chunk old met
     → (j : ℕ) → j ≢ chunk → get_or met j None ≡ get_or old j None
 meets_others growing number chunk old met (inl h) j other = ap (λ xs. get_or xs j None) h.1
 meets_others growing number chunk old met (inr h) j other =
     ap (λ xs. get_or xs j None) h.3 ∙ get_or-set_other old chunk j (Some h.1) None other
 
-heeder_is_there : (given : ChunkReceipt) (a b : Option Met) → HeedsAt given a b → IsSome a
+heeder_is_there : (given : ChunkReceipt) (a b : Option ChunkMember) → HeedsAt given a b → IsSome a
 heeder_is_there given (Some m) b heeds = refl
 heeder_is_there given None b heeds = absurd heeds
 
 -- what the caller has in the chunk then
-heeds_here : (growing : Growing) (number chunk : ℕ) (given : ChunkReceipt) (old new : List (Option Met))
+heeds_here : (growing : Growing) (number chunk : ℕ) (given : ChunkReceipt) (old new : List (Option ChunkMember))
     → HeedsChunk growing number chunk given old new
     → HeedsPlace growing number chunk (Some given) (get_or old chunk None) (get_or new chunk None)
 heeds_here growing number chunk given old new h =
@@ -171,13 +175,14 @@ heeds_here growing number chunk given old new h =
       subst (λ o. HeedsAt given (get_or h.met chunk None) o) (sym here) h.heeds,
     )
 
-heeds_others : (growing : Growing) (number chunk : ℕ) (given : ChunkReceipt) (old new : List (Option Met))
+heeds_others : (growing : Growing) (number chunk : ℕ) (given : ChunkReceipt) (old new : List (Option ChunkMember))
     → HeedsChunk growing number chunk given old new → (j : ℕ) → j ≢ chunk → get_or new j None ≡ get_or old j None
 heeds_others growing number chunk given old new h j other =
     ap (λ xs. get_or xs j None) h.others ∙ (get_or-set_other h.met chunk j h.after None other
     ∙ meets_others growing number chunk old h.met h.meets j other)
 
-one_more : (growing : Growing) (number k : ℕ) (given : List (Option ChunkReceipt)) (old now new : List (Option Met))
+one_more : (growing : Growing) (number k : ℕ) (given : List (Option ChunkReceipt))
+    (old now new : List (Option ChunkMember))
     → HeedsBelow growing number k given old now
     → HeedsPlace growing number k (get_or given k None) (get_or now k None) (get_or new k None)
     → ((j : ℕ) → j ≢ k → get_or new j None ≡ get_or now j None) → HeedsBelow growing number (k + 1) given old new
@@ -193,7 +198,8 @@ one_more growing number k given old now new before here apart = record {
 
 -- one chunk more, of which there is a receipt
 pub heeds_more : (growing : Growing) (number k : ℕ) (given : List (Option ChunkReceipt)) (one : ChunkReceipt)
-    (old now new : List (Option Met)) → get_or given k None ≡ Some one → HeedsBelow growing number k given old now
+    (old now new : List (Option ChunkMember)) → get_or given k None ≡ Some one
+        → HeedsBelow growing number k given old now
     → HeedsChunk growing number k one now new → HeedsBelow growing number (k + 1) given old new
 heeds_more growing number k given one old now new is before here =
     one_more growing number k given old now new before
@@ -202,7 +208,8 @@ heeds_more growing number k given one old now new is before here =
     (heeds_others growing number k one now new here)
 
 -- the same of which there is none
-pub heeds_past : (growing : Growing) (number k : ℕ) (given : List (Option ChunkReceipt)) (old now : List (Option Met))
+pub heeds_past : (growing : Growing) (number k : ℕ) (given : List (Option ChunkReceipt))
+    (old now : List (Option ChunkMember))
     → get_or given k None ≡ None → HeedsBelow growing number k given old now
     → HeedsBelow growing number (k + 1) given old now
 heeds_past growing number k given old now is before =

@@ -12,9 +12,9 @@ use Rattle.sh_member.specs.declared.member.Side.TheVariants.{Pass, Shard, Moving
 use Rattle.sh_member.specs.Shards.{Sharded}
 use Rattle.sh_member.specs.Sides.{SeenSide, SideDoes, SideHeeds}
 use Rattle.sh_grown.specs.declared.growing.Growing.{Growing}
-use Rattle.sh_grown.specs.declared.met.Met.{Met}
+use Rattle.sh_grown.specs.declared.met.ChunkMember.{ChunkMember}
 use Rattle.sh_grown.specs.declared.receipts.ChunkReceipt.{ChunkReceipt}
-use Rattle.sh_grown.specs.Callers.{IsClaimed, IsNewcomer, IsPooled, MetDoes}
+use Rattle.sh_grown.specs.Callers.{IsClaimed, IsNewcomer, IsPooled, MemberDoes}
 use Rattle.sh_grown.specs.Inserts.{InsertsIn}
 use Rattle.sh_grown.specs.Keeping.{KeepsMember, SamePlace}
 use Rattle.sh_grown.specs.OfChunks.{AreOfChunks, IsOfChunk, heap_by, heap_of}
@@ -87,49 +87,49 @@ heed_keeps r Moving b h = absurd h
 
 -- ---- of what a caller has in a chunk
 
-same_chunk : (growing : Growing) (chunk : ℕ) (m n : Met) → IsOfChunk growing chunk m
+same_chunk : (growing : Growing) (chunk : ℕ) (m n : ChunkMember) → IsOfChunk growing chunk m
     → heap_by n.member ≡ heap_by m.member → SamePlace m n → IsOfChunk growing chunk n
 same_chunk growing chunk m n is heap same = record {
   cell = λ c found. ap (λ t. t.cell) same.1 ∙ is.cell c found;
   heap = ap (λ t. t.known) same.1 ∙ (is.heap ∙ sym heap);
 }
 
-still_of : (growing : Growing) (chunk : ℕ) (m n : Met) → heap_by n.member ≡ heap_by m.member → SamePlace m n
+still_of : (growing : Growing) (chunk : ℕ) (m n : ChunkMember) → heap_by n.member ≡ heap_by m.member → SamePlace m n
     → ForSome (Some m) (λ k. IsOfChunk growing chunk k) → ForSome (Some n) (λ k. IsOfChunk growing chunk k)
 still_of growing chunk m n heap same is =
     in_some (λ k. IsOfChunk growing chunk k) n (same_chunk growing chunk m n (is m refl) heap same)
 
 does_keeps : {A : Type 0} (does : Caller → Result A Refusal → Caller → Type 0) (growing : Growing) (chunk : ℕ)
-    (a b : Option Met) (answer : Result A Refusal) → MetDoes (SideDoes chunked does) a answer b
+    (a b : Option ChunkMember) (answer : Result A Refusal) → MemberDoes (SideDoes chunked does) a answer b
     → ForSome a (λ m. IsOfChunk growing chunk m) → ForSome b (λ m. IsOfChunk growing chunk m)
 does_keeps does growing chunk (Some m) (Some n) answer h is =
     still_of growing chunk m n (side_keeps does m.member n.member answer h.0) h.1 is
 does_keeps does growing chunk (Some m) None answer h is = absurd h
 does_keeps does growing chunk None b answer h is = absurd h
 
-inserts_keeps : (value : List ℕ) (growing : Growing) (chunk : ℕ) (a b : Option Met) (answer : Result ℕ Refusal)
-    → MetDoes (InsertsIn value) a answer b → ForSome a (λ m. IsOfChunk growing chunk m)
+inserts_keeps : (value : List ℕ) (growing : Growing) (chunk : ℕ) (a b : Option ChunkMember) (answer : Result ℕ Refusal)
+    → MemberDoes (InsertsIn value) a answer b → ForSome a (λ m. IsOfChunk growing chunk m)
     → ForSome b (λ m. IsOfChunk growing chunk m)
 inserts_keeps value growing chunk (Some m) (Some n) answer h is =
     still_of growing chunk m n (insert_keeps value m.member n.member answer h.0) h.1 is
 inserts_keeps value growing chunk (Some m) None answer h is = absurd h
 inserts_keeps value growing chunk None b answer h is = absurd h
 
-place_keeps : (growing : Growing) (chunk : ℕ) (a b : Option Met) → (IsSome b → IsSome a) → KeepsMember a b
+place_keeps : (growing : Growing) (chunk : ℕ) (a b : Option ChunkMember) → (IsSome b → IsSome a) → KeepsMember a b
     → ForSome a (λ m. IsOfChunk growing chunk m) → ForSome b (λ m. IsOfChunk growing chunk m)
 place_keeps growing chunk (Some m) (Some n) was kept is = still_of growing chunk m n (ap heap_of kept.0) kept.1 is
 place_keeps growing chunk (Some m) None was kept is = absurd kept
 place_keeps growing chunk None (Some n) was kept is = absurd (let e = was refl in cc)
 place_keeps growing chunk None None was kept is = is
 
-heeder_keeps : (given : ChunkReceipt) (growing : Growing) (chunk : ℕ) (a b : Option Met) → HeedsAt given a b
+heeder_keeps : (given : ChunkReceipt) (growing : Growing) (chunk : ℕ) (a b : Option ChunkMember) → HeedsAt given a b
     → ForSome a (λ m. IsOfChunk growing chunk m) → ForSome b (λ m. IsOfChunk growing chunk m)
 heeder_keeps given growing chunk (Some m) (Some n) h is =
     still_of growing chunk m n (heed_keeps given.receipt m.member n.member h.0) h.1 is
 heeder_keeps given growing chunk (Some m) None h is = absurd h
 heeder_keeps given growing chunk None b h is = absurd h
 
-pooled_is : (growing : Growing) (heap : Heap) (number chunk : ℕ) (m : Met) → IsPooled heap number m
+pooled_is : (growing : Growing) (heap : Heap) (number chunk : ℕ) (m : ChunkMember) → IsPooled heap number m
     → m.note.known ≡ Some heap → IfSome (slice_get growing.cells.items chunk) (λ c. m.note.cell ≡ cell_name c)
     → IsOfChunk growing chunk m
 pooled_is growing heap number chunk m pooled seen cell = record {
@@ -137,7 +137,7 @@ pooled_is growing heap number chunk m pooled seen cell = record {
   heap = seen ∙ (ap Some (sym pooled.of) ∙ ap heap_by (sym pooled.member));
 }
 
-newcomer_is : (growing : Growing) (number chunk : ℕ) (m : Met) → IsNewcomer growing number chunk m
+newcomer_is : (growing : Growing) (number chunk : ℕ) (m : ChunkMember) → IsNewcomer growing number chunk m
     → IsOfChunk growing chunk m
 newcomer_is growing number chunk m is =
     pooled_is growing is.heap number chunk m is.pooled is.seen is.cell
@@ -146,37 +146,40 @@ newcomer_is growing number chunk m is =
 
 -- after a call of the member of one chunk
 pub does_of : {A : Type 0} (does : Caller → Result A Refusal → Caller → Type 0) (growing : Growing)
-    (xs : List (Option Met)) (i : ℕ) (found place : Option Met) (answer : Result A Refusal) → AreOfChunks growing xs
-    → found ≡ get_or xs i found → MetDoes (SideDoes chunked does) found answer place
+    (xs : List (Option ChunkMember)) (i : ℕ) (found place : Option ChunkMember) (answer : Result A Refusal)
+        → AreOfChunks growing xs
+    → found ≡ get_or xs i found → MemberDoes (SideDoes chunked does) found answer place
     → AreOfChunks growing (slice_set xs i place)
 does_of does growing xs i found place answer all is h =
     each_kept (λ k m. IsOfChunk growing k m) xs i found place all is
     (does_keeps does growing i found place answer h)
 
 -- after its insert
-pub inserts_of : (value : List ℕ) (growing : Growing) (xs : List (Option Met)) (i : ℕ) (found place : Option Met)
+pub inserts_of : (value : List ℕ) (growing : Growing) (xs : List (Option ChunkMember)) (i : ℕ)
+    (found place : Option ChunkMember)
     (answer : Result ℕ Refusal) → AreOfChunks growing xs → found ≡ get_or xs i found
-    → MetDoes (InsertsIn value) found answer place → AreOfChunks growing (slice_set xs i place)
+    → MemberDoes (InsertsIn value) found answer place → AreOfChunks growing (slice_set xs i place)
 inserts_of value growing xs i found place answer all is h =
     each_kept (λ k m. IsOfChunk growing k m) xs i found place all is
     (inserts_keeps value growing i found place answer h)
 
 -- after it heeded a receipt
-pub heeds_of : (given : ChunkReceipt) (growing : Growing) (xs : List (Option Met)) (i : ℕ) (found place : Option Met)
+pub heeds_of : (given : ChunkReceipt) (growing : Growing) (xs : List (Option ChunkMember)) (i : ℕ)
+    (found place : Option ChunkMember)
     → AreOfChunks growing xs → found ≡ get_or xs i found → HeedsAt given found place
     → AreOfChunks growing (slice_set xs i place)
 heeds_of given growing xs i found place all is h =
     each_kept (λ k m. IsOfChunk growing k m) xs i found place all is (heeder_keeps given growing i found place h)
 
 -- after a call that keeps what the caller has there
-pub keeps_of : (growing : Growing) (xs : List (Option Met)) (i : ℕ) (found place : Option Met)
+pub keeps_of : (growing : Growing) (xs : List (Option ChunkMember)) (i : ℕ) (found place : Option ChunkMember)
     → AreOfChunks growing xs → found ≡ get_or xs i found → (IsSome place → IsSome found) → KeepsMember found place
     → AreOfChunks growing (slice_set xs i place)
 keeps_of growing xs i found place all is was kept =
     each_kept (λ k m. IsOfChunk growing k m) xs i found place all is (place_keeps growing i found place was kept)
 
 -- after a meeting
-pub meets_of : (growing : Growing) (heap : Heap) (number : ℕ) (xs : List (Option Met)) (i : ℕ) (m : Met)
+pub meets_of : (growing : Growing) (heap : Heap) (number : ℕ) (xs : List (Option ChunkMember)) (i : ℕ) (m : ChunkMember)
     → AreOfChunks growing xs → IsPooled heap number m → m.note.known ≡ Some heap
     → IfSome (slice_get growing.cells.items i) (λ c. m.note.cell ≡ cell_name c)
     → AreOfChunks growing (slice_set xs i (Some m))
@@ -184,7 +187,7 @@ meets_of growing heap number xs i m all pooled seen cell =
     each_set (λ k n. IsOfChunk growing k n) xs i (Some m) all
     (in_some (λ n. IsOfChunk growing i n) m (pooled_is growing heap number i m pooled seen cell))
 
-claimed_of : (growing : Growing) (number : ℕ) (members : List (Option Met)) → IsClaimed growing number members
+claimed_of : (growing : Growing) (number : ℕ) (members : List (Option ChunkMember)) → IsClaimed growing number members
     → (chunk : ℕ) → ForSome (get_or members chunk None) (λ m. IsOfChunk growing chunk m)
 claimed_of growing number members is zero =
     subst (λ o. ForSome o (λ m. IsOfChunk growing 0 m)) (sym is.met)
@@ -194,7 +197,7 @@ claimed_of growing number members is (suc k) =
     (in_none (λ m. IsOfChunk growing (suc k) m))
 
 -- after a claim, of a growing heap by another name
-pub claims_of : (found asked kept : Growing) (number : ℕ) (members : List (Option Met))
+pub claims_of : (found asked kept : Growing) (number : ℕ) (members : List (Option ChunkMember))
     → IsClaimed found number members → found ≡ asked → kept ≡ asked → AreOfChunks kept members
 claims_of found asked kept number members is same own =
     subst (λ (x : Growing). AreOfChunks x members) (same ∙ sym own) (claimed_of found number members is)

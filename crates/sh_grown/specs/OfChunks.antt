@@ -5,7 +5,7 @@ use Rattle.once_cell.specs.Once.{cell_name}
 use Rattle.sh_pass.specs.Seats.{Heap}
 use Rattle.sh_member.specs.Sides.{SeenSide}
 use Rattle.sh_grown.specs.declared.growing.Growing.{Growing}
-use Rattle.sh_grown.specs.declared.met.Met.{Met}
+use Rattle.sh_grown.specs.declared.met.ChunkMember.{ChunkMember}
 use Rattle.sh_grown.specs.Keeping.{Kept, kept_by}
 
 -- the heap of a member
@@ -21,10 +21,10 @@ abbrev pub IsCellOf : Growing → (chunk cell : ℕ) → Type 0
 IsCellOf growing chunk cell = ForSome (slice_get growing.cells.items chunk) (λ c. cell ≡ cell_name c)
 
 -- what a caller has in the chunk of this number: its note is of the chunk's cell, and knows the heap of its member
-pub record IsOfChunk (growing : Growing) (chunk : ℕ) (m : Met) : Type 0 where
+pub record IsOfChunk (growing : Growing) (chunk : ℕ) (m : ChunkMember) : Type 0 where
   pub cell : IsCellOf growing chunk m.note.cell
   pub heap : m.note.known ≡ heap_by m.member
 
 -- the same of each chunk that the caller has met
-abbrev pub AreOfChunks : Growing → List (Option Met) → Type 0
+abbrev pub AreOfChunks : Growing → List (Option ChunkMember) → Type 0
 AreOfChunks growing members = (chunk : ℕ) → ForSome (get_or members chunk None) (λ m. IsOfChunk growing chunk m)

@@ -6,7 +6,7 @@ use Rattle.sh_value.specs.declared.refusal.Refusal.{Refusal}
 use Rattle.sh_value.specs.declared.refusal.Refusal.TheVariants as refusal
 use Rattle.sh_member.specs.Sides.{IsReceiptBy, SideHeeds}
 use Rattle.sh_grown.specs.declared.growing.Growing.{Growing}
-use Rattle.sh_grown.specs.declared.met.Met.{Met}
+use Rattle.sh_grown.specs.declared.met.ChunkMember.{ChunkMember}
 use Rattle.sh_grown.specs.declared.receipts.ChunkReceipt.{ChunkReceipt}
 use Rattle.sh_grown.specs.Callers.{IsNewcomer, Meets}
 use Rattle.sh_grown.specs.Keeping.{SamePlace}
@@ -15,18 +15,18 @@ use Rattle.sh_grown.specs.OfChunks.{IsCellOf, heap_by}
 -- ---- what a receipt covers
 
 -- a receipt by the member of a chunk, with the note of the chunk's cell
-pub record CoversMember (m : Met) (given : ChunkReceipt) : Type 0 where
+pub record CoversMember (m : ChunkMember) (given : ChunkReceipt) : Type 0 where
   pub receipt : IsReceiptBy m.member given.receipt
   pub note : given.note ≡ m.note
 
 -- the same of what a caller has in a chunk; there is no receipt, if the caller has not met the chunk
-abbrev pub CoversPlace : Option Met → Option ChunkReceipt → Type 0
+abbrev pub CoversPlace : Option ChunkMember → Option ChunkReceipt → Type 0
 CoversPlace None given = given ≡ None
 CoversPlace (Some m) (Some given) = CoversMember m given
 CoversPlace (Some m) None = ⊥
 
 -- the same in each chunk below this one
-abbrev pub CoversEach : (chunks : ℕ) → List (Option Met) → List (Option ChunkReceipt) → Type 0
+abbrev pub CoversEach : (chunks : ℕ) → List (Option ChunkMember) → List (Option ChunkReceipt) → Type 0
 CoversEach chunks members given =
     (chunk : ℕ) → chunk < chunks → CoversPlace (get_or members chunk None) (get_or given chunk None)
 
@@ -46,48 +46,50 @@ AreReceiptsIn growing given = (chunk : ℕ) → ForSome (get_or given chunk None
 -- ---- what a caller does that heeds it
 
 -- the receipt is of the chunk that the caller has met here: both notes are of one cell, and each knows its heap
-abbrev pub IsReceiptAt : ChunkReceipt → Option Met → Type 0
+abbrev pub IsReceiptAt : ChunkReceipt → Option ChunkMember → Type 0
 IsReceiptAt given None = ⊥
 IsReceiptAt given (Some m) = (given.note.cell ≡ m.note.cell) × (given.note.known ≡ Some given.receipt.heap)
     × (m.note.known ≡ heap_by m.member)
 
 -- the member of a chunk heeded the receipt, and kept its place
-abbrev pub HeedsAt : ChunkReceipt → Option Met → Option Met → Type 0
+abbrev pub HeedsAt : ChunkReceipt → Option ChunkMember → Option ChunkMember → Type 0
 HeedsAt given (Some m) (Some n) = SideHeeds chunked given.receipt m.member n.member × SamePlace m n
 HeedsAt given (Some m) None = ⊥
 HeedsAt given None n = ⊥
 
 -- the member of this chunk, which the caller had met or met in this call, heeded it; all others are as they were
-pub record HeedsChunk (growing : Growing) (number chunk : ℕ) (given : ChunkReceipt) (old new : List (Option Met)) :
+pub record HeedsChunk (growing : Growing) (number chunk : ℕ) (given : ChunkReceipt)
+    (old new : List (Option ChunkMember)) :
     Type 0 where
-  pub met : List (Option Met)
+  pub met : List (Option ChunkMember)
   pub meets : Meets growing number chunk old met
-  pub after : Option Met
+  pub after : Option ChunkMember
   pub heeds : HeedsAt given (get_or met chunk None) after
   pub others : new ≡ slice_set met chunk after
 
 -- what a caller has in a chunk that it had met, or that it meets now
-abbrev pub MeetsAt : Growing → (number chunk : ℕ) → Option Met → Option Met → Type 0
+abbrev pub MeetsAt : Growing → (number chunk : ℕ) → Option ChunkMember → Option ChunkMember → Type 0
 MeetsAt growing number chunk (Some m) met = met ≡ Some m
-MeetsAt growing number chunk None met = (m : Met) × IsNewcomer growing number chunk m × (met ≡ Some m)
+MeetsAt growing number chunk None met = (m : ChunkMember) × IsNewcomer growing number chunk m × (met ≡ Some m)
 
 -- what a caller has in a chunk heeded the receipt of the chunk, or there is none and it is as it was
-abbrev pub HeedsPlace : Growing → (number chunk : ℕ) → Option ChunkReceipt → Option Met → Option Met → Type 0
+abbrev pub HeedsPlace : Growing → (number chunk : ℕ) → Option ChunkReceipt → Option ChunkMember → Option ChunkMember
+    → Type 0
 HeedsPlace growing number chunk None old new = new ≡ old
 HeedsPlace growing number chunk (Some given) old new =
-    (met : Option Met) × MeetsAt growing number chunk old met × HeedsAt given met new
+    (met : Option ChunkMember) × MeetsAt growing number chunk old met × HeedsAt given met new
 
 -- the same in each chunk below this one; those from it on are as they were
 pub record HeedsBelow (growing : Growing) (number below : ℕ) (given : List (Option ChunkReceipt))
-    (old new : List (Option Met)) : Type 0 where
+    (old new : List (Option ChunkMember)) : Type 0 where
   pub each : (chunk : ℕ) → chunk < below
       → HeedsPlace growing number chunk (get_or given chunk None) (get_or old chunk None) (get_or new chunk None)
   pub others : (chunk : ℕ) → below ≤ chunk → get_or new chunk None ≡ get_or old chunk None
 
 -- The member of each chunk heeded the receipt of the chunk. Or the caller's pass is not in the pool of a chunk: then
 -- those below it heeded theirs, and the others are as they were.
-abbrev pub Heeds : Growing → (number : ℕ) → List (Option ChunkReceipt) → List (Option Met)
-    → Result (Unit {0}) Refusal → List (Option Met) → Type 0
+abbrev pub Heeds : Growing → (number : ℕ) → List (Option ChunkReceipt) → List (Option ChunkMember)
+    → Result (Unit {0}) Refusal → List (Option ChunkMember) → Type 0
 Heeds growing number given old (Ok _) new = HeedsBelow growing number (length given) given old new
 Heeds growing number given old (Err why) new = (why ≡ refusal.Taken)
     × (below : ℕ) × HeedsBelow growing number below given old new

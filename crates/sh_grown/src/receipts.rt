@@ -6,7 +6,7 @@ ghost use Rattle.sh_grown.specs.Receipts.{AreReceiptsIn, CoversEach, CoversPlace
 ghost use Rattle.sh_grown.specs.Receipts.{IsReceiptAt, IsReceiptIn};
 
 use crate::caller::Caller;
-use crate::met::Met;
+use crate::met::ChunkMember;
 use arrayvec::ArrayVec;
 use once_cell::race::Note;
 use sh_chunk::{CHUNKS, Chunked};
@@ -47,7 +47,7 @@ impl GrownReceipt {
 }
 
 // A receipt of what the member of a chunk did, if the caller has met the chunk.
-fn receipt_at(place: &mut Option<Met>) -> Option<ChunkReceipt>
+fn receipt_at(place: &mut Option<ChunkMember>) -> Option<ChunkReceipt>
     ensures same { place.new ≡ place.old }
     ensures covers { CoversPlace place.old result }
 {
@@ -63,7 +63,7 @@ fn receipt_at(place: &mut Option<Met>) -> Option<ChunkReceipt>
 
 // The member of the receipt's chunk heeds it. The notes show that both are of one heap.
 #[tactic(auto, using(crate::proofs::Heeding::of_one_heap))]
-fn heed_at(place: &mut Option<Met>, given: ChunkReceipt)
+fn heed_at(place: &mut Option<ChunkMember>, given: ChunkReceipt)
     requires { IsReceiptAt given place.old }
     ensures { HeedsAt given place.old place.new }
 {
