@@ -12,7 +12,7 @@ use Rattle.sh_member.specs.declared.member.Side.TheVariants.{Pass, Shard, Moving
 use Rattle.sh_member.specs.Shards.{Sharded}
 use Rattle.sh_member.specs.Sides.{SeenSide, SideDoes, SideHeeds}
 use Rattle.sh_grown.specs.declared.growing.Growing.{Growing}
-use Rattle.sh_grown.specs.declared.met.ChunkMember.{ChunkMember}
+use Rattle.sh_grown.specs.declared.chunk_member.ChunkMember.{ChunkMember}
 use Rattle.sh_grown.specs.declared.receipts.ChunkReceipt.{ChunkReceipt}
 use Rattle.sh_grown.specs.Callers.{IsClaimed, IsNewcomer, IsPooled, MemberDoes}
 use Rattle.sh_grown.specs.Inserts.{InsertsIn}

@@ -5,7 +5,7 @@ use Rattle.once_cell.specs.Once.{cell_name}
 use Rattle.sh_pass.specs.Seats.{Heap}
 use Rattle.sh_member.specs.Sides.{SeenSide}
 use Rattle.sh_grown.specs.declared.growing.Growing.{Growing}
-use Rattle.sh_grown.specs.declared.met.ChunkMember.{ChunkMember}
+use Rattle.sh_grown.specs.declared.chunk_member.ChunkMember.{ChunkMember}
 use Rattle.sh_grown.specs.Keeping.{Kept, kept_by}
 
 -- the heap of a member

@@ -6,7 +6,7 @@ use Rattle.sh_value.specs.declared.refusal.Refusal.{Refusal}
 use Rattle.sh_value.specs.declared.refusal.Refusal.TheVariants as refusal
 use Rattle.sh_member.specs.Sides.{IsReceiptBy, SideHeeds}
 use Rattle.sh_grown.specs.declared.growing.Growing.{Growing}
-use Rattle.sh_grown.specs.declared.met.ChunkMember.{ChunkMember}
+use Rattle.sh_grown.specs.declared.chunk_member.ChunkMember.{ChunkMember}
 use Rattle.sh_grown.specs.declared.receipts.ChunkReceipt.{ChunkReceipt}
 use Rattle.sh_grown.specs.Callers.{IsNewcomer, Meets}
 use Rattle.sh_grown.specs.Keeping.{SamePlace}

@@ -7,8 +7,8 @@ ghost use Rattle.sh_value.specs.declared.refusal.Refusal.TheVariants.{Memory};
 ghost use Rattle.sh_grown.specs.Keeping.{KeepsMembers};
 ghost use Rattle.sh_grown.specs.OfChunks.{AreOfChunks};
 
+use crate::chunk_member::{ChunkMember, meet, meet_first};
 use crate::growing::Growing;
-use crate::met::{ChunkMember, meet, meet_first};
 use crate::share::GrowingShare;
 use once_cell::race::Note;
 use sh_chunk::Chunked;

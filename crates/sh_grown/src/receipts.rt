@@ -6,7 +6,7 @@ ghost use Rattle.sh_grown.specs.Receipts.{AreReceiptsIn, CoversEach, CoversPlace
 ghost use Rattle.sh_grown.specs.Receipts.{IsReceiptAt, IsReceiptIn};
 
 use crate::caller::Caller;
-use crate::met::ChunkMember;
+use crate::chunk_member::ChunkMember;
 use arrayvec::ArrayVec;
 use once_cell::race::Note;
 use sh_chunk::{CHUNKS, Chunked};
