@@ -131,8 +131,7 @@ pub extern "C" fn shardheap_raw_accounts(
     told: &mut PageReport,
 ) -> u32
     ensures { HeapTells (OnWhole (λ h. TellsAccounts (heap_layout h) (heap_of h) shard page)) page_report result
-        told.old
-        told.new heap.old.slot.value heap.new.slot.value }
+        told.old told.new heap.old.slot.value heap.new.slot.value }
 {
     let Some(held) = heap.take(alloc) else {
         return EMPTY;

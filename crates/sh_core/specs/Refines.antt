@@ -88,8 +88,8 @@ pub record KeyIsValid (plan : Plan) (w : World) (k : ℕ) : Type 0 where
   pub value : value_of w.log k ≡ Some (value_at w.words name.page name.slot)
 
 abbrev pub HeldKeysAreValid : Plan → World → Type 0
-HeldKeysAreValid plan w = (a : ℕ) (p : Body) (k : ℕ) → slice_get w.parts a ≡ Some p → 0 < times k p.holds → KeyIsValid
-    plan w k
+HeldKeysAreValid plan w = (a : ℕ) (p : Body) (k : ℕ) → slice_get w.parts a ≡ Some p → 0 < times k p.holds
+    → KeyIsValid plan w k
 
 -- a payload word that a pass may read of a key is one of the key's value, in its page
 abbrev pub ReadsWithin : Plan → World → Type 0

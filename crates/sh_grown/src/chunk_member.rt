@@ -161,8 +161,7 @@ pub(crate) fn read_into_at(
 ) -> Result<(), Refusal>
     requires { IsSome place.old }
     ensures { MemberDoes (SideDoes chunked (λ v answer w. ReadIntoDoes (key_within hold.key) v value.old answer
-        value.new
-        w)) place.old result place.new }
+        value.new w)) place.old result place.new }
 {
     let key = within(hold.key);
     match place {

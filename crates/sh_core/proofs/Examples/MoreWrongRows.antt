@@ -96,9 +96,8 @@ released_is_held = refuted keeps_hold (λ plan w l. HoldsMatchLog w) 1 (omega ar
     (λ h. let z : 1 ≡ 1 + 1 = h.together 4096 in absurd (omega arith))
 
 -- the words of a held key with this name are its value
-stored : (plan : Plan) (w : World) (a : ℕ) (p : Body) (k : ℕ) (n : KeyRef) → HeldKeysAreValid plan w → slice_get w.parts
-    a
-    ≡ Some p → 0 < times k p.holds → plan.keys.unpack k ≡ Some n
+stored : (plan : Plan) (w : World) (a : ℕ) (p : Body) (k : ℕ) (n : KeyRef) → HeldKeysAreValid plan w
+    → slice_get w.parts a ≡ Some p → 0 < times k p.holds → plan.keys.unpack k ≡ Some n
     → value_of w.log k ≡ Some (value_at w.words n.page n.slot)
 stored plan w a p k n h at some name =
     let s = h a p k at some in
@@ -113,8 +112,7 @@ refilling = three_slots ++ ev 0 (FillSlot (slot 0 0 0) (5 ∷ [])) ∷ ev 0 Fill
 pub held_value_changes : ¬ AlwaysBy fills_any_slot (λ plan w l. HeldKeysAreValid plan w)
 unfolding more_wrongly
 held_value_changes = refuted fills_any_slot (λ plan w l. HeldKeysAreValid plan w) 1 (omega arith) (omega arith)
-    refilling
-    (λ h.
+    refilling (λ h.
     let some : 0 < 1 = omega arith in
     let z : Some (5 ∷ []) ≡ Some (6 ∷ []) = stored (small 1) (run_by fills_any_slot (small 1) refilling) 0
     (record owner { holds = 4096 ∷ []; hand = Filling (slot_ref 0 0) (6 ∷ []) 1 }) 4096 (first 1) h refl some refl in

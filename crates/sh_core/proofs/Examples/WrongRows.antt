@@ -118,9 +118,9 @@ wrapped_generation_issues_twice = refuted wraps_generation IsLegal 1 (omega arit
     ≡ None = t.1.1.1.1.1.1.0 in cc)
 
 -- the value of a held key with this name is in its slot
-present : (plan : Plan) (w : World) (a : ℕ) (p : Body) (k : ℕ) (n : KeyRef) → HeldKeysAreValid plan w → slice_get
-    w.parts a
-    ≡ Some p → 0 < times k p.holds → plan.keys.unpack k ≡ Some n → (state_of w (slot_ref_of n)).present ≡ true
+present : (plan : Plan) (w : World) (a : ℕ) (p : Body) (k : ℕ) (n : KeyRef) → HeldKeysAreValid plan w
+    → slice_get w.parts a ≡ Some p → 0 < times k p.holds → plan.keys.unpack k ≡ Some n
+    → (state_of w (slot_ref_of n)).present ≡ true
 present plan w a p k n h at some name =
     let s = h a p k at some in
     let e : Some s.name ≡ Some n = sym s.unpacks ∙ name in
