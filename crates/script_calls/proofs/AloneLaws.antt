@@ -19,7 +19,8 @@ use Rattle.script_calls.specs.Parts.{RunTerms, PassPart, SeenPass, SamePass, new
 use Rattle.script_calls.specs.Calls.{CallAnswers, binds, number_told}
 use Rattle.script_calls.specs.Named.{numbers_told, tells_number, HeardOfNumber, NamesWereHeard}
 use Rattle.script_calls.specs.Runs.{CallsRun, LinesAnswered, opening_calls, with_part, with_number, number_meant}
-use Rattle.script_calls.specs.Receipts.{SeenReceipt, seen_of_receipt, receipt_seen, order_seen, told_heard, MayHeed}
+use Rattle.script_calls.specs.Receipts.{SeenReceipt, seen_of_receipt, receipt_seen, order_seen, part_heard}
+use Rattle.script_calls.specs.Receipts.{taken_heard, MayHeed}
 use Rattle.script_calls.specs.InOrder.{adds_entry, adding_passes, times, Cut, AllHeard, LastHeard}
 use Rattle.script_calls.specs.Alone.{seen_with_part, OrderedSoFar, HeedsLast, IsLastOf, LastTells}
 use Rattle.script_calls.specs.Meeting.{KeepsOrders, orders_of}
@@ -230,7 +231,7 @@ module _ (heap : Option Heap) (terms : RunTerms) (tag : Option ℕ) (lines : Lis
       told_other p (λ e. omega (arith, w, n, le, e)) ∙ was.few p le
 
   mid_has : (o : Order) → Contains mid.orders o → Contains (receipt_seen now).heard o.heard
-  mid_has o h = Contains-append_right (record { pass = now.pass; log = now.part.log } ∷ map told_heard now.told)
+  mid_has o h = Contains-append_right (part_heard now.pass now.part ∷ taken_heard now)
       (map (λ (o : Order). o.heard) now.orders) o.heard (contains_map (λ (o : Order). o.heard) now.orders o
       (subst (λ (os : List Order). Contains os o) (sym now_orders) h))
 
@@ -254,10 +255,10 @@ module _ (heap : Option Heap) (terms : RunTerms) (tag : Option ℕ) (lines : Lis
   last_heard_more p some = dite (ℕ_discrete p l.pass)
       (λ (e : p ≡ l.pass).
       let c : length (times p who') ≡ length now.part.log = ap (λ (q : ℕ). length (times q who')) e ∙ told_mine in (
-        record { pass = now.pass; log = now.part.log },
-        Contains-append_left (record { pass = now.pass; log = now.part.log } ∷ [])
-            (map told_heard now.told ++ map (λ (o : Order). o.heard) now.orders)
-            (record { pass = now.pass; log = now.part.log }) (Contains-push [] _),
+        part_heard now.pass now.part,
+        Contains-append_left (part_heard now.pass now.part ∷ [])
+            (taken_heard now ++ map (λ (o : Order). o.heard) now.orders)
+            (part_heard now.pass now.part) (Contains-push [] _),
         now_pass ∙ sym e,
         omega (arith, c),
       ))
@@ -329,12 +330,12 @@ module _ (heap : Option Heap) (terms : RunTerms) (tag : Option ℕ) (lines : Lis
 
   tells_new : binds l.call ≡ true → tells_number tag (receipt_seen now).heard (number_told a) ≡ true
   tells_new b =
-      let rest : List Heard = map told_heard now.told ++ map (λ (o : Order). o.heard) now.orders in
+      let rest : List Heard = taken_heard now ++ map (λ (o : Order). o.heard) now.orders in
       let roomy : HasTagRoom mid.terms.layout tag = subst (λ (t : RunTerms). HasTagRoom t.layout tag) (sym mid_terms)
       room in
       let told = tells_own mid.terms tag mid.pass mid.part now.part l.call (number_meant numbers l.call) a roomy b does
       rest in
-      subst (λ (q : ℕ). tells_number tag (record { pass = q; log = now.part.log } ∷ rest) (number_told a) ≡ true)
+      subst (λ (q : ℕ). tells_number tag (part_heard q now.part ∷ rest) (number_told a) ≡ true)
       (ap (λ (z : SeenPass). z.pass) (sym same)) told
 
   tells_then : (k n : ℕ) → slice_get (with_number numbers l.call a) k ≡ Some (Some n)

@@ -143,8 +143,8 @@ member_leaves layout Moving n r h = absurd h
 
 pub member_receipt : (layout : Layout) (m : SeenSide) (r : Caller) → IsReceiptBy m r
     → seen_of_receipt r ≡ receipt_seen (seen_of_member layout m)
-member_receipt layout (Pass v) r h = receipt_told layout v r (Pass v) h
-member_receipt layout (Shard o) r h = receipt_told layout o.pages.owner r (Shard o) h
+member_receipt layout (Pass v) r h = receipt_told layout v r (Pass v) refl refl h
+member_receipt layout (Shard o) r h = receipt_told layout o.pages.owner r (Shard o) refl refl h
 member_receipt layout Moving r h = absurd h
 
 pub receipt_is_of : (layout : Layout) (m : SeenSide) (r : Caller)

@@ -101,11 +101,11 @@ first_of p (e ∷ es) l = dite (ℕ_discrete (pass_of e) p)
     })
 
 -- the pass had heard of the insert, and has one more entry
-follows : (history : List Entry) (pass first key who : ℕ) (value : List ℕ) (h : Heard)
-    → Before history (record { heard = h; carrier = pass; length = first })
+follows : (history : List Entry) (pass first key who : ℕ) (value : List ℕ) (h : Heard) (steps : ℕ)
+    → Before history (record { heard = h; carrier = pass; length = first; steps = steps })
     → Contains h.log (Known (Insert who key value)) → first < length (by pass history)
     → FollowsInsert history pass first key
-follows history pass first key who value h b c more =
+follows history pass first key who value h steps b c more =
     let e : Entry = Insert who key value in
     let all : length (by pass history) ≡ length (by pass b.0) + length (by pass b.1) = ap
     (λ (l : List Entry). length (by pass l)) b.2 ∙ by_length pass b.0 b.1 in
@@ -160,7 +160,7 @@ names_first tag lines answers orders history heard keeps many i l a number at sa
     let before : List ℕ = adding_passes (take i lines) answers in
     let first : ℕ = length (times l.pass before) in
     let h = subst (HeardOfNumber tag orders l.pass first) meant (heard i l at) in
-    let k = key_heard (key_shown tag number) h.0 h.2 in
+    let k = key_heard (key_shown tag number) h.0 h.3 in
     let all = many i l at in
     let more = adding_at lines answers i l a at said adds in
     let parts : length (times l.pass (adding_passes lines answers)) ≡ first + length (times l.pass (l.pass ∷ more.0)) =
@@ -169,7 +169,7 @@ names_first tag lines answers orders history heard keeps many i l a number at sa
     (λ (z : List ℕ). length z) (times_here l.pass more.0) in (
       k.0,
       k.1,
-      follows history l.pass first k.0 k.2 k.3 h.0 (keeps _ h.1) k.4 (omega (arith, all, parts, one)),
+      follows history l.pass first k.0 k.2 k.3 h.0 h.1 (keeps _ h.2) k.4 (omega (arith, all, parts, one)),
     )
 
 -- ---- the carrier of what all heard of

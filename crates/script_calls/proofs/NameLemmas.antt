@@ -29,8 +29,9 @@ use Rattle.script_calls.specs.Calls.{CallAnswers, UnlessRefused, WordsAnswers, V
 use Rattle.script_calls.specs.Calls.{needs_shard}
 use Rattle.script_calls.specs.Calls.{name_used, binds, number_told}
 use Rattle.script_calls.specs.Runs.{CallsRun, LineAnswered, LinesAnswered, number_bound, number_meant}
-use Rattle.script_calls.specs.Receipts.{seen_of_receipt, receipt_seen, order_seen, told_heard, MayHeed, PartHeeds}
-use Rattle.script_calls.specs.Receipts.{Heeds}
+use Rattle.script_calls.specs.OwnParts.{steps_of}
+use Rattle.script_calls.specs.Receipts.{seen_of_receipt, receipt_seen, order_seen, part_heard, taken_heard, MayHeed}
+use Rattle.script_calls.specs.Receipts.{PartHeeds, Heeds}
 use Rattle.script_calls.specs.InOrder.{adds_entry, adding_passes, times}
 use Rattle.script_calls.specs.Meeting.{KeepsOrders, orders_of}
 use Rattle.script_calls.specs.Named.{numbers_told, is_insert_of, has_insert, tells_number, HeardOfNumber}
@@ -198,7 +199,7 @@ orders_set (x ∷ xs) (suc k) s t e keeps = λ o c. ⊎_elim
 pub heard_kept : (tag : Option ℕ) (orders more : List Order) (pass first : ℕ) (n : Option ℕ)
     → KeepsOrders orders more → HeardOfNumber tag orders pass first n → HeardOfNumber tag more pass first n
 heard_kept tag orders more pass first None keeps h = tt
-heard_kept tag orders more pass first (Some n) keeps h = (h.0, keeps _ h.1, h.2)
+heard_kept tag orders more pass first (Some n) keeps h = (h.0, h.1, keeps _ h.2, h.3)
 
 -- what a pass has to have heard of the name of a line: these passes added entries before, and names have these numbers
 abbrev HeardAt : (tag : Option ℕ) → List Order → CallLine × List ℕ × List (Option ℕ) → Type 0
@@ -266,7 +267,7 @@ pub heard_by_heeding : (tag : Option ℕ) (r : Caller) (side mid : SeenPass) →
 heard_by_heeding tag r side mid e None t = tt
 heard_by_heeding tag r side mid e (Some n) t =
     let x = some_passes (has_insert (key_shown tag n)) (seen_of_receipt r).heard t in
-    (x.0, heeded_order r side mid e x.0 x.1, x.2)
+    (x.0, steps_of side.part.stands, heeded_order r side mid e x.0 x.1, x.2)
 
 tells_more : (tag : Option ℕ) (heard more : List Heard) → ((h : Heard) → Contains heard h → Contains more h)
     → (n : Option ℕ) → tells_number tag heard n ≡ true → tells_number tag more n ≡ true
@@ -283,7 +284,7 @@ tells_on tag r side mid now e same n t = tells_more tag (seen_of_receipt r).hear
     (λ (h : Heard) (c : Contains (seen_of_receipt r).heard h).
     let os : Contains now.orders (order_seen side h) = subst (λ (z : SeenPass). Contains z.orders (order_seen side h))
     (sym same) (heeded_order r side mid e h c) in
-    Contains-append_right (record { pass = now.pass; log = now.part.log } ∷ map told_heard now.told)
+    Contains-append_right (part_heard now.pass now.part ∷ taken_heard now)
     (map (λ (o : Order). o.heard) now.orders) h
     (contains_map (λ (o : Order). o.heard) now.orders (order_seen side h) os))
     n t
@@ -306,20 +307,20 @@ unrefused (Some e) x Unchanged Rest h = absurd (let z : Ok x ≡ Err e = h.0 in 
 -- the receipt of a pass to which a key was returned contains its insert
 pub tells_own : (terms : RunTerms) (tag : Option ℕ) (pass : ℕ) (v w : PassPart) (c : Call) (bound : Option ℕ)
     (a : Answer) → HasTagRoom terms.layout tag → binds c ≡ true → CallAnswers terms tag pass v c bound a w
-    → (rest : List Heard) → tells_number tag (record { pass = pass; log = w.log } ∷ rest) (number_told a) ≡ true
+    → (rest : List Heard) → tells_number tag (part_heard pass w ∷ rest) (number_told a) ≡ true
 tells_own terms tag pass v w (call.Insert words) bound a room b h rest =
-    subst (λ (x : Answer). tells_number tag (record { pass = pass; log = w.log } ∷ rest) (number_told x) ≡ true)
+    subst (λ (x : Answer). tells_number tag (part_heard pass w ∷ rest) (number_told x) ≡ true)
     (sym h.is) (go h.result h.does)
   where
     go : (r : Result ℕ Refusal) → WordsAnswers terms pass v words r w
-        → tells_number tag (record { pass = pass; log = w.log } ∷ rest) (number_told (key_answer tag r)) ≡ true
+        → tells_number tag (part_heard pass w ∷ rest) (number_told (key_answer tag r)) ≡ true
     go (Err e) d = refl
     go (Ok key) d =
         let inserts = unrefused (words_refusal words) key _ _ d in
         let own : ValueInserted terms pass v words (Ok key) w = unrefused (needs_shard v.shard) key _ _ inserts.0 in
         let e : LogEntry = Known (Insert pass key words) in
         let log : w.log ≡ v.log ++ e ∷ [] = ap (λ (u : PassPart). u.log) own.1 in
-        let it : Heard = record { pass = pass; log = w.log } in
+        let it : Heard = part_heard pass w in
         let back : key_shown tag (shown tag key) ≡ Some key = shown_back terms.layout tag key own.0.small room in
         let test : is_insert_of (key_shown tag (shown tag key)) e ≡ true = subst (λ (o : Option ℕ). is_insert_of o e
         ≡ true) (sym back) (eq-eqb key key refl) in
@@ -328,6 +329,6 @@ tells_own terms tag pass v w (call.Insert words) bound a room b h rest =
         (subst (λ (l : List LogEntry). Contains l e) (sym log) (Contains-push v.log e)) test in
         passes_there (has_insert (key_shown tag (shown tag key))) (it ∷ rest) it (first_in it rest) has
 tells_own terms tag pass v w call.Post bound a room b h rest =
-    subst (λ (x : Answer). tells_number tag (record { pass = pass; log = w.log } ∷ rest) (number_told x) ≡ true)
+    subst (λ (x : Answer). tells_number tag (part_heard pass w ∷ rest) (number_told x) ≡ true)
     (sym h.0) refl
 tells_own terms tag pass v w _ bound a room b h rest = absurd (let z : false ≡ true = b in cc)

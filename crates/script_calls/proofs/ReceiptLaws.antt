@@ -1,27 +1,23 @@
 -- What a receipt contains, and what a pass knows that heeded one.
-use Rattle.std.proofs.Common.{◌≡◌, List, [], ◌∷◌, ◌++◌, map, refl, sym, ap, subst, ◌∙◌, Some}
+use Rattle.std.proofs.Common.{◌≡◌, ◌∷◌, ◌++◌, length, map, refl, sym, ap, subst, ◌∙◌, Some}
 use Rattle.sh_key.specs.Layout.{Layout}
 use Rattle.sh_table.specs.declared.view.Told.{Told}
-use Rattle.sh_table.specs.declared.view.Heard.{Heard}
+use Rattle.sh_table.specs.Views.{done_by}
 use Rattle.sh_table.specs.declared.view.Order.{Order}
 use Rattle.sh_pass.specs.Receipts.{receipt_by, heeded}
 use Rattle.sh_shard.specs.Shards.{Sharded, shard_heeded}
 use Rattle.sh_pass.specs.Passes.{Caller}
-use Rattle.script_calls.specs.Receipts.{seen_of_receipt, told_heard, receipt_seen, Heeds}
+use Rattle.script_calls.specs.OwnParts.{own_part, taken_in}
+use Rattle.script_calls.specs.Receipts.{seen_of_receipt, receipt_seen, Heeds}
 use Rattle.sh_member.specs.Sides.{SeenSide}
-use Rattle.script_calls.specs.Running.{seen_standing, seen_of_caller, seen_of_shard, log_told}
+use Rattle.script_calls.specs.Running.{seen_standing, seen_of_caller, seen_of_shard}
 
-heard_told : (ts : List Told) → map (λ t. record { pass = t.pass; log = t.own.log }) ts
-    ≡ map told_heard (map log_told ts)
-heard_told [] = refl
-heard_told (t ∷ ts) = ap (λ (l : List Heard). record { pass = t.pass; log = t.own.log } ∷ l) (heard_told ts)
-
-pub receipt_told : (layout : Layout) (v r : Caller) (t : SeenSide) → r ≡ receipt_by v → seen_of_receipt r
-    ≡ receipt_seen (seen_standing layout v t)
-receipt_told layout v r t e = ap seen_of_receipt e ∙ (λ i. record {
+pub receipt_told : (layout : Layout) (v r : Caller) (t : SeenSide) → own_part t ≡ v.view.own
+    → taken_in t ≡ v.view.told → r ≡ receipt_by v → seen_of_receipt r ≡ receipt_seen (seen_standing layout v t)
+receipt_told layout v r t own told e = ap seen_of_receipt e ∙ (λ i. record {
   heap = Some v.heap;
-  heard = record { pass = v.view.pass; log = v.view.own.log } ∷ (heard_told v.view.told i
-      ++ map (λ (o : Order). o.heard) v.view.orders);
+  heard = record { pass = v.view.pass; log = v.view.own.log; steps = length (sym own i).trail }
+      ∷ (map (λ (s : Told). done_by s.pass s.own) (sym told i) ++ map (λ (o : Order). o.heard) v.view.orders);
   orders = v.view.orders;
 })
 

@@ -63,8 +63,8 @@ tells_number tag heard (Some number) = list_any (has_insert (key_shown tag numbe
 -- if there is a number, the pass had heard of the insert of its key when it had `first` entries
 abbrev pub HeardOfNumber : (tag : Option ℕ) → List Order → (pass first : ℕ) → Option ℕ → Type 0
 HeardOfNumber tag orders pass first None = Unit {0}
-HeardOfNumber tag orders pass first (Some number) = (h : Heard)
-    × Contains orders (record { heard = h; carrier = pass; length = first })
+HeardOfNumber tag orders pass first (Some number) = (h : Heard) × (steps : ℕ)
+    × Contains orders (record { heard = h; carrier = pass; length = first; steps = steps })
     × (has_insert (key_shown tag number) h ≡ true)
 
 -- before each of these lines on a name, its pass had heard of the insert of its key

@@ -1,5 +1,5 @@
 -- The own part of a pass: what it knows of its own, its entries, and each of its steps with the word that it found.
-use Rattle.std.specs.Prelude.{◌≡◌, List, [], Ok}
+use Rattle.std.specs.Prelude.{◌≡◌, ℕ, List, [], length, Ok}
 use Rattle.sh_table.specs.declared.view.Own.{Own}
 use Rattle.sh_table.specs.declared.view.Told.{Told}
 use Rattle.sh_table.specs.Views.{fresh}
@@ -17,6 +17,10 @@ abbrev pub taken_in : SeenSide → List Told
 taken_in (Pass v) = v.view.told
 taken_in (Shard o) = o.pages.owner.view.told
 taken_in Moving = []
+
+-- how many steps it did
+abbrev pub steps_of : SeenSide → ℕ
+steps_of s = length (own_part s).trail
 
 -- the pass ends with this own part: if it owns a shard, the one that it has after it left, and otherwise its own
 abbrev pub EndsWith : SeenSide → Own → Type 0

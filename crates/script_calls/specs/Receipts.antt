@@ -1,16 +1,18 @@
 -- Receipts, as a run of calls sees them.
-use Rattle.std.specs.Prelude.{◌≡◌, List, ◌∷◌, ◌++◌, ◌⊎◌, map, length, Option, Some}
+use Rattle.std.specs.Prelude.{◌≡◌, ℕ, List, ◌∷◌, ◌++◌, ◌⊎◌, map, length, Option, Some}
 use Rattle.sh_table.specs.declared.view.Heard.{Heard}
 use Rattle.sh_table.specs.declared.view.Order.{Order}
 use Rattle.sh_table.specs.Seats.{Heap}
 use Rattle.sh_table.specs.Tales.{Before}
-use Rattle.sh_table.specs.Views.{Each, heard_in}
+use Rattle.sh_table.specs.Views.{Each, done_by, heard_in}
+use Rattle.sh_table.specs.declared.view.Told.{Told}
 use Rattle.sh_pass.specs.Passes.{Caller}
 use Rattle.sh_pass.specs.Receipts.{heeded}
 use Rattle.sh_shard.specs.Shards.{shard_heeded}
 use Rattle.sh_member.specs.declared.member.Side.TheVariants.{Pass, Shard, Moving}
 use Rattle.sh_member.specs.Sides.{SeenSide}
-use Rattle.script_calls.specs.Parts.{PassPart, SeenPass, PassTold, HasWholeTale, Becomes, tale_told}
+use Rattle.script_calls.specs.OwnParts.{steps_of, taken_in}
+use Rattle.script_calls.specs.Parts.{PassPart, SeenPass, HasWholeTale, Becomes, tale_told}
 
 -- which heap it is of, and what it contains
 pub record SeenReceipt : Type 0 where
@@ -21,20 +23,30 @@ pub record SeenReceipt : Type 0 where
 abbrev pub seen_of_receipt : Caller → SeenReceipt
 seen_of_receipt r = record { heap = Some r.heap; heard = heard_in r.view; orders = r.view.orders }
 
-abbrev pub told_heard : PassTold → Heard
-told_heard t = record { pass = t.pass; log = t.log }
+-- all that the pass with this number and this part made and did
+abbrev pub part_heard : ℕ → PassPart → Heard
+part_heard pass v = record { pass = pass; log = v.log; steps = steps_of v.stands }
+
+-- the same of the passes that it took in
+abbrev pub taken_heard : SeenPass → List Heard
+taken_heard s = map (λ (t : Told). done_by t.pass t.own) (taken_in s.part.stands)
 
 -- a receipt of this pass
 abbrev pub receipt_seen : SeenPass → SeenReceipt
 receipt_seen s = record {
   heap = s.heap;
-  heard = record { pass = s.pass; log = s.part.log } ∷ (map told_heard s.told ++ map (λ o. o.heard) s.orders);
+  heard = part_heard s.pass s.part ∷ (taken_heard s ++ map (λ (o : Order). o.heard) s.orders);
   orders = s.orders;
 }
 
--- what was heard happens before all that is returned to the pass from now on
+-- what was heard happens before all that the pass does from now on
 abbrev pub order_seen : SeenPass → Heard → Order
-order_seen s h = record { heard = h; carrier = s.pass; length = length s.part.log }
+order_seen s h = record {
+  heard = h;
+  carrier = s.pass;
+  length = length s.part.log;
+  steps = steps_of s.part.stands;
+}
 
 abbrev pub orders_heard : SeenPass → SeenReceipt → List Order
 orders_heard s r = s.orders ++ (r.orders ++ map (order_seen s) r.heard)

@@ -12,7 +12,7 @@ use Rattle.script_output.specs.Keys.{HasTagRoom}
 use Rattle.script_calls.specs.Calls.{CallAnswers, binds, number_told}
 use Rattle.script_calls.specs.Meeting.{KeepsOrders}
 use Rattle.script_calls.specs.Named.{HeardOfNumber, tells_number}
-use Rattle.script_calls.specs.Receipts.{receipt_seen, told_heard}
+use Rattle.script_calls.specs.Receipts.{receipt_seen, part_heard, taken_heard}
 use Rattle.script_calls.proofs.NameLemmas.{heard_kept, tells_own}
 use Rattle.script_workers.specs.declared.worker.Made.{Made}
 use Rattle.script_workers.specs.Boards.{MayHearName}
@@ -176,10 +176,10 @@ module _ (heap : Option Heap) (terms : RunTerms) (tag : Option ℕ) (lines : Lis
       ∙ ap (λ (z : SeenPass). record z { part = mid.part; orders = mid.orders }) h.is in
       let roomy : HasTagRoom mid.terms.layout tag = subst (λ (z : SeenPass). HasTagRoom z.terms.layout tag) (sym mid_is)
       room in
-      let rest : List Heard = map told_heard after.told ++ map (λ (o : Order). o.heard) after.orders in (
+      let rest : List Heard = taken_heard after ++ map (λ (o : Order). o.heard) after.orders in (
         ap (λ (z : SeenPass). z.heap) same ∙ ap (λ (z : SeenPass). z.heap) mid_is,
-        λ b. subst (λ (q : ℕ). tells_number tag (record { pass = q; log = after.part.log } ∷ rest)
-            (number_told m.answer) ≡ true) (ap (λ (z : SeenPass). z.pass) (sym same))
+        λ b. subst (λ (q : ℕ). tells_number tag (part_heard q after.part ∷ rest) (number_told m.answer) ≡ true)
+            (ap (λ (z : SeenPass). z.pass) (sym same))
             (tells_own mid.terms tag mid.pass mid.part after.part l.call m.bound m.answer roomy b does rest),
       )
 

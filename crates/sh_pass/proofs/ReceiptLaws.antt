@@ -14,21 +14,21 @@ use Rattle.sh_table.specs.declared.view.Order.{Order}
 use Rattle.sh_table.specs.declared.view.View.{View}
 use Rattle.sh_table.specs.Orders.{AnsweredAfter, RemovedIsGone, SaysThere}
 use Rattle.sh_table.specs.Tales.{ViewStands}
-use Rattle.sh_table.specs.Views.{order_of}
+use Rattle.sh_table.specs.Views.{done_by, order_of}
 use Rattle.sh_pass.specs.Passes.{Caller, GetDoes, RemoveDoes}
 use Rattle.sh_pass.specs.Growing.{SameTale}
 use Rattle.sh_pass.specs.Receipts.{receipt_by, heeded, FindsNone}
 
--- all results of a pass
+-- all results and steps of a pass
 abbrev pub heard_of : Caller → Heard
-heard_of o = record { pass = o.view.pass; log = o.view.own.log }
+heard_of o = done_by o.view.pass o.view.own
 
 pub answered_after : (o c : Caller) (w : View) (x : LogEntry) → w.pass ≡ c.view.pass
     → w.orders ≡ (heeded c (receipt_by o)).view.orders → w.own.log ≡ c.view.own.log ++ x ∷ []
     → AnsweredAfter w (heard_of o) x
 answered_after o c w x pass orders log =
     let it : Order = order_of c.view (heard_of o) in
-    let rest : List Order = map (order_of c.view) (map (λ t. record { pass = t.pass; log = t.own.log }) o.view.told
+    let rest : List Order = map (order_of c.view) (map (λ t. done_by t.pass t.own) o.view.told
     ++ map (λ o. o.heard) o.view.orders) in
     record {
       order = it;

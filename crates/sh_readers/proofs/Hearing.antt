@@ -16,7 +16,7 @@ use Rattle.sh_table.specs.declared.view.Heard.{Heard}
 use Rattle.sh_table.specs.declared.view.Order.{Order}
 use Rattle.sh_table.specs.Orders.{AnsweredAfter, GoneIsRemoved, GotIsInserted}
 use Rattle.sh_table.specs.Tales.{ViewStands}
-use Rattle.sh_table.specs.Views.{order_of, heard_in}
+use Rattle.sh_table.specs.Views.{done_by, order_of, heard_in}
 use Rattle.sh_pass.specs.Growing.{SameTale}
 use Rattle.sh_pass.specs.Passes.{Caller}
 use Rattle.sh_pass.specs.Receipts.{receipt_by, heeded}
@@ -34,7 +34,7 @@ contains_map f xs x c =
 pub tells_own : (key : ℕ) (value : List ℕ) (v w : Caller) → w.view.own.log
     ≡ v.view.own.log ++ Known (entry.Insert v.view.pass key value) ∷ [] → CoversInsert key value (receipt_by w)
 tells_own key value v w log =
-    let own : Heard = record { pass = w.view.pass; log = w.view.own.log } in
+    let own : Heard = done_by w.view.pass w.view.own in
     let it : LogEntry = Known (entry.Insert v.view.pass key value) in
     record {
       heard = own;

@@ -7,7 +7,7 @@ use Rattle.sh_table.specs.declared.view.Order.{Order}
 use Rattle.sh_table.specs.declared.view.Own.{Own}
 use Rattle.sh_table.specs.declared.view.Told.{Told}
 use Rattle.sh_table.specs.declared.view.View.{View}
-use Rattle.sh_table.specs.Views.{Each, heard_in, order_of, orders_with}
+use Rattle.sh_table.specs.Views.{Each, done_by, heard_in, order_of, orders_with}
 use Rattle.sh_table.specs.Tales.{by, IsLogOf, HasFirst, Before}
 use Rattle.sh_table.proofs.Zips.{each_map, each_append, each_of_map, zip_length, by_append}
 
@@ -30,7 +30,7 @@ before_stays log new o b = (
 )
 
 -- all of a pass's entries are its first ones
-pub all_first : (log : List Entry) (a : ℕ) (o : Own) → IsLogOf a o log → HasFirst log (record { pass = a; log = o.log })
+pub all_first : (log : List Entry) (a : ℕ) (o : Own) → IsLogOf a o log → HasFirst log (done_by a o)
 all_first log a o h = (by a log, [], sym (append-nil (by a log)), h)
 
 -- each order is about entries that were heard
@@ -44,8 +44,8 @@ module _ (log : List Entry) where
       → Each (Before log) v.orders → Each (HasFirst log) (heard_in v)
   can_tell v own told orders = (
     all_first log v.pass v.own own,
-    each_append (HasFirst log) (map (λ (t : Told). record { pass = t.pass; log = t.own.log }) v.told) _
-        (each_of_map (HasFirst log) (λ (t : Told). record { pass = t.pass; log = t.own.log }) v.told
+    each_append (HasFirst log) (map (λ (t : Told). done_by t.pass t.own) v.told) _
+        (each_of_map (HasFirst log) (λ (t : Told). done_by t.pass t.own) v.told
         (each_map _ _ (λ (t : Told) (h : IsLogOf t.pass t.own log). all_first log t.pass t.own h) v.told told))
         (each_of_map (HasFirst log) (λ (o : Order). o.heard) v.orders
         (each_map _ _ (λ (o : Order) (b : Before log o). heard_before log o b) v.orders orders)),

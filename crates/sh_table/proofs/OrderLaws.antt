@@ -18,7 +18,7 @@ use Rattle.sh_key.specs.Layout.{Layout}
 use Rattle.sh_table.specs.declared.view.Heard.{Heard}
 use Rattle.sh_table.specs.declared.view.Told.{Told}
 use Rattle.sh_table.specs.declared.view.View.{View}
-use Rattle.sh_table.specs.Views.{Each}
+use Rattle.sh_table.specs.Views.{Each, done_by}
 use Rattle.sh_table.specs.Tales.{by, IsLogOf, HasFirst, Before, IsTale}
 use Rattle.sh_table.specs.Orders.{HeardComesFirst, GoneIsRemoved, GotIsInserted, RemovedIsGone, SaysThere}
 use Rattle.sh_table.specs.Orders.{NothingComesLater}
@@ -204,7 +204,7 @@ removed_is_gone layout v history tale h p k removed x after says =
 pub nothing_later : NothingComesLater
 nothing_later layout v history tale t told o stands same =
     let b : Before history o = each_in (Before history) v.orders o stands tale.orders in
-    let f : HasFirst b.0 (record { pass = t.pass; log = t.own.log }) = subst (HasFirst b.0) same b.4 in
+    let f : HasFirst b.0 (done_by t.pass t.own) = subst (HasFirst b.0) same b.4 in
     let whole : length t.own.log ≡ length (by t.pass history) = zip_length Agrees t.own.log (by t.pass history)
     (each_in (λ (x : Told). IsLogOf x.pass x.own history) v.told t told tale.told) in
     let heard : length t.own.log ≡ length f.0 = zip_length Agrees t.own.log f.0 f.3 in

@@ -13,6 +13,7 @@ use Rattle.sh_table.specs.declared.view.Order.{Order}
 use Rattle.sh_table.specs.declared.view.Told.{Told}
 use Rattle.sh_table.specs.declared.view.View.{View}
 use Rattle.sh_table.specs.Tales.{by, HasFirst, IsTale}
+use Rattle.sh_table.specs.Views.{done_by}
 
 -- the pass of the view got the result x after it had heard this of another pass
 pub record AnsweredAfter (v : View) (h : Heard) (x : LogEntry) : Type 0 where
@@ -72,6 +73,6 @@ RemovedIsGone = (layout : Layout) (v : View) (history : List Entry) → IsTale l
 abbrev pub NothingComesLater : Type 0
 NothingComesLater = (layout : Layout) (v : View) (history : List Entry) → IsTale layout v history
     → (t : Told) → Contains v.told t → (o : Order) → Contains v.orders o
-    → o.heard ≡ record { pass = t.pass; log = t.own.log }
+    → o.heard ≡ done_by t.pass t.own
     → (early : List Entry) × (late : List Entry) × (history ≡ early ++ late)
     × (length (by o.carrier early) ≡ o.length) × (by t.pass late ≡ [])
