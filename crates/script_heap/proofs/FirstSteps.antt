@@ -1,6 +1,6 @@
 -- The first step of a run finds its word as the heap opened it.
 use Rattle.std.proofs.Common.{◌≡◌, ◌≢◌, ℕ, ◌<◌, ◌==◌, Bool, true, false, cond, List, [], ◌∷◌, ◌++◌, length, refl, ap}
-use Rattle.std.proofs.Common.{sym, ◌∙◌, subst, arith, append-nil, append_assoc, eq-eqb, ⊎_elim}
+use Rattle.std.proofs.Common.{sym, ◌∙◌, subst, arith, eq-eqb, ⊎_elim}
 use Rattle.std.proofs.Common.{Option, Some, None, slice_get}
 use Rattle.std.specs.Prelude.{◌&&◌, replicate}
 use Rattle.std.proofs.lemmas.Bool.{cases_eq}
@@ -29,35 +29,9 @@ use Rattle.sh_core.specs.Trails.{trodden, trail_from, trail_of}
 use Rattle.sh_core.specs.Words.{read, opening}
 use Rattle.sh_core.specs.Worlds.{World, step, open_world}
 use Rattle.sh_core.proofs.WaitFree.{skipped}
+use Rattle.sh_core.proofs.Words.Trails.{treads, tread_on}
 
 -- ---- trails
-
--- what an event that is done by this row adds to the trail of pass a
-abbrev treads : World → Event → ℕ → List Footstep → Option Row → List Footstep
-treads w e a steps o = elim o [
-  | Some m ↦ cond (e.pass == a) (steps ++ footstep_of e.action m (read w.words m.place) ∷ []) steps
-  | None ↦ steps
-]
-
-chosen : (b : Bool) (t : Footstep) (steps : List Footstep) → (new : List Footstep)
-    × (cond b (steps ++ t ∷ []) steps ≡ steps ++ new)
-chosen true t steps = (t ∷ [], refl)
-chosen false t steps = ([], sym (append-nil steps))
-
-treads_on : (w : World) (e : Event) (a : ℕ) (steps : List Footstep) (o : Option Row) → (new : List Footstep)
-    × (treads w e a steps o ≡ steps ++ new)
-treads_on w e a steps None = ([], sym (append-nil steps))
-treads_on w e a steps (Some m) = chosen (e.pass == a) (footstep_of e.action m (read w.words m.place)) steps
-
--- a trail begins with the steps that are there
-goes_on : (plan : Plan) (w : World) (a : ℕ) (steps : List Footstep) (es : List Event) → (more : List Footstep)
-    × (trail_from plan w a steps es ≡ steps ++ more)
-unfolding trail_from
-goes_on plan w a steps [] = ([], sym (append-nil steps))
-goes_on plan w a steps (e ∷ es) =
-    let new = treads_on w e a steps (row_of_event plan w e) in
-    let rest = goes_on plan (step plan w e) a (trodden plan w e a steps) es in
-    (new.0 ++ rest.0, rest.1 ∙ (ap (λ z. z ++ rest.0) new.1 ∙ append_assoc steps new.0 rest.0))
 
 trail_more : (plan : Plan) (w : World) (a : ℕ) (steps : List Footstep) (e : Event) (es : List Event)
     → trail_from plan w a steps (e ∷ es) ≡ trail_from plan (step plan w e) a (trodden plan w e a steps) es
@@ -119,7 +93,7 @@ module _ (plan : Plan) (shard pass : ℕ) where
   begins e m es is =
       let one : trodden plan opened e e.pass [] ≡ first e m ∷ [] =
       ap (treads opened e e.pass []) is ∙ ap (λ b. cond b (first e m ∷ []) []) (eq-eqb e.pass e.pass refl) in
-      let rest = goes_on plan (step plan opened e) e.pass (trodden plan opened e e.pass []) es in
+      let rest = tread_on plan (step plan opened e) e.pass (trodden plan opened e e.pass []) es in
       (rest.0, trail_more plan opened e.pass [] e es ∙ (rest.1 ∙ ap (λ z. z ++ rest.0) one))
 
   -- an event that was skipped first changes no trail

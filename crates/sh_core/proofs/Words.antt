@@ -1,5 +1,6 @@
 -- The code: one list of words and the parts represent the world, and a step of the code is a step of that world.
 pub mod Steps
+pub mod Trails
 pub mod Stepping
 pub mod Doing
 pub mod Ready
