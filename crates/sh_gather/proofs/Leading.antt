@@ -47,6 +47,7 @@ leads_front layout v more es h = record {
       (run (plan_of layout v.shape) es).words m.0 ≡ m.1) v.noted more h.noted).0;
   own = h.own;
   told = h.told;
+  steps = h.steps;
 }
 
 pub leads_before : (layout : Layout) (v : View) (place : Place) (n : ℕ) (es : List Event)
@@ -55,14 +56,19 @@ pub leads_before : (layout : Layout) (v : View) (place : Place) (n : ℕ) (es : 
 leads_before layout v place n es h =
     let f = front (λ (m : Place × ℕ). read (run (plan_of layout v.shape) es).words m.0 ≡ m.1) v.noted ((place, n) ∷ [])
     h.noted in
-    (record { noted = f.0; own = h.own; told = h.told }, f.1.0)
+    (record { noted = f.0; own = h.own; told = h.told; steps = h.steps }, f.1.0)
 
 -- ---- what the tale says of the passes
 
 pub leading : (layout : Layout) (v : View) → Core → Known layout v → CanBe layout v
 leading layout v core k = (
   k.events,
-  record { noted = k.noted; own = k.own; told = each_map _ _ (λ (t : Told) x. x.0) v.told k.told },
+  record {
+    noted = k.noted;
+    own = k.own;
+    told = each_map _ _ (λ (t : Told) x. x.0) v.told k.told;
+    steps = k.steps;
+  },
   record { tale = k.tale; ours = (core.0 layout v.shape k.is_layout k.is_shape k.fits k.events).entries },
 )
 

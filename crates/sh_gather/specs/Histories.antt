@@ -11,7 +11,7 @@ use Rattle.sh_core.specs.Worlds.{World, run}
 use Rattle.sh_table.specs.declared.view.View.{View}
 use Rattle.sh_table.specs.Views.{Each}
 use Rattle.sh_table.specs.Tales.{IsTale}
-use Rattle.sh_table.specs.Reached.{HasOwn}
+use Rattle.sh_table.specs.Reached.{HasOwn, StepsBefore}
 
 -- A legal history with the log of each pass of the tale, in the order of the joins. Entries of passes outside the heap
 -- are left out, since a tale says nothing of a pass that it does not name. Which numbers its passes have does not
@@ -22,11 +22,13 @@ pub record IsHistory (layout : Layout) (v : View) (history : List Entry) : Type 
   pub tale : IsTale layout v history
   pub ours : All (λ e. pass_of e < v.shape.passes) history
 
--- the events lead to the words that were noted, and to the parts of the passes of the tale
+-- the events lead to the words that were noted, and to the parts of the passes of the tale, and have the steps in the
+-- orders that the view knows
 pub record LeadsHere (layout : Layout) (v : View) (events : List Event) : Type 0 where
   pub noted : Each (λ n. read (run (plan_of layout v.shape) events).words n.0 ≡ n.1) v.noted
   pub own : HasOwn (plan_of layout v.shape) events v.pass v.own
   pub told : Each (λ t. HasOwn (plan_of layout v.shape) events t.pass t.own) v.told
+  pub steps : Each (StepsBefore (plan_of layout v.shape) events) v.orders
 
 -- this holds of world and lists after every list of events that leads here
 abbrev pub Sure : Layout → View → (World → PutLists → Type 0) → Type 0
