@@ -9,5 +9,6 @@ pub mod Examples
 pub mod Quiet
 pub mod Collects
 pub mod WaitFree
+pub mod Replays
 pub mod MapEntries
 pub mod AtomicMap

@@ -20,7 +20,7 @@ use Rattle.sh_core.specs.Worlds.{World, apply, run, step, open_world}
 use Rattle.sh_core.proofs.Sums.Totals.{get_set_here}
 use Rattle.sh_core.proofs.Words.Steps.{run_snoc, row_of_at, trail_grows, others_trails_stay, skips_leave_trails}
 
-get_set_other : {A : Type 0} (xs : List A) (i j : ℕ) (w : A) → i ≢ j → slice_get (set xs i w) j ≡ slice_get xs j
+pub get_set_other : {A : Type 0} (xs : List A) (i j : ℕ) (w : A) → i ≢ j → slice_get (set xs i w) j ≡ slice_get xs j
 get_set_other [] i j w other = refl
 get_set_other (x ∷ xs) zero zero w other = absurd (other refl)
 get_set_other (x ∷ xs) zero (suc j) w other = refl

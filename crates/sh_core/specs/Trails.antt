@@ -1,6 +1,6 @@
 -- What a pass did, step by step: a trail is part of no world, and no condition reads it. What is counted over it is in
 -- sh_step's Footsteps.
-use Rattle.std.specs.Prelude.{ℕ, ◌≡◌, ◌≢◌, ◌==◌, List, [], ◌∷◌, ◌++◌, Some, None, cond, filter, slice_get}
+use Rattle.std.specs.Prelude.{ℕ, ◌≡◌, ◌≢◌, ◌<◌, ◌==◌, List, [], ◌∷◌, ◌++◌, Some, None, cond, filter, slice_get}
 use Rattle.sh_history.specs.declared.entry.Entry.{Entry}
 use Rattle.sh_history.specs.Log.{pass_of}
 use Rattle.sh_step.specs.declared.action.Action.{Action}
@@ -8,6 +8,7 @@ use Rattle.sh_step.specs.declared.action.Event.{Event}
 use Rattle.sh_step.specs.declared.body.Body.{Body}
 use Rattle.sh_step.specs.declared.footstep.Footstep.{Footstep}
 use Rattle.sh_step.specs.Footsteps.{footstep_of}
+use Rattle.sh_step.specs.Parts.{newcomer}
 use Rattle.sh_step.specs.Plans.{Plan}
 use Rattle.sh_step.specs.Moves.{row}
 use Rattle.sh_step.specs.Rows.{Row}
@@ -30,6 +31,19 @@ trail_from plan w a steps (e ∷ es) = trail_from plan (step plan w e) a (trodde
 abbrev pub trail_of : Plan → List Event → ℕ → List Footstep
 trail_of plan es a = trail_from plan (open_world plan) a [] es
 
+-- the word that a step found, or 0 if its operation returns none
+abbrev pub word_found : Footstep → ℕ
+word_found t = elim (t.answer) [ Some n ↦ n | None ↦ 0 ]
+
+-- what one step leaves of a part
+unfoldable pub body_then : Plan → Body → Footstep → Body
+body_then plan p t = elim (row plan p t.action) [ Some r ↦ r.part (word_found t) | None ↦ p ]
+
+-- what these steps leave of a part, one after the other
+unfoldable pub body_by : Plan → Body → List Footstep → Body
+body_by plan p [] = p
+body_by plan p (t ∷ steps) = body_by plan (body_then plan p t) steps
+
 -- the log of pass a: its entries in the log of the world, in order
 abbrev pub log_of : ℕ → World → List Entry
 log_of a w = filter (λ e. pass_of e == a) w.log
@@ -46,6 +60,11 @@ TrailGrows = (plan : Plan) (es : List Event) (a : ℕ) (x : Action) (p : Body) (
 abbrev pub OthersTrailsStay : Type 0
 OthersTrailsStay = (plan : Plan) (es : List Event) (e : Event) (a : ℕ) → e.pass ≢ a → trail_of plan (es ++ e ∷ []) a
     ≡ trail_of plan es a
+
+-- the part of a pass is what the steps of its trail leave of a newcomer's: no other event changes it
+abbrev pub StepsMakeParts : Type 0
+StepsMakeParts = (plan : Plan) (es : List Event) (a : ℕ) → a < plan.passes
+    → slice_get (run plan es).parts a ≡ Some (body_by plan newcomer (trail_of plan es a))
 
 -- an event that is skipped leaves all trails as they were
 abbrev pub SkipsLeaveTrails : Type 0
