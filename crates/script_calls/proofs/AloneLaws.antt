@@ -27,7 +27,9 @@ use Rattle.script_calls.specs.Meeting.{KeepsOrders, orders_of}
 use Rattle.script_calls.proofs.ListLemmas.{get_set_same, take_at, within, get_snoc, contains_map, each_in, each_left}
 use Rattle.script_calls.proofs.ListLemmas.{each_right}
 use Rattle.script_calls.proofs.NameLemmas.{numbers_after, meant_at, heard_more, heard_kept, orders_at, orders_set}
-use Rattle.script_calls.proofs.NameLemmas.{heeds_keeps, heard_by_heeding, tells_on, tells_own, may_log}
+use Rattle.script_calls.proofs.NameLemmas.{heard_by_heeding, tells_on, tells_own, may_log}
+use Rattle.script_calls.proofs.HearLaws.{orders_only, may_heed, orders_heed}
+use Rattle.script_calls.proofs.HeardAll.{nothing_in}
 use Rattle.script_calls.proofs.LineLemmas.{part_here, part_there}
 use Rattle.script_calls.proofs.OrderLemmas.{times_append, times_length, times_here, times_else}
 use Rattle.script_calls.proofs.GrowLemmas.{grows}
@@ -40,10 +42,6 @@ use Rattle.sh_table.specs.Views.{Each, heard_in}
 use Rattle.sh_table.proofs.Zips.{zip_length}
 
 -- ---- elements of lists
-
-nothing_in : {A : Type 0} (before : List A) (x : A) (after : List A) → [] ≡ before ++ x ∷ after → ⊥
-nothing_in [] x after e = let z : [] ≡ x ∷ after = e in cc
-nothing_in (y ∷ ys) x after e = let z : [] ≡ y ∷ (ys ++ x ∷ after) = e in cc
 
 snoc_split : (who before after : List ℕ) (x a : ℕ) → who ++ x ∷ [] ≡ before ++ a ∷ after
     → ((before ≡ who) × (a ≡ x)) ⊎ ((rest : List ℕ) × (who ≡ before ++ a ∷ rest))
@@ -98,21 +96,7 @@ order_cut history who p s h b pass few own =
 
 -- ---- one more line
 
-pub orders_only : (last : Option Caller) (side mid : SeenPass) → HeedsLast last side mid
-    → mid ≡ record side { part = mid.part; orders = mid.orders }
-orders_only None side mid e = e ∙ ap (λ (z : SeenPass). record side { part = z.part; orders = z.orders }) (sym e)
-orders_only (Some r) side mid e = e.is ∙ ap (λ (z : SeenPass). record side { part = mid.part; orders = z.orders })
-    (sym e.is)
-
-may_heed : (last : Option Caller) (side mid : SeenPass) → HeedsLast last side mid → MayHeed side.part mid.part
-may_heed None side mid e = inl (ap (λ (z : SeenPass). z.part) e)
-may_heed (Some r) side mid e = inr (r, e.part)
-
-pub orders_heed : (last : Option Caller) (s c : SeenPass) → HeedsLast last s c → KeepsOrders s.orders c.orders
-orders_heed None s c e o h = subst (λ (z : SeenPass). Contains z.orders o) (sym e) h
-orders_heed (Some r) s c e o h = heeds_keeps r s c e o h
-
-pub all_heard : (heap : Option Heap) (who : List ℕ) (last : Option Caller) (side mid : SeenPass)
+all_heard : (heap : Option Heap) (who : List ℕ) (last : Option Caller) (side mid : SeenPass)
     → LastHeard heap who last → HeedsLast last side mid → (history : List Entry) → Each (Before history) mid.orders
     → AllHeard history who
 all_heard heap who None side mid h e history each = λ before after a is p. absurd

@@ -1,6 +1,6 @@
 -- The own part with which each pass ends, once it left its shard.
 use Rattle.std.proofs.Common.{◌≡◌, ℕ, suc, zero, ◌<◌, List, [], ◌∷◌, ◌++◌, length, map, slice_get, Option}
-use Rattle.std.proofs.Common.{Some, None, sym, refl, ap, subst, arith, Ok, Err}
+use Rattle.std.proofs.Common.{Some, None, sym, refl, ap, ◌∙◌, subst, arith, Ok, Err}
 use Rattle.std.specs.List.{All, Contains}
 use Rattle.std.proofs.lemmas.List.Elements.{All-head, All-tail, All-push, All-weaker}
 use Rattle.std.proofs.lemmas.List.Elements.{Contains-append_left, Contains-append_right}
@@ -14,10 +14,11 @@ use Rattle.sh_member.specs.declared.member.Side.TheVariants.{Pass, Shard, Moving
 use Rattle.sh_member.specs.Sides.{SeenSide, SideLeaves}
 use Rattle.script_calls.specs.OwnParts.{EndsWith, own_part, taken_in}
 use Rattle.script_calls.specs.Parts.{RunTerms, PassPart, SeenPass, SamePass}
-use Rattle.script_calls.specs.Receipts.{SideHeeded}
+use Rattle.script_calls.specs.Receipts.{MayHeed, SideHeeded}
 use Rattle.script_calls.specs.Calls.{LeaveAnswers}
-use Rattle.script_calls.specs.Meeting.{JoinsParts, EndedAmong, HasEnded, CarriesEnd, parts_carried}
-use Rattle.script_calls.specs.Alone.{AnsweredSoFar, HeedsLast}
+use Rattle.script_calls.specs.Meeting.{JoinsParts, EndsAmong, EndedAmong, HasEnded, CarriesEnd, parts_carried}
+use Rattle.script_calls.specs.Alone.{AnsweredSoFar}
+use Rattle.script_calls.specs.Hearing.{AllHear}
 use Rattle.script_calls.proofs.ListLemmas.{get_some, map_more}
 
 -- ---- leaving
@@ -44,7 +45,7 @@ ends_without_shard v w h = pass_so v.stands w.stands h.1
 -- ---- meeting
 
 more_told : (s : SeenPass) (xs ys : List Told) → ((t : Told) → Contains xs t → Contains ys t)
-    → EndedAmong xs s.pass s.part → EndedAmong ys s.pass s.part
+    → EndsAmong xs s.pass s.part → EndsAmong ys s.pass s.part
 more_told s xs ys more h = (h.0, h.1, more (record { pass = s.pass; own = h.0 }) h.2)
 
 first_told : (x : Told) (xs : List Told) → Contains (x ∷ xs) x
@@ -94,18 +95,11 @@ all_ended seen all ys c o yielded is h =
 
 -- ---- heeding
 
-side_heeds : (r : Caller) (x y : SeenSide) → SideHeeded r x y
+pub side_heeds : (r : Caller) (x y : SeenSide) → SideHeeded r x y
     → (own_part y ≡ own_part x) × (taken_in y ≡ taken_in x)
 side_heeds r (Pass v) y h = (ap own_part h, ap taken_in h)
 side_heeds r (Shard o) y h = (ap own_part h, ap taken_in h)
 side_heeds r Moving y h = absurd h
-
-pub parts_heed : (last : Option Caller) (s c : SeenPass) → HeedsLast last s c → parts_carried c ≡ parts_carried s
-parts_heed None s c e = ap parts_carried e
-parts_heed (Some r) s c e =
-    let k = side_heeds r s.part.stands c.part.stands e.part.stands in
-    let pass : c.pass ≡ s.pass = ap (λ (z : SeenPass). z.pass) e.is in
-    λ i. record { pass = pass i; own = k.0 i } ∷ k.1 i
 
 -- ---- the end
 
@@ -114,16 +108,22 @@ at_all P [] k x e h = absurd (none-some x e)
 at_all P (y ∷ ys) zero x e h = subst P (same_Some y x e) (All-head P y ys h)
 at_all P (y ∷ ys) (suc k) x e h = at_all P ys k x e (All-tail P y ys h)
 
--- the carrier carries the own part with which each pass of a run ended
+-- the carrier carries the own part with which each pass of a run ended, once all heard of one another
 pub parts_ended : (heap : Option Heap) (terms : RunTerms) (tag : Option ℕ) (lines : List CallLine) (i : ℕ)
     (numbers : List (Option ℕ)) (sides : List SeenPass) (output : List ℕ)
-    (h : AnsweredSoFar heap terms tag lines i numbers sides output) (s c : SeenPass)
-    → parts_carried c ≡ parts_carried s
-    → All (HasEnded s) sides → (p : ℕ) → p < terms.shape.passes → EndedAmong (parts_carried c) p (h.run.parts p)
-parts_ended heap terms tag lines i numbers sides output h s c same all p lt =
-    let few : p < length sides = let long = h.all in omega (arith, lt, long) in
-    let at = get_some sides p few in
-    let ended : HasEnded s at.0 = at_all (HasEnded s) sides p at.0 at.1 all in
-    let is = h.each p at.0 at.1 in
-    let E : List Told × SeenPass → Type 0 = λ z. EndedAmong z.0 z.1.pass z.1.part in
-    subst E (λ j. (sym same j, is j)) ended
+    (h : AnsweredSoFar heap terms tag lines i numbers sides output) (last : Option Caller) (ts : List SeenPass)
+    → AllHear last sides ts → (c : SeenPass) → All (HasEnded c) ts → (p : ℕ) → p < terms.shape.passes
+    → EndedAmong (parts_carried c) p (h.run.parts p)
+parts_ended heap terms tag lines i numbers sides output h last ts hear c all p lt =
+    let many : length sides ≡ terms.shape.passes = h.all in
+    let same : length ts ≡ length sides = hear.all in
+    let was = get_some sides p (omega (arith, lt, many)) in
+    let now = get_some ts p (omega (arith, lt, many, same)) in
+    let heard = hear.each p was.0 now.0 was.1 now.1 in
+    let is = h.each p was.0 was.1 in
+    let ended : HasEnded c now.0 = at_all (HasEnded c) ts p now.0 now.1 all in
+    let pass : now.0.pass ≡ p = ap (λ (z : SeenPass). z.pass) heard.is ∙ ap (λ (z : SeenPass). z.pass) is in (
+      now.0.part,
+      subst (λ (v : PassPart). MayHeed v now.0.part) (ap (λ (z : SeenPass). z.part) is) heard.heeds,
+      subst (λ (q : ℕ). EndsAmong (parts_carried c) q now.0.part) pass ended,
+    )

@@ -1,11 +1,9 @@
 -- All passes in one thread: one more line, and the end.
-use Rattle.std.proofs.Common.{◌≡◌, ◌≢◌, ℕ, zero, suc, ◌+◌, ◌<◌, ◌≤◌, true, false, List, [], ◌∷◌, ◌++◌, length, take}
+use Rattle.std.proofs.Common.{◌≡◌, ◌≢◌, ℕ, zero, suc, ◌+◌, ◌<◌, ◌≤◌, Bool, true, false, List, [], ◌∷◌, ◌++◌, length}
 use Rattle.std.proofs.Common.{set, map, slice_get, Option, Some, None, sym, refl, ap, ◌∙◌, subst, arith, IfSome}
-use Rattle.std.proofs.Common.{length-set, ◌⊎◌, inl, inr, ⊎_elim, add-one}
-use Rattle.std.specs.Prelude.{IfNone, Err}
+use Rattle.std.proofs.Common.{length-set, ◌⊎◌, inl, inr, ⊎_elim, add-one, take}
+use Rattle.std.specs.Prelude.{IfNone}
 use Rattle.std.specs.List.{All}
-use Rattle.sh_value.specs.declared.refusal.Refusal.TheVariants as refusal
-use Rattle.sh_member.specs.Sides.{SideLeaves}
 use Rattle.std.specs.Option.{option_map}
 use Rattle.std.proofs.lemmas.Option.{none-some, same_Some, slice_get-map}
 use mathlib.Core.Logic.{dite}
@@ -19,18 +17,23 @@ use Rattle.script_output.specs.Replies.{reply_line, replies_text}
 use Rattle.script_calls.specs.Runs.{CallsRun, LineAnswered, LinesAnswered, opening_calls, next_run, with_part}
 use Rattle.script_calls.specs.Runs.{with_number}
 use Rattle.script_calls.specs.Runs.{number_meant}
-use Rattle.script_calls.specs.Receipts.{MayHeed}
+use Rattle.script_calls.specs.Receipts.{MayHeed, part_heard}
+use Rattle.script_calls.specs.Hearing.{AllHear, AreInHistory}
 use Rattle.script_calls.specs.Told.{AreReplies, part_told}
 use Rattle.script_calls.specs.Meeting.{HasMet, HasEnded, SomeWaits, tales_told, AllOfHeap, orders_of}
 use Rattle.script_calls.proofs.EndLaws.{parts_ended}
 use Rattle.script_calls.specs.Named.{NamesWereHeard}
 use Rattle.script_calls.specs.Alone.{seen_with_part, AnsweredSoFar}
-use Rattle.script_calls.specs.Finished.{CarrierRan, AreWaiting, LinesRan, IsNamedBy}
-use Rattle.script_calls.proofs.ListLemmas.{get_set_same, get_set_other, take_at, take_past, up_length, within, up_get}
+use Rattle.script_calls.specs.Finished.{CarrierRan, AreWaiting, LinesRan, IsNamedBy, IsOrderedBy}
+use Rattle.script_calls.proofs.ListLemmas.{get_some, get_set_same, get_set_other, take_at, take_past, up_length, within}
+use Rattle.script_calls.proofs.ListLemmas.{up_get}
+use Rattle.script_calls.proofs.HeardAll.{met_of_heard}
 use Rattle.script_calls.proofs.NameLaws.{named_by}
 use Rattle.script_calls.proofs.LineLemmas.{one_more, part_here, part_there}
 use Rattle.script_calls.proofs.Newcomers.{newcomers_length, newcomers_get, length_map}
 use Rattle.sh_table.specs.Seats.{Heap}
+use Rattle.sh_table.specs.Tales.{HasFirst}
+use Rattle.sh_pass.specs.Passes.{Caller}
 
 -- ---- one more line
 
@@ -200,34 +203,36 @@ tale_of_parts heap terms tag lines i numbers sides output h = sym (bare_tales si
     ∙ (ap tales_told (sides_are heap terms h.run.parts sides h.all h.each) ∙ tales_are heap terms h.run.parts
     (passes_below terms.shape.passes))
 
-apart : {A : Type 0} → false ≡ true → A
+pub apart : {A : Type 0} → false ≡ true → A
 apart e = absurd (let z : false ≡ true = e in cc)
 
-ran_apart : (heap : Option Heap) (terms : RunTerms) (tag : Option ℕ) (lines : List CallLine) (i : ℕ)
-    (numbers : List (Option ℕ)) (sides : List SeenPass) (output : List ℕ) (s : SeenPass) → length lines ≤ i
-    → All (λ (l : CallLine). l.pass < terms.shape.passes) lines
-    → AnsweredSoFar heap terms tag lines i numbers sides output
-    → HasMet heap terms s (tales_told sides) (orders_of sides) → All (HasEnded s) sides
-    → CarrierRan false heap terms tag lines output s
-ran_apart heap terms tag lines i numbers sides output s past fits h m ended =
+carrier_ran : (alone : Bool) (heap : Option Heap) (terms : RunTerms) (tag : Option ℕ) (lines : List CallLine) (i : ℕ)
+    (numbers : List (Option ℕ)) (sides : List SeenPass) (output : List ℕ) (c : SeenPass) (last : Option Caller)
+    (ts : List SeenPass) → length lines ≤ i → All (λ (l : CallLine). l.pass < terms.shape.passes) lines
+    → (h : AnsweredSoFar heap terms tag lines i numbers sides output) → AllHear last sides ts
+    → (alone ≡ true → IsOrderedBy terms lines h.answers c)
+    → HasMet heap terms c (tales_told ts) (orders_of ts) → All (HasEnded c) ts
+    → CarrierRan alone heap terms tag lines output c
+carrier_ran alone heap terms tag lines i numbers sides output c last ts past fits h hear ordered met ended =
+    let m = met_of_heard last heap terms c sides ts hear met in
     let tale = m.carries.2 ∙ tale_of_parts heap terms tag lines i numbers sides output h in
     let w = m.whole in
-    let has : HasAllLogs w.history (tale_told s) = subst (HasAllLogs w.history) (sym m.carries.2) w.has in
-    let named : IsNamedBy terms tag lines h.answers s = named_by heap terms tag lines i numbers sides output h past fits
-    s tale m.heard in
+    let has : HasAllLogs w.history (tale_told c) = subst (HasAllLogs w.history) (sym m.carries.2) w.has in
+    let named : IsNamedBy terms tag lines h.answers c = named_by heap terms tag lines i numbers sides output h past fits
+    c tale m.heard in
     record {
       told = record {
         replies = ends_alone heap terms tag lines i numbers sides output past h;
         tale_is = tale;
         whole = record { history = w.history; legal = w.legal; has = has; only = w.only };
         named = named w.history has w.only m.kept;
-        in_order = apart;
+        in_order = λ e. ordered e w.history has w.only m.kept;
       };
       carries = (m.carries.0, m.carries.1, refl);
       none = m.none;
       named = named;
-      ended = parts_ended heap terms tag lines i numbers sides output h s s refl ended;
-      ordered = apart;
+      ended = parts_ended heap terms tag lines i numbers sides output h last ts hear c ended;
+      ordered = ordered;
     }
 
 -- what holds of what is seen of the carrier, if there is one
@@ -246,36 +251,65 @@ none_met : {S : Type 0} {P Q : Type 0} (seen : S → SeenPass) → (P → Q) →
 none_met seen f None h = f h
 none_met seen f (Some s) h = h
 
--- which leave was refused, if no pass carries the tale
-pub lines_wait : {S : Type 0} (seen : S → SeenPass) (heap : Option Heap) (terms : RunTerms)
-    (tag : Option ℕ) (lines : List CallLine) (i : ℕ) (numbers : List (Option ℕ)) (sides : List SeenPass)
-    (output : List ℕ) (carrier : Option S) → length lines ≤ i
-    → AnsweredSoFar heap terms tag lines i numbers sides output
-    → IfNone carrier (SomeWaits sides ⊎ (sides ≡ []))
-    → IfNone (option_map seen carrier) (AreWaiting heap terms tag lines output ⊎ (terms.shape.passes ≡ 0))
-lines_wait seen heap terms tag lines i numbers sides output carrier past h stays =
-    none_met seen (⊎_elim (λ (o : SomeWaits sides). inl (record {
-      replies = ends_alone heap terms tag lines i numbers sides output past h;
-      pass = o.0;
-      stays = o.3.0;
-      waits = subst (λ (s : SeenPass). SideLeaves s.part.stands (Err refusal.Waiting) o.3.0) (h.each o.0 o.1 o.2)
-          o.3.1;
-    })) (λ (e : sides ≡ []). inr (sym h.all ∙ ap length e))) carrier stays
+module _ (heap : Option Heap) (terms : RunTerms) (tag : Option ℕ) (lines : List CallLine) (i : ℕ)
+    (numbers : List (Option ℕ)) (sides : List SeenPass) (output : List ℕ) (last : Option Caller) (ts : List SeenPass)
+    (past : length lines ≤ i) (h : AnsweredSoFar heap terms tag lines i numbers sides output)
+    (hear : AllHear last sides ts) (told : (sides ≡ []) ⊎ AreInHistory terms sides) where
+  -- the leave of this pass was refused
+  waits_so : SomeWaits ts → AreWaiting heap terms tag lines output
+  waits_so o =
+      let inside = within ts o.0 o.1 o.2 in
+      let same : length ts ≡ length sides = hear.all in
+      let few : o.0 < length sides = omega (arith, inside, same) in
+      let was = get_some sides o.0 few in
+      let heard = hear.each o.0 was.0 o.1 was.1 o.2 in
+      let is = h.each o.0 was.0 was.1 in
+      let all : AreInHistory terms sides = ⊎_elim
+      (λ (e : sides ≡ []). absurd (let none : length sides ≡ 0 = ap length e in omega (arith, none, few)))
+      (λ (a : AreInHistory terms sides). a) told in
+      record {
+        replies = ends_alone heap terms tag lines i numbers sides output past h;
+        pass = o.0;
+        begins = o.1.part;
+        heeds = subst (λ (v : PassPart). MayHeed v o.1.part) (ap (λ (z : SeenPass). z.part) is) heard.heeds;
+        stays = o.3.0;
+        waits = o.3.1;
+        history = all.history;
+        legal = all.legal;
+        first = λ p lt.
+            let many : length sides ≡ terms.shape.passes = h.all in
+            let its = get_some sides p (omega (arith, lt, many)) in
+            subst (HasFirst all.history) (ap (λ (z : SeenPass). part_heard z.pass z.part) (h.each p its.0 its.1))
+            (all.first p its.0 its.1);
+      }
 
--- what the carrier has if all could meet, and otherwise which leave was refused, after each pass ran its lines
-pub lines_ran : {S : Type 0} (seen : S → SeenPass) (heap : Option Heap) (terms : RunTerms) (tag : Option ℕ)
-    (lines : List CallLine) (i : ℕ) (numbers : List (Option ℕ)) (sides : List SeenPass) (output : List ℕ)
-    (carrier : Option S) → length lines ≤ i → All (λ (l : CallLine). l.pass < terms.shape.passes) lines
-    → AnsweredSoFar heap terms tag lines i numbers sides output
-    → IfSome carrier (λ s. HasMet heap terms (seen s) (tales_told sides) (orders_of sides))
-    → IfSome carrier (λ s. All (HasEnded (seen s)) sides) → IfNone carrier (SomeWaits sides ⊎ (sides ≡ []))
-    → LinesRan false heap terms tag lines output (option_map seen carrier)
-lines_ran seen heap terms tag lines i numbers sides output carrier past fits h met ended stays = record {
-  met = some_met seen (CarrierRan false heap terms tag lines output) (λ s m.
-      ran_apart heap terms tag lines i numbers sides output (seen s) past fits h m.0 m.1) carrier
-      (both_met (λ s. HasMet heap terms (seen s) (tales_told sides) (orders_of sides))
-      (λ s. All (HasEnded (seen s)) sides) carrier met ended);
-  stays = lines_wait seen heap terms tag lines i numbers sides output carrier past h stays;
+  -- which leave was refused, if no pass carries the tale
+  lines_wait : {S : Type 0} (seen : S → SeenPass) (carrier : Option S) → IfNone carrier (SomeWaits ts ⊎ (ts ≡ []))
+      → IfNone (option_map seen carrier) (AreWaiting heap terms tag lines output ⊎ (terms.shape.passes ≡ 0))
+  lines_wait seen carrier stays =
+      none_met seen (⊎_elim (λ (o : SomeWaits ts). inl (waits_so o))
+      (λ (e : ts ≡ []). inr (sym h.all ∙ (sym hear.all ∙ ap length e)))) carrier stays
+
+-- what the carrier has if all could meet, and otherwise which leave was refused
+pub lines_ran : {S : Type 0} (seen : S → SeenPass) (alone : Bool) (heap : Option Heap) (terms : RunTerms)
+    (tag : Option ℕ) (lines : List CallLine) (i : ℕ) (numbers : List (Option ℕ)) (sides : List SeenPass)
+    (output : List ℕ) (carrier : Option S) (last : Option Caller) (ts : List SeenPass) → length lines ≤ i
+    → All (λ (l : CallLine). l.pass < terms.shape.passes) lines
+    → (h : AnsweredSoFar heap terms tag lines i numbers sides output) → AllHear last sides ts
+    → (sides ≡ []) ⊎ AreInHistory terms sides
+    → ((c : SeenPass) → HasMet heap terms c (tales_told ts) (orders_of ts) → alone ≡ true
+    → IsOrderedBy terms lines h.answers c)
+    → IfSome carrier (λ s. HasMet heap terms (seen s) (tales_told ts) (orders_of ts))
+    → IfSome carrier (λ s. All (HasEnded (seen s)) ts) → IfNone carrier (SomeWaits ts ⊎ (ts ≡ []))
+    → LinesRan alone heap terms tag lines output (option_map seen carrier)
+lines_ran seen alone heap terms tag lines i numbers sides output carrier last ts past fits h hear told ordered met ended
+    stays = record {
+  met = some_met seen (CarrierRan alone heap terms tag lines output) (λ s m.
+      carrier_ran alone heap terms tag lines i numbers sides output (seen s) last ts past fits h hear
+      (ordered (seen s) m.0) m.0 m.1) carrier
+      (both_met (λ s. HasMet heap terms (seen s) (tales_told ts) (orders_of ts))
+      (λ s. All (HasEnded (seen s)) ts) carrier met ended);
+  stays = lines_wait heap terms tag lines i numbers sides output last ts past h hear told seen carrier stays;
 }
 
 pub map_set : {A B : Type 0} (f : A → B) (xs : List A) (k : ℕ) (y : A) → map f (set xs k y) ≡ set (map f xs) k (f y)

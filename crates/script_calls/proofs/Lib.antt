@@ -7,6 +7,8 @@ pub mod GrowLemmas
 pub mod NameLemmas
 pub mod NameLaws
 pub mod MeetLaws
+pub mod HearLaws
+pub mod HeardAll
 pub mod InTurn
 pub mod AloneLaws
 pub mod AloneEnds

@@ -11,8 +11,7 @@ use Rattle.sh_value.specs.declared.refusal.Refusal.TheVariants as refusal
 use Rattle.sh_member.specs.Sides.{SeenSide, SideLeaves}
 use Rattle.std.specs.Option.{option_map}
 use Rattle.std.proofs.lemmas.Option.{slice_get-map}
-use Rattle.script_calls.specs.Parts.{RunTerms, SeenPass, PassTold, SamePass, HasAllLogs, tale_told, told_pass}
-use Rattle.script_calls.specs.Parts.{passes_below}
+use Rattle.script_calls.specs.Parts.{RunTerms, SeenPass, PassTold, SamePass, HasAllLogs, tale_told}
 use Rattle.script_calls.specs.Receipts.{HasOrderedTale}
 use Rattle.script_calls.specs.Meeting.{CarriesTale, MeetsCarrier, HasMet, SomeWaits, tales_told, AllOfHeap, KeepsOrders}
 use Rattle.script_calls.specs.Meeting.{CarriesOrders, OwnsNone, orders_of}
@@ -131,16 +130,6 @@ has_met {S} seen heap terms all ys its n c o e l z carries heard none is stands 
       };
       kept = stands.orders;
     }
-
-pub met_all : {S : Type 0} (seen : S → SeenPass) (heap : Option Heap) (terms : RunTerms) (all ys its : List S) (n : ℕ)
-    (c : SeenPass) (o : Option SeenPass) → all ≡ ys ++ its → length ys + n ≡ length all → n ≡ 0
-    → CarriesTale heap terms o (tales_told (map seen ys)) → o ≡ Some c → map told_pass (tales_told (map seen all))
-    ≡ passes_below terms.shape.passes → map told_pass (tale_told c) ≡ passes_below c.terms.shape.passes
-met_all seen heap terms all ys its n c o e l z h is up =
-    let yielded = all_yielded all ys its n e l z in
-    let h' = subst (λ (q : Option SeenPass). CarriesTale heap terms q (tales_told (map seen ys))) is h in
-    ap (map told_pass) (h'.2 ∙ ap (λ q. tales_told (map seen q)) yielded)
-    ∙ (up ∙ ap (λ (t : RunTerms). passes_below t.shape.passes) (sym h'.1))
 
 -- the next one of these passes was refused when it left its shard
 pub next_waits : {S : Type 0} (seen : S → SeenPass) (all ys rest its : List S) (s : S) (stays : SeenSide)

@@ -253,7 +253,7 @@ pub heeds_keeps : (r : Caller) (side mid : SeenPass) → Heeds r side mid → Ke
 heeds_keeps r side mid e o c = subst (λ (z : SeenPass). Contains z.orders o) (sym e.is)
     (Contains-append_left side.orders (r.view.orders ++ map (order_seen side) (heard_in r.view)) o c)
 
-heeded_order : (r : Caller) (side mid : SeenPass) → Heeds r side mid → (h : Heard)
+pub heeded_order : (r : Caller) (side mid : SeenPass) → Heeds r side mid → (h : Heard)
     → Contains (seen_of_receipt r).heard h → Contains mid.orders (order_seen side h)
 heeded_order r side mid e h c = subst (λ (z : SeenPass). Contains z.orders (order_seen side h)) (sym e.is)
     (Contains-append_right side.orders (r.view.orders ++ map (order_seen side) (heard_in r.view)) (order_seen side h)

@@ -3,14 +3,16 @@ use Rattle.std.specs.Prelude.{◌≡◌, ℕ, ◌<◌, nat_lt, not, Bool, true, 
 use Rattle.std.specs.Prelude.{IfNone, Err}
 use Rattle.sh_value.specs.declared.refusal.Refusal.TheVariants as refusal
 use Rattle.sh_history.specs.declared.entry.Entry.{Entry}
+use Rattle.sh_history.specs.History.{Legal}
 use Rattle.sh_history.specs.Log.{entries_of}
 use Rattle.sh_script.specs.declared.calls.CallLine.{CallLine}
 use Rattle.script_output.specs.declared.answer.Answer.{Answer}
 use Rattle.sh_table.specs.Seats.{Heap}
-use Rattle.sh_table.specs.Tales.{Before}
+use Rattle.sh_table.specs.Tales.{HasFirst, Before}
 use Rattle.sh_table.specs.Views.{Each}
 use Rattle.sh_member.specs.Sides.{SeenSide, SideLeaves}
-use Rattle.script_calls.specs.Parts.{SeenPass, RunTerms, HasAllLogs, no_terms, new_passes, tale_told}
+use Rattle.script_calls.specs.Parts.{SeenPass, PassPart, RunTerms, HasAllLogs, no_terms, new_passes, tale_told}
+use Rattle.script_calls.specs.Receipts.{MayHeed, part_heard}
 use Rattle.script_calls.specs.InOrder.{IsInOrder}
 use Rattle.script_calls.specs.Named.{NamesComeFirst}
 use Rattle.script_calls.specs.Told.{AreReplies, IsTold}
@@ -52,13 +54,20 @@ pub record CarrierRan (alone : Bool) (heap : Option Heap) (terms : RunTerms) (ta
   pub ended : (p : ℕ) → p < terms.shape.passes → EndedAmong (parts_carried c) p (told.replies.after.parts p)
   pub ordered : alone ≡ true → IsOrderedBy terms lines told.replies.answers c
 
--- the replies were written, and then this pass was refused when it left its shard, as the contract of leaving says
+-- The replies were written, and then this pass was refused when it left its shard, as the contract of leaving says. It
+-- may have heeded a receipt before. There is one legal history in which the first entries of each pass are those that
+-- its answers say, in order.
 pub record AreWaiting (heap : Option Heap) (terms : RunTerms) (tag : Option ℕ) (lines : List CallLine)
     (output : List ℕ) : Type 0 where
   pub replies : AreReplies heap terms tag lines output
   pub pass : ℕ
+  pub begins : PassPart
+  pub heeds : MayHeed (replies.after.parts pass) begins
   pub stays : SeenSide
-  pub waits : SideLeaves (replies.after.parts pass).stands (Err refusal.Waiting) stays
+  pub waits : SideLeaves begins.stands (Err refusal.Waiting) stays
+  pub history : List Entry
+  pub legal : Legal terms.shape.passes terms.layout.guard_max history
+  pub first : (p : ℕ) → p < terms.shape.passes → HasFirst history (part_heard p (replies.after.parts p))
 
 -- The replies were written. If there is a carrier, it carries the tale of all. There is none only if a pass was refused
 -- when it left its shard, or if there is no pass.

@@ -8,5 +8,6 @@ pub mod Named
 pub mod Told
 pub mod Meeting
 pub mod Alone
+pub mod Hearing
 pub mod Running
 pub mod Finished

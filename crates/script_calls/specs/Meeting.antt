@@ -5,6 +5,7 @@ use Rattle.sh_value.specs.declared.refusal.Refusal.TheVariants as refusal
 use Rattle.sh_member.specs.Sides.{SeenSide, SideLeaves}
 use Rattle.script_calls.specs.OwnParts.{EndsWith, own_part, taken_in}
 use Rattle.script_calls.specs.Parts.{RunTerms, PassPart, SeenPass, PassTold, HasWholeTale, tale_told}
+use Rattle.script_calls.specs.Receipts.{MayHeed}
 use Rattle.sh_table.specs.declared.view.Own.{Own}
 use Rattle.sh_table.specs.declared.view.Told.{Told}
 use Rattle.sh_table.specs.declared.view.Order.{Order}
@@ -83,13 +84,17 @@ JoinsParts None s r = r ≡ s
 JoinsParts (Some c) s r = parts_carried r ≡ parts_carried c ++ parts_carried s
 
 -- the pass with this number and this part ended with an own part that is among these
-abbrev pub EndedAmong : List Told → (pass : ℕ) → PassPart → Type 0
-EndedAmong parts pass part = (own : Own) × EndsWith part.stands own
+abbrev pub EndsAmong : List Told → (pass : ℕ) → PassPart → Type 0
+EndsAmong parts pass part = (own : Own) × EndsWith part.stands own
     × Contains parts (record { pass = pass; own = own })
+
+-- the same, and it may have heeded a receipt before
+abbrev pub EndedAmong : List Told → (pass : ℕ) → PassPart → Type 0
+EndedAmong parts pass part = (begins : PassPart) × MayHeed part begins × EndsAmong parts pass begins
 
 -- the carrier carries an own part with which this pass ended
 abbrev pub HasEnded : (carrier : SeenPass) → SeenPass → Type 0
-HasEnded carrier s = EndedAmong (parts_carried carrier) s.pass s.part
+HasEnded carrier s = EndsAmong (parts_carried carrier) s.pass s.part
 
 -- the same if there is a carrier; there is one once a pass has ended
 abbrev pub CarriesEnd : Option SeenPass → SeenPass → Type 0

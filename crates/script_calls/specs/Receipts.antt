@@ -71,7 +71,7 @@ pub record Heeds (r : Caller) (s t : SeenPass) : Type 0 where
   pub is : t ≡ record s { part = t.part; orders = orders_heard s (seen_of_receipt r) }
   pub part : PartHeeds r s.part t.part
 
--- one legal history has exactly the entries that the pass speaks for, and keeps its orders
+-- one legal history has the entries of each pass that this one speaks for, and keeps its orders
 pub record HasOrderedTale (s : SeenPass) : Type 0 where
   pub whole : HasWholeTale s.terms (tale_told s)
   pub orders : Each (Before whole.history) s.orders

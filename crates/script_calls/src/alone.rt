@@ -5,9 +5,9 @@ ghost use Rattle.sh_script.specs.declared.calls.CallLine.{CallLine};
 ghost use Rattle.sh_table.specs.Seats.{Heap};
 ghost use Rattle.script_output.specs.Keys.{HasTagRoom};
 ghost use Rattle.script_calls.specs.Parts.{RunTerms, new_passes};
-ghost use Rattle.script_calls.specs.Alone.{IsLastOf, HeedsLast};
 ghost use Rattle.script_calls.specs.Finished.{heap_seen, terms_seen, AreAllNew, LinesRan};
 
+use crate::hearing::{all_hear, heed_last};
 use crate::line::{answered, number_meant};
 use crate::meeting::met;
 use crate::reporting::{NoRoom, tell};
@@ -15,16 +15,6 @@ use crate::side::Side;
 use sh_pass::Receipt;
 use sh_script::{CallLine, Fault};
 use std::alloc::Global;
-
-// Heeds the last receipt, if there is one.
-fn heed_last<S: Side>(side: &mut S, last: Option<Receipt>)
-    requires { IsLastOf (S.seen side.old).heap last }
-    ensures { HeedsLast last (S.seen side.old) (S.seen side.new) }
-{
-    if let Some(receipt) = last {
-        side.heed(receipt);
-    }
-}
 
 // Runs the lines in their order on all passes of the named heap. Each pass heeds a receipt of the line before. No
 // answer ends the run: `NoRoom` is returned only if a line finds no room.
@@ -53,16 +43,12 @@ fn lines_in_turn<S: Side>(
         last = Some(side.receipt());
         tell(&mut output, &mut numbers, line, &answer)?;
     }
-    let Some(mut carrier) = met(sides) else {
-        return Ok((output, None));
-    };
-    heed_last(&mut carrier, last);
-    let _known = carrier.whole();
-    Ok((output, Some(carrier)))
+    Ok((output, met(all_hear(sides, last))))
 }
 
-/// Runs the lines in their order, each with a receipt of the line before. Then all owners leave and all passes meet.
-/// Returns the reply lines and the pass that carries the tale of all; no pass if an owner could not leave.
+/// Runs the lines in their order, each with a receipt of the line before. Then all passes hear of all lines, all owners
+/// leave, and all passes meet. Returns the reply lines and the pass that carries the tale of all; no pass if an owner
+/// could not leave.
 pub fn alone_lines<S: Side>(
     alloc: Global,
     lines: &[CallLine],

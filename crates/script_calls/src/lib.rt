@@ -2,6 +2,7 @@
 #![tactic(auto)]
 
 pub mod alone;
+pub mod hearing;
 pub mod laws;
 pub mod line;
 pub mod meeting;

@@ -1,7 +1,7 @@
 //! A pass of a heap, with or without a shard: what runs the calls of a script.
-ghost use Rattle.std.specs.Prelude.{◌≡◌, ◌<◌, ◌+◌, ◌∷◌, ◌++◌, IfOk, None, map};
+ghost use Rattle.std.specs.Prelude.{◌≡◌, ◌<◌, ◌+◌, ◌∷◌, ◌++◌, IfOk, None};
 ghost use Rattle.sh_key.specs.Layout.{first_key, key_count};
-ghost use Rattle.script_calls.specs.Parts.{SeenPass, SamePass, tale_told, told_pass, passes_below};
+ghost use Rattle.script_calls.specs.Parts.{SeenPass, SamePass, tale_told};
 ghost use Rattle.script_calls.specs.Calls.{AdoptAnswers, LeaveAnswers, InsertAnswers, GetAnswers, ReadAnswers};
 ghost use Rattle.script_calls.specs.Calls.{RemoveAnswers, ReleaseAnswers};
 ghost use Rattle.script_calls.specs.Meeting.{KeepsOrders, parts_carried};
@@ -84,9 +84,7 @@ pub trait Side: Drop {
         ensures orders { KeepsOrders ((seen self).orders ++ (seen other).orders) (seen result).orders }
         ensures parts { parts_carried (seen result) ≡ parts_carried (seen self) ++ parts_carried (seen other) };
 
-    /// If it speaks for all passes, one legal history has exactly the entries that it speaks for, and keeps the orders
-    /// that it heard of.
+    /// One legal history has the entries of each pass that it speaks for, and keeps the orders that it heard of.
     fn whole(&self)
-        requires { map told_pass (tale_told (seen self.now)) ≡ passes_below (seen self.now).terms.shape.passes }
         ensures { HasOrderedTale (seen self.now) };
 }

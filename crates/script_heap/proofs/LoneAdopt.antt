@@ -21,7 +21,7 @@ use Rattle.sh_member.specs.declared.member.Side.TheVariants.{Pass, Shard, Moving
 use Rattle.sh_member.specs.Sides.{SeenSide, SideAdopts}
 use Rattle.script_calls.specs.OwnParts.{EndsWith}
 use Rattle.script_calls.specs.Parts.{RunTerms, PassPart, new_part, heap_terms}
-use Rattle.script_calls.specs.Receipts.{MayHeed, PartHeeds}
+use Rattle.script_calls.specs.Receipts.{MayHeed, PartHeeds, SideHeeded}
 use Rattle.script_calls.specs.Calls.{AdoptAnswers}
 use Rattle.script_calls.specs.Runs.{CallsRun, LinesAnswered, opening_calls, with_part}
 use Rattle.script_heap.specs.HeapOutput.{EndsInRun}
@@ -90,13 +90,27 @@ taken_so terms shard v w (Err e) is new does = met_owner terms shard v w new
 
 -- ---- the run
 
+-- a pass that owns no shard ends with its own part, whether it heeded a receipt before or not
+ends_as_pass : (v begins : PassPart) (c : Caller) (own : Own) → v.stands ≡ Pass c → MayHeed v begins
+    → EndsWith begins.stands own → own ≡ c.view.own
+ends_as_pass v begins c own stands heeds ends = ⊎_elim as_it_was heeded_it heeds
+  where
+    as_it_was : begins ≡ v → own ≡ c.view.own
+    as_it_was e = subst (λ (s : SeenSide). EndsWith s own) (ap (λ (u : PassPart). u.stands) e ∙ stands) ends
+
+    heeded_it : (r : Caller) × PartHeeds r v begins → own ≡ c.view.own
+    heeded_it k =
+        let is : begins.stands ≡ Pass (heeded c k.0) =
+        subst (λ (s : SeenSide). SideHeeded k.0 s begins.stands) stands k.1.stands in
+        subst (λ (s : SeenSide). EndsWith s own) is ends
+
 -- the trail of a pass that owns no shard in the end
 trail_is : (layout : Layout) (shape : Numbers) (events : List Event) (p : ℕ) (v : PassPart) (c : Caller)
     → v.stands ≡ Pass c → EndsInRun (plan_of layout shape) events p v
     → trail_of (plan_of layout shape) events p ≡ c.view.own.trail
 trail_is layout shape events p v c stands ends =
-    let with_own : ends.0 ≡ c.view.own = subst (λ (s : SeenSide). EndsWith s ends.0) stands ends.1 in
-    sym ends.2.trail ∙ ap (λ (o : Own). o.trail) with_own
+    let with_own : ends.2 ≡ c.view.own = ends_as_pass v ends.0 c ends.2 stands ends.1 ends.3 in
+    sym ends.4.trail ∙ ap (λ (o : Own). o.trail) with_own
 
 pub lone_adopt : LoneAdoptIsNotTaken
 lone_adopt alone asked layout shape tag pass shard output few h taken =

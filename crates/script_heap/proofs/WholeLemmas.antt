@@ -204,8 +204,10 @@ module _ (alone : Bool) (layout : Layout) (heap : Heap) (tag : Option ℕ) (line
       let e = ran.ended p lt in (
         e.0,
         e.1,
+        e.2.0,
+        e.2.1,
         All-contains (λ (t : Told). HasOwn (plan_of layout heap.shape) events t.pass t.own)
-            (parts_carried (seen_of_caller layout v)) (record { pass = p; own = e.0 }) all e.2,
+            (parts_carried (seen_of_caller layout v)) (record { pass = p; own = e.2.0 }) all e.2.2,
       )
 
   -- with the accounts by the history of the tale

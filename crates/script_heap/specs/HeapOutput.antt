@@ -22,6 +22,7 @@ use Rattle.sh_table.specs.Reached.{HasOwn}
 use Rattle.sh_step.specs.Plans.{Plan}
 use Rattle.script_calls.specs.OwnParts.{EndsWith}
 use Rattle.script_calls.specs.Parts.{PassPart, PassTold, HasWholeTale, heap_terms}
+use Rattle.script_calls.specs.Receipts.{MayHeed}
 use Rattle.script_calls.specs.Told.{IsTold}
 use Rattle.script_calls.specs.Finished.{AreWaiting}
 use Rattle.script_heap.specs.WholeAccounts.{AreAccountLines}
@@ -36,9 +37,10 @@ pub record TellsTale (layout : Layout) (shape : Numbers) (tale : List PassTold) 
   pub parts : All (λ t. HasOwn (plan_of layout shape) lines.events t.pass t.own) carried
 
 -- After these events the pass has exactly the own part with which it ended. So its steps among these events are those
--- that it did, in order, and each found the word that the pass found.
+-- that it did, in order, and each found the word that the pass found. It may have heeded a receipt before it ended.
 abbrev pub EndsInRun : Plan → List Event → (pass : ℕ) → PassPart → Type 0
-EndsInRun plan events pass part = (own : Own) × EndsWith part.stands own × HasOwn plan events pass own
+EndsInRun plan events pass part = (begins : PassPart) × MayHeed part begins × (own : Own) × EndsWith begins.stands own
+    × HasOwn plan events pass own
 
 -- account lines by this history, if they are asked for; otherwise none
 abbrev pub AccountsAsked : (asked : Bool) → Layout → Numbers → List Entry → List ℕ → Type 0
@@ -69,7 +71,8 @@ pub record IsHeap (alone asked : Bool) (text output : List ℕ) : Type 0 where
   pub is_calls : IsCalls text header lines
   pub is_output : IsHeapOutput alone (layout_of header.layout) header.shape header.tag lines asked output
 
--- These are the replies of a run on a heap of this shape, after which a pass was refused when it left its shard.
+-- These are the replies of a run on a heap of this shape, after which a pass was refused when it left its shard. One
+-- legal history has what was returned to each pass.
 pub record IsStopped (layout : Layout) (shape : Numbers) (tag : Option ℕ) (lines : List CallLine)
     (output : List ℕ) : Type 0 where
   pub heap : Heap

@@ -1,18 +1,20 @@
 use Rattle.std.specs.List.{All}
-use Rattle.std.proofs.Common.{rules, arith, ◌≡◌, ◌<◌, ◌≤◌, ◌∙◌, ℕ, sym, ap, subst, map, ◌++◌, length, set}
-use Rattle.std.proofs.Common.{Some, None, Option, slice_get}
+use Rattle.std.proofs.Common.{rules, arith, ◌≡◌, ◌<◌, ◌≤◌, ◌∙◌, ℕ, true, refl, sym, ap, subst, map, ◌++◌, length, set}
+use Rattle.std.proofs.Common.{Some, Option, slice_get}
 use Rattle.std.specs.Option.{option_map}
 use Rattle.std.proofs.lemmas.Grind.{common_steps}
 use Rattle.std.proofs.lemmas.Option.{gets, slice_get-map}
 use Rattle.sh_script.specs.declared.calls.CallLine.{CallLine}
 use Rattle.script_output.specs.Keys.{HasTagRoom}
-use Rattle.script_calls.specs.Parts.{RunTerms, SeenPass, new_passes}
+use Rattle.script_calls.specs.Parts.{RunTerms, SeenPass, new_passes, told_pass}
 use Rattle.script_calls.specs.Calls.{CallAnswers}
 use Rattle.script_output.specs.Replies.{reply_line}
 use Rattle.script_calls.specs.Runs.{number_meant, with_number}
-use Rattle.script_calls.proofs.AloneLaws.{begins_ordered, ordered_more, orders_only, last_of}
-use Rattle.script_calls.proofs.AloneEnds.{ran_on, ran_to_none, carrier_speaks}
-use Rattle.script_calls.proofs.InTurn.{heap_at, map_set, all_are, all_speak, terms_at}
+use Rattle.script_calls.proofs.AloneLaws.{begins_ordered, ordered_more, last_of}
+use Rattle.script_calls.proofs.AloneEnds.{ordered_by}
+use Rattle.script_calls.proofs.HearLaws.{orders_only}
+use Rattle.script_calls.proofs.HeardAll.{heard_of_heap, heard_tales}
+use Rattle.script_calls.proofs.InTurn.{heap_at, map_set, all_are, all_speak, terms_at, lines_ran}
 use Rattle.script_calls.proofs.alone.lines_in_turn.Goals as goal
 
 pub loop-line-init : goal.loop-line-init
@@ -79,43 +81,45 @@ loop-line-preserved g c =
     c.answered-answer.ensures.same a room (subst D bound c.answered-answer.ensures.does)
     c.tell.new.numbers.items _ c.tell.new.output.items c.receipt.result named put printed c.receipt.ensures.tells
 
+pub all_hear-requires : goal.all_hear-requires
+all_hear-requires g c κs within = (
+  within,
+  (
+    all_are g.at.0 g.at.1 c.args.tag c.args.lines.now c.loop-line.line-index c.loop-line.numbers.items
+        (map g.S.Side.seen c.loop-line.sides.items) c.loop-line.output.items c.loop-line.invariant.so_far,
+    last_of g.at.0 g.at.0 _ c.loop-line.last refl c.loop-line.invariant.last_heard,
+  ),
+)
+
 pub met-requires : goal.met-requires
 met-requires g c κs within =
-    let sides = map g.S.Side.seen c.loop-line.sides.items in (
+    let sides = map g.S.Side.seen c.loop-line.sides.items in
+    let ts = map g.S.Side.seen c.all_hear.result.items in
+    let hear = c.all_hear.ensures.hear in (
       within,
       (
-        all_are g.at.0 g.at.1 c.args.tag c.args.lines.now c.loop-line.line-index c.loop-line.numbers.items sides
-            c.loop-line.output.items c.loop-line.invariant.so_far,
-        all_speak g.at.0 g.at.1 c.args.tag c.args.lines.now c.loop-line.line-index c.loop-line.numbers.items sides
-            c.loop-line.output.items c.loop-line.invariant.so_far,
+        heard_of_heap c.loop-line.last g.at.0 g.at.1 sides ts hear (all_are g.at.0 g.at.1 c.args.tag c.args.lines.now
+            c.loop-line.line-index c.loop-line.numbers.items sides c.loop-line.output.items
+            c.loop-line.invariant.so_far),
+        ap (map told_pass) (heard_tales c.loop-line.last sides ts hear)
+            ∙ all_speak g.at.0 g.at.1 c.args.tag c.args.lines.now c.loop-line.line-index c.loop-line.numbers.items
+            sides c.loop-line.output.items c.loop-line.invariant.so_far,
       ),
     )
 
-pub whole-known-requires : goal.whole-known-requires
-whole-known-requires g c =
-    carrier_speaks g.at.0 g.at.1 c.args.tag c.args.lines.now c.loop-line.line-index c.loop-line.numbers.items
-    (map g.S.Side.seen c.loop-line.sides.items) c.loop-line.output.items c.loop-line.last c.loop-line.invariant
-    (g.S.Side.seen c.in-Some-met.carrier) (g.S.Side.seen c.heed_last-2.new.side) c.heed_last-2.ensures
-    c.in-Some-met.ensures.met
-
-pub returns-in_default-met : goal.returns-in_default-met
-returns-in_default-met g c =
-    let past : length c.args.lines.now ≤ c.loop-line.line-index = search rules in
-    let none : c.met.result ≡ None = search rules in
-    record {
-      ran = ran_to_none g.S.Side.seen g.at.0 g.at.1 c.args.tag c.args.lines.now c.loop-line.line-index
-          c.loop-line.numbers.items (map g.S.Side.seen c.loop-line.sides.items) c.loop-line.output.items
-          c.loop-line.last c.met.result c.loop-line.invariant past none c.met.ensures.stays;
-    }
-
 pub returns : goal.returns
 returns g c =
+    let seen = g.S.Side.seen in
+    let sides = map seen c.loop-line.sides.items in
+    let ts = map seen c.all_hear.result.items in
+    let hear = c.all_hear.ensures.hear in
     let past : length c.args.lines.now ≤ c.loop-line.line-index = search rules in
     let fits : All (λ (l : CallLine). l.pass < g.at.1.shape.passes) c.args.lines.now = search rules in
     record {
-      ran = ran_on g.at.0 g.at.1 c.args.tag c.args.lines.now c.loop-line.line-index c.loop-line.numbers.items
-          (map g.S.Side.seen c.loop-line.sides.items) c.loop-line.output.items c.loop-line.last
-          c.loop-line.invariant (g.S.Side.seen c.in-Some-met.carrier) (g.S.Side.seen c.heed_last-2.new.side)
-          c.heed_last-2.ensures c.in-Some-met.ensures.met past fits c.whole-known.ensures
-          c.in-Some-met.ensures.ended;
+      ran = lines_ran seen true g.at.0 g.at.1 c.args.tag c.args.lines.now c.loop-line.line-index
+          c.loop-line.numbers.items sides c.loop-line.output.items c.met.result c.loop-line.last ts past fits
+          c.loop-line.invariant.so_far hear c.all_hear.ensures.told
+          (λ s m e. ordered_by g.at.0 g.at.1 c.args.tag c.args.lines.now c.loop-line.line-index
+          c.loop-line.numbers.items sides c.loop-line.output.items c.loop-line.last c.loop-line.invariant past ts hear
+          s m) c.met.ensures.met c.met.ensures.ended c.met.ensures.stays;
     }

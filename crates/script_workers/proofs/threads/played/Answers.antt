@@ -1,7 +1,9 @@
-use Rattle.std.proofs.Common.{◌≡◌, ◌≤◌, ◌∙◌, sym, ap, subst, ℕ, false, map, length, Option, arith}
+use Rattle.std.proofs.Common.{◌≡◌, ◌≤◌, ◌∙◌, sym, ap, subst, ℕ, false, map, length, Option, None, arith}
 use Rattle.std.specs.Option.{option_map}
 use Rattle.script_calls.specs.Finished.{LinesRan}
-use Rattle.script_calls.proofs.InTurn.{all_are, all_speak, lines_ran}
+use Rattle.script_calls.specs.Parts.{told_pass}
+use Rattle.script_calls.proofs.HeardAll.{heard_of_heap, heard_tales}
+use Rattle.script_calls.proofs.InTurn.{all_are, all_speak, apart, lines_ran}
 use Rattle.script_calls.proofs.ListLemmas.{up_length}
 use Rattle.script_calls.proofs.Newcomers.{length_map, newcomers_length}
 use Rattle.script_workers.proofs.threads.played.Goals as goal
@@ -22,8 +24,8 @@ all_ended-requires-clause-space g c =
       omega (arith, sides, workers, long, wide, empty.rests.1, count),
     )
 
-pub met-requires : goal.met-requires
-met-requires g c κs within =
+pub all_hear-requires : goal.all_hear-requires
+all_hear-requires g c κs within =
     let room = g.B.Room in
     let lines = c.args.lines.now in
     let sides = map g.S.Side.seen c.in_ok-output.sides.items in
@@ -32,7 +34,25 @@ met-requires g c κs within =
       within,
       (
         all_are room.heap room.terms room.tag lines (length lines) answered.0 sides output answered.1,
-        all_speak room.heap room.terms room.tag lines (length lines) answered.0 sides output answered.1,
+        tt,
+      ),
+    )
+
+pub met-requires : goal.met-requires
+met-requires g c κs within =
+    let room = g.B.Room in
+    let lines = c.args.lines.now in
+    let sides = map g.S.Side.seen c.in_ok-output.sides.items in
+    let ts = map g.S.Side.seen c.all_hear.result.items in
+    let hear = c.all_hear.ensures.hear in
+    let output = c.in_ok-output.output.items in
+    let answered = c.in_ok-output.ensures.answered in (
+      within,
+      (
+        heard_of_heap None room.heap room.terms sides ts hear
+            (all_are room.heap room.terms room.tag lines (length lines) answered.0 sides output answered.1),
+        ap (map told_pass) (heard_tales None sides ts hear)
+            ∙ all_speak room.heap room.terms room.tag lines (length lines) answered.0 sides output answered.1,
       ),
     )
 
@@ -41,11 +61,13 @@ returns-clause-ran g c =
     let room = g.B.Room in
     let seen = g.S.Side.seen in
     let lines = c.args.lines.now in
+    let sides = map seen c.in_ok-output.sides.items in
+    let ts = map seen c.all_hear.result.items in
     let output = c.in_ok-output.output.items in
     let answered = c.in_ok-output.ensures.answered in
     let past : length lines ≤ length lines = omega arith in
     let R : Option ℕ → Type 0 = λ tag. LinesRan false room.heap room.terms tag lines output
     (option_map seen c.met.result) in
-    subst R (sym c.requires.tag) (lines_ran seen room.heap room.terms room.tag lines (length lines) answered.0
-    (map seen c.in_ok-output.sides.items) output c.met.result past c.requires.passes answered.1 c.met.ensures.met
-    c.met.ensures.ended c.met.ensures.stays)
+    subst R (sym c.requires.tag) (lines_ran seen false room.heap room.terms room.tag lines (length lines) answered.0
+    sides output c.met.result None ts past c.requires.passes answered.1 c.all_hear.ensures.hear
+    c.all_hear.ensures.told (λ s m. apart) c.met.ensures.met c.met.ensures.ended c.met.ensures.stays)

@@ -1,0 +1,44 @@
+//! Passes that hear of one another before they leave their shards and meet.
+ghost use Rattle.std.specs.Prelude.{◌≡◌, ◌⊎◌, [], Option, map};
+ghost use Rattle.sh_table.specs.Seats.{Heap};
+ghost use Rattle.script_calls.specs.Parts.{RunTerms};
+ghost use Rattle.script_calls.specs.Alone.{IsLastOf, HeedsLast};
+ghost use Rattle.script_calls.specs.Hearing.{AllHear, AreInHistory};
+ghost use Rattle.script_calls.specs.Meeting.{AllOfHeap};
+
+use crate::side::Side;
+use sh_pass::Receipt;
+
+/// Heeds the receipt, if there is one.
+pub fn heed_last<S: Side>(side: &mut S, last: Option<Receipt>)
+    requires { IsLastOf (S.seen side.old).heap last }
+    ensures { HeedsLast last (S.seen side.old) (S.seen side.new) }
+{
+    if let Some(receipt) = last {
+        side.heed(receipt);
+    }
+}
+
+/// The sides, each of which has heeded a receipt of the side before, and the first one this receipt. So what each does
+/// to leave its shard comes after all that the receipt contains. And the last side has heard of all others: one legal
+/// history has what was returned to each of them.
+pub fn all_hear<S: Side>(sides: Vec<S>, last: Option<Receipt>) -> Vec<S>
+    ghost at: { Option Heap × RunTerms }
+    requires of { AllOfHeap at.0 at.1 (map S.seen sides.items) }
+    requires last { IsLastOf at.0 last }
+    ensures hear { AllHear last (map S.seen sides.items) (map S.seen result.items) }
+    ensures told { (map S.seen sides.items ≡ []) ⊎ AreInHistory at.1 (map S.seen sides.items) }
+{
+    let count = sides.len();
+    let mut sides = sides;
+    let mut heard = last;
+    for place in 0..count {
+        let Some(side) = sides.get_mut(place) else {
+            unreachable!()
+        };
+        heed_last(side, heard);
+        let _known = side.whole();
+        heard = Some(side.receipt());
+    }
+    sides
+}
