@@ -15,15 +15,18 @@ use Rattle.script_output.specs.declared.answer.Answer.{Answer}
 use Rattle.script_output.specs.Keys.{HasTagRoom}
 use Rattle.script_output.specs.Replies.{reply_line}
 use Rattle.sh_pass.specs.Passes.{Caller}
+use Rattle.sh_member.specs.Sides.{SideStands}
 use Rattle.script_calls.specs.Parts.{RunTerms, PassPart, SeenPass, SamePass, new_passes}
 use Rattle.script_calls.specs.Calls.{CallAnswers, binds, number_told}
 use Rattle.script_calls.specs.Named.{numbers_told, tells_number, HeardOfNumber, NamesWereHeard}
 use Rattle.script_calls.specs.Runs.{CallsRun, LinesAnswered, opening_calls, with_part, with_number, number_meant}
+use Rattle.script_calls.specs.Runs.{next_run}
 use Rattle.script_calls.specs.Receipts.{SeenReceipt, seen_of_receipt, receipt_seen, order_seen, part_heard}
 use Rattle.script_calls.specs.Receipts.{taken_heard, MayHeed}
 use Rattle.script_calls.specs.InOrder.{adds_entry, adding_passes, times, Cut, AllHeard, LastHeard}
 use Rattle.script_calls.specs.Alone.{seen_with_part, OrderedSoFar, HeedsLast, IsLastOf, LastTells}
 use Rattle.script_calls.specs.Meeting.{KeepsOrders, orders_of}
+use Rattle.script_calls.specs.Stepping.{LinesHeard}
 use Rattle.script_calls.proofs.ListLemmas.{get_set_same, take_at, within, get_snoc, contains_map, each_in, each_left}
 use Rattle.script_calls.proofs.ListLemmas.{each_right}
 use Rattle.script_calls.proofs.NameLemmas.{numbers_after, meant_at, heard_more, heard_kept, orders_at, orders_set}
@@ -33,7 +36,8 @@ use Rattle.script_calls.proofs.HeardAll.{nothing_in}
 use Rattle.script_calls.proofs.LineLemmas.{part_here, part_there}
 use Rattle.script_calls.proofs.OrderLemmas.{times_append, times_length, times_here, times_else}
 use Rattle.script_calls.proofs.GrowLemmas.{grows}
-use Rattle.script_calls.proofs.InTurn.{begins_alone, answered_more}
+use Rattle.script_calls.proofs.InTurn.{begins_alone, answered_more, steps}
+use Rattle.script_calls.proofs.StepLaws.{lines_more, last_more, no_steps}
 use Rattle.sh_table.specs.declared.view.Heard.{Heard}
 use Rattle.sh_table.specs.declared.view.Order.{Order}
 use Rattle.sh_table.specs.Seats.{Heap}
@@ -132,7 +136,8 @@ module _ (heap : Option Heap) (terms : RunTerms) (tag : Option ℕ) (lines : Lis
     (at : slice_get lines i ≡ Some l) (side mid now : SeenPass) (own : slice_get sides l.pass ≡ Some side)
     (heeds : HeedsLast last side mid) (same : SamePass mid now) (a : Answer)
     (room : HasTagRoom terms.layout tag)
-    (does : CallAnswers mid.terms tag mid.pass mid.part l.call (number_meant numbers l.call) a now.part) where
+    (does : CallAnswers mid.terms tag mid.pass mid.part l.call (number_meant numbers l.call) a now.part)
+    (stands : SideStands now.terms.layout now.part.stands) where
   abbrev who : List ℕ
   who = adding_passes (take i lines) was.so_far.answers
 
@@ -148,9 +153,11 @@ module _ (heap : Option Heap) (terms : RunTerms) (tag : Option ℕ) (lines : Lis
   side_is : side ≡ record (seen_with_part heap terms was.so_far.run.parts l.pass) { orders = side.orders }
   side_is = was.so_far.each l.pass side own
 
+  taken_more : take (i + 1) lines ≡ take i lines ++ l ∷ []
+  taken_more = ap (λ (k : ℕ). take k lines) (add-one i) ∙ take_at lines i l at
+
   who_is : who' ≡ who ++ new
-  who_is = ap (λ (ls : List CallLine). adding_passes ls (was.so_far.answers ++ a ∷ []))
-      (ap (λ (k : ℕ). take k lines) (add-one i) ∙ take_at lines i l at)
+  who_is = ap (λ (ls : List CallLine). adding_passes ls (was.so_far.answers ++ a ∷ [])) taken_more
       ∙ adding_more terms tag _ was.so_far.run (take i lines) was.so_far.answers l a was.so_far.ran
 
   side_pass : side.pass ≡ l.pass
@@ -333,6 +340,15 @@ module _ (heap : Option Heap) (terms : RunTerms) (tag : Option ℕ) (lines : Lis
         (λ (q : Option ℕ). tells_number tag (receipt_seen now).heard q ≡ true) e.1 (tells_new is))
         (get_snoc numbers (number_told a) (Some n) k at)
 
+  steps_heard : LinesHeard (orders_of (set sides l.pass now)) terms tag (opening_calls heap) (take (i + 1) lines)
+      (was.so_far.answers ++ a ∷ []) (next_run was.so_far.run l a now.part)
+  steps_heard = subst (λ (ls : List CallLine). LinesHeard (orders_of (set sides l.pass now)) terms tag
+      (opening_calls heap) ls (was.so_far.answers ++ a ∷ []) (next_run was.so_far.run l a now.part)) (sym taken_more)
+      (lines_more heap terms tag lines i numbers sides output last was.so_far l side mid now own heeds same
+      was.last_steps a (next_run was.so_far.run l a now.part) refl (keeps_side last heeds)
+      (steps heap terms tag lines i numbers sides output was.so_far l at side mid now own only
+      (may_heed last side mid heeds) same a does) stands was.heard_steps)
+
   pub ordered_more : (after : List (Option ℕ)) (sides' : List SeenPass) (longer : List ℕ) (r : Caller)
       → after ≡ with_number numbers l.call a → sides' ≡ set sides l.pass now
       → longer ≡ output ++ reply_line l a → seen_of_receipt r ≡ receipt_seen now
@@ -351,6 +367,11 @@ module _ (heap : Option Heap) (terms : RunTerms) (tag : Option ℕ) (lines : Lis
     };
     last_tells = λ k n at. subst (λ (z : SeenReceipt). tells_number tag z.heard (Some n) ≡ true) (sym tells)
         (tells_then k n (subst (λ (ns : List (Option ℕ)). slice_get ns k ≡ Some (Some n)) named at));
+    heard_steps = subst (λ (ss : List SeenPass). LinesHeard (orders_of ss) terms tag (opening_calls heap)
+        (take (i + 1) lines) (was.so_far.answers ++ a ∷ []) (next_run was.so_far.run l a now.part)) (sym put)
+        steps_heard;
+    last_steps = last_more heap terms tag lines i numbers sides output last was.so_far l side mid now own heeds same
+        was.last_steps r tells;
   }
 
 pub begins_ordered : (heap : Option Heap) (terms : RunTerms) (tag : Option ℕ) (lines : List CallLine)
@@ -362,6 +383,8 @@ begins_ordered heap terms tag lines sides e = record {
   few = λ p le. refl;
   last_heard = refl;
   last_tells = refl;
+  heard_steps = refl;
+  last_steps = no_steps heap;
 }
 
 -- the last receipt is of the heap

@@ -65,11 +65,11 @@ heeded_old r side mid e o c = subst (λ (z : SeenPass). Contains z.orders o) (sy
     (Contains-append_left r.view.orders (map (order_seen side) (heard_in r.view)) o c))
 
 -- a receipt contains what its pass heard of
-ordered_heard : (s : SeenPass) (o : Order) → Contains s.orders o → Contains (receipt_seen s).heard o.heard
+pub ordered_heard : (s : SeenPass) (o : Order) → Contains s.orders o → Contains (receipt_seen s).heard o.heard
 ordered_heard s o c = Contains-append_right (part_heard s.pass s.part ∷ taken_heard s)
     (map (λ (z : Order). z.heard) s.orders) o.heard (contains_map (λ (z : Order). z.heard) s.orders o c)
 
-own_heard : (s : SeenPass) → Contains (receipt_seen s).heard (part_heard s.pass s.part)
+pub own_heard : (s : SeenPass) → Contains (receipt_seen s).heard (part_heard s.pass s.part)
 own_heard s = Contains-append_left (part_heard s.pass s.part ∷ [])
     (taken_heard s ++ map (λ (z : Order). z.heard) s.orders) (part_heard s.pass s.part)
     (Contains-push [] (part_heard s.pass s.part))

@@ -19,6 +19,7 @@ use Rattle.script_calls.specs.Runs.{with_number}
 use Rattle.script_calls.specs.Runs.{number_meant}
 use Rattle.script_calls.specs.Receipts.{MayHeed, part_heard}
 use Rattle.script_calls.specs.Hearing.{AllHear, AreInHistory}
+use Rattle.script_calls.specs.Stepping.{StepsInTurn}
 use Rattle.script_calls.specs.Told.{AreReplies, part_told}
 use Rattle.script_calls.specs.Meeting.{HasMet, HasEnded, SomeWaits, tales_told, AllOfHeap, orders_of}
 use Rattle.script_calls.proofs.EndLaws.{parts_ended}
@@ -210,7 +211,7 @@ carrier_ran : (alone : Bool) (heap : Option Heap) (terms : RunTerms) (tag : Opti
     (numbers : List (Option ℕ)) (sides : List SeenPass) (output : List ℕ) (c : SeenPass) (last : Option Caller)
     (ts : List SeenPass) → length lines ≤ i → All (λ (l : CallLine). l.pass < terms.shape.passes) lines
     → (h : AnsweredSoFar heap terms tag lines i numbers sides output) → AllHear last sides ts
-    → (alone ≡ true → IsOrderedBy terms lines h.answers c)
+    → (alone ≡ true → IsOrderedBy terms lines h.answers c × StepsInTurn c.orders heap terms tag lines h.answers h.run)
     → HasMet heap terms c (tales_told ts) (orders_of ts) → All (HasEnded c) ts
     → CarrierRan alone heap terms tag lines output c
 carrier_ran alone heap terms tag lines i numbers sides output c last ts past fits h hear ordered met ended =
@@ -226,13 +227,14 @@ carrier_ran alone heap terms tag lines i numbers sides output c last ts past fit
         tale_is = tale;
         whole = record { history = w.history; legal = w.legal; has = has; only = w.only };
         named = named w.history has w.only m.kept;
-        in_order = λ e. ordered e w.history has w.only m.kept;
+        in_order = λ e. (ordered e).0 w.history has w.only m.kept;
       };
       carries = (m.carries.0, m.carries.1, refl);
       none = m.none;
       named = named;
       ended = parts_ended heap terms tag lines i numbers sides output h last ts hear c ended;
-      ordered = ordered;
+      ordered = λ e. (ordered e).0;
+      steps = λ e. (ordered e).1;
     }
 
 -- what holds of what is seen of the carrier, if there is one
@@ -298,7 +300,7 @@ pub lines_ran : {S : Type 0} (seen : S → SeenPass) (alone : Bool) (heap : Opti
     → (h : AnsweredSoFar heap terms tag lines i numbers sides output) → AllHear last sides ts
     → (sides ≡ []) ⊎ AreInHistory terms sides
     → ((c : SeenPass) → HasMet heap terms c (tales_told ts) (orders_of ts) → alone ≡ true
-    → IsOrderedBy terms lines h.answers c)
+    → IsOrderedBy terms lines h.answers c × StepsInTurn c.orders heap terms tag lines h.answers h.run)
     → IfSome carrier (λ s. HasMet heap terms (seen s) (tales_told ts) (orders_of ts))
     → IfSome carrier (λ s. All (HasEnded (seen s)) ts) → IfNone carrier (SomeWaits ts ⊎ (ts ≡ []))
     → LinesRan alone heap terms tag lines output (option_map seen carrier)

@@ -10,6 +10,7 @@ pub mod MeetLaws
 pub mod HearLaws
 pub mod HeardAll
 pub mod InTurn
+pub mod StepLaws
 pub mod AloneLaws
 pub mod AloneEnds
 pub mod GoneLaws

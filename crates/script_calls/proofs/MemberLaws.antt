@@ -170,6 +170,12 @@ member_whole layout (Pass v) h = whole_tale layout v (Pass v) h.1
 member_whole layout (Shard o) h = whole_tale layout o.pages.owner (Shard o) h.stands
 member_whole layout Moving h = absurd h
 
+pub member_stands : (layout : Layout) (m : SeenSide) → SideStands layout m
+    → SideStands (seen_of_member layout m).terms.layout (seen_of_member layout m).part.stands
+member_stands layout (Pass v) h = h
+member_stands layout (Shard o) h = h
+member_stands layout Moving h = absurd h
+
 pub members_may_join : (layout : Layout) (m n : SeenSide)
     → ((seen_of_member layout m).part.shard ≡ None) × ((seen_of_member layout n).part.shard ≡ None)
     → (seen_of_member layout m).heap ≡ (seen_of_member layout n).heap → MayJoin m n

@@ -10,6 +10,7 @@ use Rattle.script_calls.specs.Receipts.{Heeds, seen_of_receipt}
 use Rattle.script_calls.specs.InOrder.{times, adding_passes, LastHeard}
 use Rattle.script_calls.specs.Meeting.{orders_of}
 use Rattle.script_calls.specs.Named.{NamesWereHeard, tells_number}
+use Rattle.script_calls.specs.Stepping.{LinesHeard, LastHasSteps}
 use Rattle.sh_table.specs.Seats.{Heap}
 
 -- the last receipt, if there is one, is of this heap
@@ -45,7 +46,7 @@ pub record AnsweredSoFar (heap : Option Heap) (terms : RunTerms) (tag : Option �
       → s ≡ record (seen_with_part heap terms run.parts p) { orders = s.orders }
   pub heard : NamesWereHeard tag (take i lines) answers (orders_of sides)
 
--- the same, and the last receipt contains all entries
+-- the same, and the last receipt contains all entries and all steps
 pub record OrderedSoFar (heap : Option Heap) (terms : RunTerms) (tag : Option ℕ) (lines : List CallLine) (i : ℕ)
     (numbers : List (Option ℕ)) (sides : List SeenPass) (output : List ℕ) (last : Option Caller) : Type 0 where
   pub so_far : AnsweredSoFar heap terms tag lines i numbers sides output
@@ -54,3 +55,5 @@ pub record OrderedSoFar (heap : Option Heap) (terms : RunTerms) (tag : Option �
   pub few : (p : ℕ) → terms.shape.passes ≤ p → times p (adding_passes (take i lines) so_far.answers) ≡ []
   pub last_heard : LastHeard heap (adding_passes (take i lines) so_far.answers) last
   pub last_tells : LastTells tag numbers last
+  pub heard_steps : LinesHeard (orders_of sides) terms tag (opening_calls heap) (take i lines) so_far.answers so_far.run
+  pub last_steps : LastHasSteps so_far.run.parts last

@@ -15,6 +15,7 @@ use Rattle.script_calls.specs.Parts.{SeenPass, PassPart, RunTerms, HasAllLogs, n
 use Rattle.script_calls.specs.Receipts.{MayHeed, part_heard}
 use Rattle.script_calls.specs.InOrder.{IsInOrder}
 use Rattle.script_calls.specs.Named.{NamesComeFirst}
+use Rattle.script_calls.specs.Stepping.{StepsInTurn}
 use Rattle.script_calls.specs.Told.{AreReplies, IsTold}
 use Rattle.script_calls.specs.Meeting.{CarriesTale, OwnsNone, EndedAmong, parts_carried}
 
@@ -44,7 +45,7 @@ IsNamedBy terms tag lines answers c = (history : List Entry) → HasAllLogs hist
     → NamesComeFirst tag lines answers history
 
 -- The replies were written, and this pass owns no shard and carries the tale of all. It has heard of what they heard of
--- names. If the lines ran one after the other, it has heard of their order.
+-- names. If the lines ran one after the other, it has heard of their order, and of the order of their steps.
 pub record CarrierRan (alone : Bool) (heap : Option Heap) (terms : RunTerms) (tag : Option ℕ) (lines : List CallLine)
     (output : List ℕ) (c : SeenPass) : Type 0 where
   pub told : IsTold alone heap terms tag lines output (tale_told c)
@@ -53,6 +54,7 @@ pub record CarrierRan (alone : Bool) (heap : Option Heap) (terms : RunTerms) (ta
   pub named : IsNamedBy terms tag lines told.replies.answers c
   pub ended : (p : ℕ) → p < terms.shape.passes → EndedAmong (parts_carried c) p (told.replies.after.parts p)
   pub ordered : alone ≡ true → IsOrderedBy terms lines told.replies.answers c
+  pub steps : alone ≡ true → StepsInTurn c.orders heap terms tag lines told.replies.answers told.replies.after
 
 -- The replies were written, and then this pass was refused when it left its shard, as the contract of leaving says. It
 -- may have heeded a receipt before. There is one legal history in which the first entries of each pass are those that

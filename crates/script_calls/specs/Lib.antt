@@ -7,6 +7,7 @@ pub mod Runs
 pub mod Named
 pub mod Told
 pub mod Meeting
+pub mod Stepping
 pub mod Alone
 pub mod Hearing
 pub mod Running

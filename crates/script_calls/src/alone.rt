@@ -40,6 +40,7 @@ fn lines_in_turn<S: Side>(
         heed_last(side, last);
         let bound = number_meant(numbers.as_slice(), &line.call);
         let answer = answered(alloc, side, tag, &line.call, bound);
+        let _known = side.whole();
         last = Some(side.receipt());
         tell(&mut output, &mut numbers, line, &answer)?;
     }

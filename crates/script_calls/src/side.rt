@@ -1,6 +1,7 @@
 //! A pass of a heap, with or without a shard: what runs the calls of a script.
 ghost use Rattle.std.specs.Prelude.{◌≡◌, ◌<◌, ◌+◌, ◌∷◌, ◌++◌, IfOk, None};
 ghost use Rattle.sh_key.specs.Layout.{first_key, key_count};
+ghost use Rattle.sh_member.specs.Sides.{SideStands};
 ghost use Rattle.script_calls.specs.Parts.{SeenPass, SamePass, tale_told};
 ghost use Rattle.script_calls.specs.Calls.{AdoptAnswers, LeaveAnswers, InsertAnswers, GetAnswers, ReadAnswers};
 ghost use Rattle.script_calls.specs.Calls.{RemoveAnswers, ReleaseAnswers};
@@ -84,7 +85,9 @@ pub trait Side: Drop {
         ensures orders { KeepsOrders ((seen self).orders ++ (seen other).orders) (seen result).orders }
         ensures parts { parts_carried (seen result) ≡ parts_carried (seen self) ++ parts_carried (seen other) };
 
-    /// One legal history has the entries of each pass that it speaks for, and keeps the orders that it heard of.
+    /// One legal history has the entries of each pass that it speaks for, and keeps the orders that it heard of. All
+    /// that it knows is true, and nothing is begun.
     fn whole(&self)
-        ensures { HasOrderedTale (seen self.now) };
+        ensures tale { HasOrderedTale (seen self.now) }
+        ensures stands { SideStands (seen self.now).terms.layout (seen self.now).part.stands };
 }

@@ -4,6 +4,7 @@ use Rattle.std.proofs.Common.{Some, Option, slice_get}
 use Rattle.std.specs.Option.{option_map}
 use Rattle.std.proofs.lemmas.Grind.{common_steps}
 use Rattle.std.proofs.lemmas.Option.{gets, slice_get-map}
+use Rattle.sh_member.specs.Sides.{SideStands}
 use Rattle.sh_script.specs.declared.calls.CallLine.{CallLine}
 use Rattle.script_output.specs.Keys.{HasTagRoom}
 use Rattle.script_calls.specs.Parts.{RunTerms, SeenPass, new_passes, told_pass}
@@ -12,6 +13,7 @@ use Rattle.script_output.specs.Replies.{reply_line}
 use Rattle.script_calls.specs.Runs.{number_meant, with_number}
 use Rattle.script_calls.proofs.AloneLaws.{begins_ordered, ordered_more, last_of}
 use Rattle.script_calls.proofs.AloneEnds.{ordered_by}
+use Rattle.script_calls.proofs.StepLaws.{steps_in_turn}
 use Rattle.script_calls.proofs.HearLaws.{orders_only}
 use Rattle.script_calls.proofs.HeardAll.{heard_of_heap, heard_tales}
 use Rattle.script_calls.proofs.InTurn.{heap_at, map_set, all_are, all_speak, terms_at, lines_ran}
@@ -75,10 +77,11 @@ loop-line-preserved g c =
     l.pass now = map_set seen c.loop-line.sides.items l.pass c.receipt.new.self
     ∙ ap (set (map seen c.loop-line.sides.items) l.pass) c.receipt.ensures.same in
     let room : HasTagRoom g.at.1.layout c.args.tag = search rules in
+    let stands : SideStands now.terms.layout now.part.stands = c.whole-known.ensures.stands in
     ordered_more g.at.0 g.at.1 c.args.tag c.args.lines.now c.loop-line.line-index c.loop-line.numbers.items
     (map seen c.loop-line.sides.items) c.loop-line.output.items c.loop-line.last
     c.loop-line.invariant l at side mid now own c.heed_last.ensures
-    c.answered-answer.ensures.same a room (subst D bound c.answered-answer.ensures.does)
+    c.answered-answer.ensures.same a room (subst D bound c.answered-answer.ensures.does) stands
     c.tell.new.numbers.items _ c.tell.new.output.items c.receipt.result named put printed c.receipt.ensures.tells
 
 pub all_hear-requires : goal.all_hear-requires
@@ -119,7 +122,11 @@ returns g c =
       ran = lines_ran seen true g.at.0 g.at.1 c.args.tag c.args.lines.now c.loop-line.line-index
           c.loop-line.numbers.items sides c.loop-line.output.items c.met.result c.loop-line.last ts past fits
           c.loop-line.invariant.so_far hear c.all_hear.ensures.told
-          (λ s m e. ordered_by g.at.0 g.at.1 c.args.tag c.args.lines.now c.loop-line.line-index
-          c.loop-line.numbers.items sides c.loop-line.output.items c.loop-line.last c.loop-line.invariant past ts hear
-          s m) c.met.ensures.met c.met.ensures.ended c.met.ensures.stays;
+          (λ s m e. (
+            ordered_by g.at.0 g.at.1 c.args.tag c.args.lines.now c.loop-line.line-index c.loop-line.numbers.items sides
+                c.loop-line.output.items c.loop-line.last c.loop-line.invariant past ts hear s m,
+            steps_in_turn g.at.0 g.at.1 c.args.tag c.args.lines.now c.loop-line.line-index c.loop-line.numbers.items
+                sides c.loop-line.output.items c.loop-line.last c.loop-line.invariant.so_far past
+                c.loop-line.invariant.heard_steps c.loop-line.invariant.last_steps ts hear s.orders m.heard,
+          )) c.met.ensures.met c.met.ensures.ended c.met.ensures.stays;
     }

@@ -35,7 +35,7 @@ loop-place-preserved g c =
     ∙ ap (set (map seen c.loop-place.sides.items) place) c.receipt.ensures.same in
     heeded_more g.at.0 g.at.1 c.args.last (map seen c.args.sides.items) place (map seen c.loop-place.sides.items)
     c.loop-place.heard c.loop-place.invariant c.requires.of (seen c.in-Some.side.now) at mid c.heed_last.ensures
-    c.whole-known.ensures _ c.receipt.result put c.receipt.ensures.tells
+    c.whole-known.ensures.tale _ c.receipt.result put c.receipt.ensures.tells
 
 -- the loop ends at the last side
 ends : (n count size many : ℕ) → count ≤ n → count ≡ many → size ≡ many → size ≤ n

@@ -64,7 +64,7 @@ returns-clause-met g c =
     let some : c.loop-side.carrier ≡ Some c.in_ok-carrier.carrier = search rules in
     has_met seen g.at.0 g.at.1 c.args.sides.items c.loop-side.yielded _ (into_iter_len c.loop-side.side-iterator)
     (seen c.in_ok-carrier.carrier) (option_map seen c.loop-side.carrier) was.rest was.counted c.in-None.ensures.steps.0
-    was.carries was.heard was.none (ap (option_map seen) some) c.whole-known.ensures
+    was.carries was.heard was.none (ap (option_map seen) some) c.whole-known.ensures.tale
 
 pub returns-clause-ended : goal.returns-clause-ended
 returns-clause-ended g c =
