@@ -12,6 +12,7 @@ pub mod HeardAll
 pub mod InTurn
 pub mod StepLaws
 pub mod AloneLaws
+pub mod PartsGoOn
 pub mod AloneEnds
 pub mod GoneLaws
 pub mod PlacedKeys

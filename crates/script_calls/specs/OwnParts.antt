@@ -1,5 +1,7 @@
 -- The own part of a pass: what it knows of its own, its entries, and each of its steps with the word that it found.
 use Rattle.std.specs.Prelude.{◌≡◌, ℕ, List, [], length, Ok}
+use Rattle.sh_shape.specs.Shape.{Numbers}
+use Rattle.sh_pass.specs.Growing.{GoesOn}
 use Rattle.sh_table.specs.declared.view.Own.{Own}
 use Rattle.sh_table.specs.declared.view.Told.{Told}
 use Rattle.sh_table.specs.Views.{fresh}
@@ -17,6 +19,17 @@ abbrev pub taken_in : SeenSide → List Told
 taken_in (Pass v) = v.view.told
 taken_in (Shard o) = o.pages.owner.view.told
 taken_in Moving = []
+
+-- the shape of the heap as it knows it
+abbrev pub shape_in : SeenSide → Numbers
+shape_in (Pass v) = v.view.shape
+shape_in (Shard o) = o.pages.owner.view.shape
+shape_in Moving = record { shards = 0; segments = 0; passes = 0 }
+
+-- the shape is as before, and the steps before are the first of the steps after
+pub record Follows (s t : SeenSide) : Type 0 where
+  pub shape : shape_in t ≡ shape_in s
+  pub trail : GoesOn (own_part s).trail (own_part t).trail
 
 -- how many steps it did
 abbrev pub steps_of : SeenSide → ℕ

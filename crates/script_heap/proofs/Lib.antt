@@ -1,3 +1,5 @@
+pub mod LineCuts
+pub mod LineRuns
 pub mod WholeLemmas
 pub mod OpenedLemmas
 pub mod FirstSteps

@@ -16,7 +16,7 @@ use Rattle.sh_table.specs.Tales.{Before}
 use Rattle.sh_table.specs.Whole.{IsWhole}
 use Rattle.sh_table.specs.Views.{Each, newly}
 use Rattle.sh_table.specs.declared.view.Told.{Told}
-use Rattle.sh_table.specs.Reached.{HasOwn}
+use Rattle.sh_table.specs.Reached.{HasOwn, StepsBefore}
 use Rattle.std.specs.List.{All}
 use Rattle.std.proofs.lemmas.List.Elements.{All-nil, All-cons, All-contains}
 use Rattle.std.specs.Prelude.{◌<◌}
@@ -35,6 +35,7 @@ use Rattle.script_output.specs.AccountLines.{Later, ShardsSaid, accounts_after, 
 use Rattle.script_heap.specs.WholeAccounts.{LeadsToWhole, PageSaid, HasNumbers}
 use Rattle.script_heap.specs.HeapOutput.{TellsTale, IsHeapOutput, EndsInRun}
 use Rattle.script_calls.specs.Finished.{CarrierRan}
+use Rattle.script_heap.proofs.LineRuns.{runs_by_line}
 
 each_all : {A : Type 0} (P : A → Type 0) (xs : List A) → Each P xs → All P xs
 each_all P [] h = All-nil P
@@ -49,6 +50,12 @@ leads_parts layout v es n same l =
     subst (λ (s : Numbers). All (λ (t : Told). HasOwn (plan_of layout s) es t.pass t.own)
     (parts_carried (seen_of_caller layout v))) same
     (each_all T (parts_carried (seen_of_caller layout v)) (l.leads.own, l.leads.told))
+
+-- and they have the steps in the orders that it knows
+leads_steps : (layout : Layout) (v : Caller) (es : List Event) (n : Numbers) → v.view.shape ≡ n
+    → LeadsToWhole layout v es → Each (StepsBefore (plan_of layout n) es) v.view.orders
+leads_steps layout v es n same l =
+    subst (λ (s : Numbers). Each (StepsBefore (plan_of layout s) es) v.view.orders) same l.leads.steps
 
 -- the history of a view that noted more is a history of the view before
 same_history : (layout : Layout) (v w : View) (history : List Entry) → NotedMore v w → IsHistory layout w history
@@ -114,6 +121,7 @@ tells_tale layout v w es old new later lw is said =
               ((said shard below page small).numbers H at_w));
         };
         parts = leads_parts layout v es n lv.shape lv;
+        steps = leads_steps layout v es n lv.shape lv;
       },
     )
 
@@ -231,6 +239,8 @@ module _ (alone : Bool) (layout : Layout) (heap : Heap) (tag : Option ℕ) (line
         events = tells.lines.events;
         log = tells.lines.log;
         steps = ended_in tells.lines.events tells.parts;
+        by_line = λ e. runs_by_line layout heap tag lines ran.told.replies.answers ran.told.replies.after
+            tells.lines.events v.view.orders tells.steps (ran.steps e) (ended_in tells.lines.events tells.parts);
         accounts = t.0;
         is = t.1;
         are = tells.lines;
@@ -254,6 +264,9 @@ module _ (alone : Bool) (layout : Layout) (heap : Heap) (tag : Option ℕ) (line
         events = events;
         log = sym w.1;
         steps = ended_in events (leads_parts layout v events heap.shape same led);
+        by_line = λ e. runs_by_line layout heap tag lines ran.told.replies.answers ran.told.replies.after events
+            v.view.orders (leads_steps layout v events heap.shape same led) (ran.steps e)
+            (ended_in events (leads_parts layout v events heap.shape same led));
         accounts = [];
         is = sym (append-nil output);
         are = refl;

@@ -18,23 +18,26 @@ use Rattle.sh_table.specs.Tales.{Before}
 use Rattle.sh_table.specs.Views.{Each}
 use Rattle.sh_table.specs.declared.view.Own.{Own}
 use Rattle.sh_table.specs.declared.view.Told.{Told}
-use Rattle.sh_table.specs.Reached.{HasOwn}
+use Rattle.sh_table.specs.Reached.{HasOwn, StepsBefore}
 use Rattle.sh_step.specs.Plans.{Plan}
 use Rattle.script_calls.specs.OwnParts.{EndsWith}
 use Rattle.script_calls.specs.Parts.{PassPart, PassTold, HasWholeTale, heap_terms}
 use Rattle.script_calls.specs.Receipts.{MayHeed}
 use Rattle.script_calls.specs.Told.{IsTold}
 use Rattle.script_calls.specs.Finished.{AreWaiting}
+use Rattle.script_calls.specs.Runs.{opening_calls}
+use Rattle.script_heap.specs.ByLine.{RunsByLine}
 use Rattle.script_heap.specs.WholeAccounts.{AreAccountLines}
 
--- account lines by one history of this tale, which keeps these orders; after its events each pass has its own part of
--- these
+-- account lines by one history of this tale, which keeps these orders, and so do the steps of its events; after them
+-- each pass has its own part of these
 pub record TellsTale (layout : Layout) (shape : Numbers) (tale : List PassTold) (orders : List Order)
     (carried : List Told) (text : List ℕ) : Type 0 where
   pub whole : HasWholeTale (heap_terms layout shape) tale
   pub kept : Each (Before whole.history) orders
   pub lines : AreAccountLines layout shape whole.history text
   pub parts : All (λ t. HasOwn (plan_of layout shape) lines.events t.pass t.own) carried
+  pub steps : Each (StepsBefore (plan_of layout shape) lines.events) orders
 
 -- After these events the pass has exactly the own part with which it ended. So its steps among these events are those
 -- that it did, in order, and each found the word that the pass found. It may have heeded a receipt before it ended.
@@ -49,7 +52,8 @@ AccountsAsked false layout shape history text = text ≡ []
 
 -- The replies are those of the tale of all passes of a heap of this shape. After them come the account lines by its
 -- history, if they are asked for. The history is the log of a run of the core, whose steps are those that the passes
--- did. If the lines ran one after the other, the history has the entries in the order of the lines.
+-- did. If the lines ran one after the other, the history has the entries in the order of the lines. The events are then
+-- those of the lines, one line after the other, and after them those of the leaves at the end.
 pub record IsHeapOutput (alone : Bool) (layout : Layout) (shape : Numbers) (tag : Option ℕ) (lines : List CallLine)
     (asked : Bool) (output : List ℕ) : Type 0 where
   pub heap : Heap
@@ -60,6 +64,8 @@ pub record IsHeapOutput (alone : Bool) (layout : Layout) (shape : Numbers) (tag 
   pub events : List Event
   pub log : (run (plan_of layout shape) events).log ≡ told.whole.history
   pub steps : (p : ℕ) → p < shape.passes → EndsInRun (plan_of layout shape) events p (told.replies.after.parts p)
+  pub by_line : alone ≡ true → RunsByLine (plan_of layout shape) [] events (heap_terms layout shape) tag
+      (opening_calls (Some heap)) lines told.replies.answers told.replies.after
   pub accounts : List ℕ
   pub is : output ≡ replies ++ accounts
   pub are : AccountsAsked asked layout shape told.whole.history accounts

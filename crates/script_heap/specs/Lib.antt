@@ -1,3 +1,4 @@
 pub mod WholeAccounts
+pub mod ByLine
 pub mod HeapOutput
 pub mod OwnSteps
