@@ -4,3 +4,5 @@ pub mod WholeLemmas
 pub mod OpenedLemmas
 pub mod FirstSteps
 pub mod LoneAdopt
+pub mod FoundWords
+pub mod OwnerLaws

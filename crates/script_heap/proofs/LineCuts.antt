@@ -150,8 +150,8 @@ module _ (plan : Plan) where
       all : (q : ℕ) → q < m → n q ≤ done early q
       few : (q : ℕ) → q < k → done early q ≤ n q
 
-    shortest : (k : ℕ) → k ≤ m → Shortest k
-    shortest zero le = record {
+    all_events : Shortest 0
+    all_events = record {
       early = events;
       late = [];
       is = sym (append-nil events);
@@ -159,14 +159,11 @@ module _ (plan : Plan) where
           let more = done_more c.early events c.late c.is q in omega (arith, own, more);
       few = λ q less. absurd (omega (arith, less));
     }
-    shortest (suc k) le = ⊎_elim after before (compare s.early s.late c.early c.late (sym s.is ∙ c.is))
+
+    -- the shorter one of two
+    shorter : (k : ℕ) → CutBefore events n m k → Shortest k → Shortest (suc k)
+    shorter k c s = ⊎_elim after before (compare s.early s.late c.early c.late (sym s.is ∙ c.is))
       where
-        s : Shortest k
-        s = shortest k (omega (arith, le))
-
-        c : CutBefore events n m k
-        c = cuts k (omega (arith, le))
-
         after : (rest : List Event) × (c.early ≡ s.early ++ rest) → Shortest (suc k)
         after r = record {
           early = s.early;
@@ -190,6 +187,10 @@ module _ (plan : Plan) where
               (λ (ne : q ≢ k). let few = s.few q (omega (arith, less, ne)) in
               let more = done_more c.early s.early r.0 r.1 q in omega (arith, few, more));
         }
+
+    shortest : (k : ℕ) → k ≤ m → Shortest k
+    shortest zero le = all_events
+    shortest (suc k) le = shorter k (cuts k (omega (arith, le))) (shortest k (omega (arith, le)))
 
     pub exact_cut : CutAt events n m
     exact_cut =

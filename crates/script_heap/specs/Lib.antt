@@ -2,3 +2,4 @@ pub mod WholeAccounts
 pub mod ByLine
 pub mod HeapOutput
 pub mod OwnSteps
+pub mod Owners

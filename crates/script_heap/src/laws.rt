@@ -1,8 +1,16 @@
 //! What follows from the fact that a run has just the steps that its passes did.
 ghost use Rattle.script_heap.specs.OwnSteps.{LoneAdoptIsNotTaken};
+ghost use Rattle.script_heap.specs.Owners.{LinesKeepOwnersApart};
 
 /// If a script consists of one adopt, no other pass does a step. So the adopt finds no owner, and its answer is not
 /// `Taken`.
 pub fn lone_adopt_is_not_taken()
     ensures { LoneAdoptIsNotTaken }
+{}
+
+/// In a run of mode heap no two passes own one shard between two lines. An adopt is `Taken` only if the pass owns a
+/// shard by the lines before, or another pass owns this one. It is `NoShard` only if there is no such shard and the
+/// pass owns none, and ok only if no pass owns this one. `Memory` may come in place of ok.
+pub fn lines_keep_owners_apart()
+    ensures { LinesKeepOwnersApart }
 {}

@@ -1,0 +1,72 @@
+-- Who owns what between the lines of a run in one thread, and what an adopt is answered.
+use Rattle.std.specs.Prelude.{◌≡◌, ◌≢◌, ◌⊎◌, ℕ, ◌<◌, ◌≤◌, Bool, true, List, [], ◌∷◌, ◌++◌, Option, Some, None}
+use Rattle.std.specs.Prelude.{IsSome, refl}
+use Rattle.std.specs.List.{All}
+use Rattle.sh_value.specs.declared.refusal.Refusal.TheVariants as refusal
+use Rattle.sh_key.specs.Layout.{Layout, IsLayout}
+use Rattle.sh_shape.specs.Shape.{Numbers, IsShape, Fits}
+use Rattle.sh_step.specs.declared.action.Event.{Event}
+use Rattle.sh_step.specs.Plans.{Plan, plan_of}
+use Rattle.sh_script.specs.declared.calls.Call.{Call}
+use Rattle.sh_script.specs.declared.calls.Call.TheVariants as call
+use Rattle.sh_script.specs.declared.calls.CallLine.{CallLine}
+use Rattle.script_output.specs.declared.answer.Answer.{Answer}
+use Rattle.script_output.specs.declared.answer.Answer.TheVariants as answer
+use Rattle.script_calls.specs.Parts.{RunTerms, PassPart, heap_terms, shard_owned}
+use Rattle.script_calls.specs.Runs.{CallsRun, opening_calls}
+use Rattle.script_heap.specs.ByLine.{RunsByLine}
+use Rattle.script_heap.specs.HeapOutput.{IsHeapOutput}
+
+-- the shard that pass p owns, if it owns one
+abbrev pub owned_by : (ℕ → PassPart) → (p : ℕ) → Option ℕ
+owned_by parts p = shard_owned (parts p).stands
+
+-- no two of the passes own one shard
+abbrev pub OwnApart : (passes : ℕ) → (ℕ → PassPart) → Type 0
+OwnApart passes parts = (p q k : ℕ) → p < passes → q < passes → owned_by parts p ≡ Some k → owned_by parts q ≡ Some k
+    → p ≡ q
+
+-- there is such a shard, and no pass owns it
+abbrev pub IsFree : RunTerms → (ℕ → PassPart) → (k : ℕ) → Type 0
+IsFree terms parts k = (k < terms.shape.shards)
+    × ((q : ℕ) → q < terms.shape.passes → owned_by parts q ≢ Some k)
+
+-- there is such a shard, and another pass owns it
+abbrev pub IsOwned : RunTerms → (ℕ → PassPart) → (p k : ℕ) → Type 0
+IsOwned terms parts p k = (k < terms.shape.shards)
+    × ((q : ℕ) × (q < terms.shape.passes) × (q ≢ p) × (owned_by parts q ≡ Some k))
+
+-- The answer to an adopt of shard k by pass p, if passes have these parts. It is Taken if the pass owns a shard or
+-- another pass owns this one, NoShard if there is no such shard, and ok if it is free. Memory may come in place of ok.
+abbrev pub AdoptIsExact : RunTerms → (ℕ → PassPart) → (p k : ℕ) → Answer → Type 0
+AdoptIsExact terms parts p k (answer.Refused refusal.Taken) = IsSome (owned_by parts p) ⊎ IsOwned terms parts p k
+AdoptIsExact terms parts p k (answer.Refused refusal.NoShard) = (owned_by parts p ≡ None) × (terms.shape.shards ≤ k)
+AdoptIsExact terms parts p k (answer.Refused refusal.Memory) = (owned_by parts p ≡ None) × (k < terms.shape.shards)
+AdoptIsExact terms parts p k answer.Done = (owned_by parts p ≡ None) × IsFree terms parts k
+AdoptIsExact terms parts p k _ = ⊥
+
+-- the same for a call, if it is an adopt
+abbrev pub CallIsExact : RunTerms → (ℕ → PassPart) → (p : ℕ) → Call → Answer → Type 0
+CallIsExact terms parts p (call.Adopt k) a = AdoptIsExact terms parts p k a
+CallIsExact terms parts p _ a = Unit {0}
+
+-- for each of these lines: no two passes own one shard before it, and its answer is exact
+abbrev pub OwnersAreExact : (plan : Plan) (early late : List Event) (terms : RunTerms) (tag : Option ℕ)
+    (before : CallsRun) (lines : List CallLine) (answers : List Answer) (after : CallsRun)
+    → RunsByLine plan early late terms tag before lines answers after → Type 0
+OwnersAreExact plan early late terms tag before [] [] after h = OwnApart terms.shape.passes before.parts
+OwnersAreExact plan early late terms tag before [] (a ∷ answers) after h = ⊥
+OwnersAreExact plan early late terms tag before (l ∷ lines) [] after h = ⊥
+OwnersAreExact plan early late terms tag before (l ∷ lines) (a ∷ answers) after h =
+    OwnApart terms.shape.passes before.parts × CallIsExact terms before.parts l.pass l.call a
+    × OwnersAreExact plan (early ++ h.3) h.4 terms tag h.1 lines answers after h.6
+
+-- In a run of mode heap no two passes own one shard between two lines. An adopt is Taken only if the pass owns a shard
+-- by the lines before, or another pass owns this one, and ok only if it is free. So what owners have is the script's.
+abbrev pub LinesKeepOwnersApart : Type 0
+LinesKeepOwnersApart = (asked : Bool) (layout : Layout) (shape : Numbers) (tag : Option ℕ) (lines : List CallLine)
+    (output : List ℕ) → IsLayout layout → IsShape shape → Fits layout shape
+    → All (λ (l : CallLine). l.pass < shape.passes) lines
+    → (h : IsHeapOutput true layout shape tag lines asked output)
+    → OwnersAreExact (plan_of layout shape) [] h.events (heap_terms layout shape) tag (opening_calls (Some h.heap))
+    lines h.told.replies.answers h.told.replies.after (h.by_line refl)
