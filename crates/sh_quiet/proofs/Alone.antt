@@ -1,6 +1,6 @@
 -- What holds while one pass goes on alone and puts nothing: each link that it follows is written, and what it took from
--- a page or a bell leaves an empty list there.
-use Rattle.std.proofs.Common.{◌≡◌, ◌≢◌, ℕ, ◌<◌, ◌==◌, ◌&&◌, ◌⊎◌, inl, inr, ⊎_elim, Bool, true, false}
+-- a page or a bell leaves an empty list there. The head of a page that it took stays empty if it arms none.
+use Rattle.std.proofs.Common.{◌≡◌, ◌≢◌, ℕ, ◌<◌, ◌≤◌, ◌==◌, ◌&&◌, ◌⊎◌, inl, inr, ⊎_elim, Bool, true, false}
 use Rattle.std.proofs.Common.{cond, List, [], ◌∷◌, ◌++◌, refl, ap, sym, ◌∙◌, subst, arith, Option, Some, None}
 use Rattle.std.proofs.Common.{slice_get, eq-eqb, eqb-true, ne_eqb}
 use Rattle.std.specs.Prelude.{count_by, slice_set, drop}
@@ -18,8 +18,9 @@ use Rattle.sh_step.specs.declared.moves.Move.TheVariants as move
 use Rattle.sh_step.specs.Collections.{total, if1}
 use Rattle.sh_step.specs.Conditions.{May, action_of}
 use Rattle.sh_step.specs.Footsteps.{footstep_of, takes, bell_takes, met, bell_met, takes_page, takes_bell}
-use Rattle.sh_step.specs.Footsteps.{meets_page, meets_bell, puts_slot}
+use Rattle.sh_step.specs.Footsteps.{meets_page, meets_bell, puts_slot, arms, arms_page}
 use Rattle.sh_step.specs.Moves.{row_of}
+use Rattle.sh_step.specs.Operations.{operate}
 use Rattle.sh_step.specs.Plans.{Plan, home, over_heap}
 use Rattle.sh_step.specs.Rows.{own, hand}
 use Rattle.sh_step.proofs.FootstepLaws.{counts_grow}
@@ -29,7 +30,7 @@ use Rattle.sh_core.specs.Lists.{PutLists}
 use Rattle.sh_core.specs.Lists.{chain_followed}
 use Rattle.sh_core.specs.Refines.{Refines}
 use Rattle.sh_core.specs.Stacks.{slot_ref, link_to, ties_of, ring_ties, cursor_at, bell_cursor_at, bell_link}
-use Rattle.sh_core.specs.Words.{put, read}
+use Rattle.sh_core.specs.Words.{put, read, write}
 use Rattle.sh_core.specs.Worlds.{World, apply}
 use Rattle.sh_core.proofs.Moves.ByMove.{lists_after}
 use Rattle.sh_core.proofs.Quiet.{none_of}
@@ -69,6 +70,8 @@ pub record Alone (plan : Plan) (a : ℕ) (w : World) (l : PutLists) (t t0 : List
   pub bells : (n : ℕ) → (bell_takes n t ≡ bell_takes n t0) ⊎ (l.bells n ≡ [])
   pub met : (q : ℕ) → met q t ≡ met q t0
   pub bell_met : (n : ℕ) → bell_met plan n t ≡ bell_met plan n t0
+  pub armed_more : arms t0 ≤ arms t
+  pub heads : (q : ℕ) → arms t ≡ arms t0 → (takes q t ≡ takes q t0) ⊎ (w.words.head_at q ≡ 0)
 
 some_link : (xs : List ℕ) → 0 < link_to xs
 some_link [] = omega arith
@@ -231,6 +234,38 @@ module _ (plan : Plan) (a : ℕ) (w : World) (l : PutLists) (all : Refines plan 
       (and_false (home plan r == n) (w.words.page_link_at r == 0) (bell_link_found r may)) ∙ old.bell_met n
   bell_met_after m may n = unmoved (meets_bell plan n) (trod m) refl ∙ old.bell_met n
 
+  arms_before : (s : Footstep) → arms (t ++ s ∷ []) ≡ arms t0 → arms t ≡ arms t0
+  arms_before s same =
+      let more = counts_grow arms_page t s in
+      let few = old.armed_more in omega (arith, more, few, same)
+
+  abbrev head_after : Move → ℕ → ℕ
+  head_after m q = (write w.words (row_of plan p m).place (operate (row_of plan p m).operation (found m))).head_at q
+
+  heads_still : (q : ℕ) (s : Footstep) (h : ℕ) → takes_page q s ≡ false → h ≡ w.words.head_at q → arms t ≡ arms t0
+      → (takes q (t ++ s ∷ []) ≡ takes q t0) ⊎ (h ≡ 0)
+  heads_still q s h untaken same none = ⊎_elim (λ e. inl (unmoved (takes_page q) s untaken ∙ e))
+      (λ z. inr (same ∙ z)) (old.heads q none)
+
+  heads_after : (m : Move) → puts_slot (trod m) ≡ false → (q : ℕ) → arms (t ++ trod m ∷ []) ≡ arms t0
+      → (takes q (t ++ trod m ∷ []) ≡ takes q t0) ⊎ (head_after m q ≡ 0)
+  heads_after (move.Put x) none q same = absurd (false≢true (sym none))
+  heads_after (move.PutSlot x) none q same = absurd (false≢true (sym none))
+  heads_after (move.Arm r) none q same =
+      let more = counts_grow arms_page t (trod (move.Arm r)) in
+      let one : if1 (arms_page (trod (move.Arm r))) ≡ 1 = refl in
+      let few = old.armed_more in absurd (omega (arith, more, one, few, same))
+  heads_after (move.Take r) none q same = by_page (r == q) refl where
+    by_page : (b : Bool) → (r == q) ≡ b
+        → (takes q (t ++ trod (move.Take r) ∷ []) ≡ takes q t0) ⊎ (put w.words.head_at r 0 q ≡ 0)
+    by_page true is = inr (subst (λ z. put w.words.head_at r 0 z ≡ 0) (eqb-true r q is)
+        (put_same w.words.head_at r 0))
+    by_page false is =
+        let apart : q ≢ r = λ e. false≢true (sym is ∙ eq-eqb r q (sym e)) in
+        heads_still q (trod (move.Take r)) (put w.words.head_at r 0 q) is
+        (put_other w.words.head_at r q 0 (ne_eqb q r apart)) (arms_before (trod (move.Take r)) same)
+  heads_after m none q same = heads_still q (trod m) (head_after m q) refl refl (arms_before (trod m) same)
+
   abbrev NoTies : Body → Type 0
   NoTies u = TiesNone u.hand
 
@@ -275,4 +310,7 @@ module _ (plan : Plan) (a : ℕ) (w : World) (l : PutLists) (all : Refines plan 
         bells = bells_after m may;
         met = met_after m may;
         bell_met = bell_met_after m may;
+        armed_more = let more = counts_grow arms_page t (trod m) in let few = old.armed_more in
+            omega (arith, more, few);
+        heads = heads_after m none;
       }

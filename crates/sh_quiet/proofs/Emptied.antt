@@ -91,6 +91,19 @@ module _ (plan : Plan) (w : World) (l : PutLists) (all : Refines plan w l) (quie
       let on_chain : times q (l.bell_chain (home plan q)) ≡ 0 = ap (times q) chain in
       all.flags q (omega (arith, here, more, sum, few, none, on_bell, on_chain))
 
+  -- an armed page whose head and bell are empty is due to nobody, so there is none
+  pub none_is_due : (q : ℕ) → has (λ r. r == q) p.armed ≡ true → l.bells (home plan q) ≡ []
+      → l.bell_chain (home plan q) ≡ [] → w.words.head_at q ≡ 0 → ⊥
+  unfolding total
+  none_is_due q armed bells chain head =
+      let here : 0 < armed_at q p = has_some (λ r. r == q) p.armed armed in
+      let more = total_at (armed_at q) w.parts a p at in
+      let sum = (all.armed q).0 in
+      let none = no_rings q in
+      let on_bell : times q (l.bells (home plan q)) ≡ 0 = ap (times q) bells in
+      let on_chain : times q (l.bell_chain (home plan q)) ≡ 0 = ap (times q) chain in
+      omega (arith, here, more, sum, none, on_bell, on_chain, head)
+
   -- if nothing is queued on an own page, a slot that is not the owner's has a value or is retired
   pub slot_is_used : (q s c : ℕ) → own plan p q ≡ true → w.words.class_at q ≡ c + 1 → s < slots c
       → has (same_slot (slot_ref q s)) p.mine ≡ false → l.stack q ≡ [] → l.chain q ≡ []

@@ -13,7 +13,7 @@ use Rattle.sh_step.specs.declared.action.Event.{Event}
 use Rattle.sh_step.specs.declared.body.Body.{Body}
 use Rattle.sh_step.specs.declared.footstep.Footstep.{Footstep}
 use Rattle.sh_step.specs.Collections.{total, has, noted}
-use Rattle.sh_step.specs.Footsteps.{takes, bell_takes, met, bell_met, puts}
+use Rattle.sh_step.specs.Footsteps.{takes, bell_takes, met, bell_met, puts, arms}
 use Rattle.sh_step.specs.Plans.{Plan, plan_of, home}
 use Rattle.sh_step.specs.Rows.{own}
 use Rattle.sh_step.proofs.PartTests.{owns_is}
@@ -93,26 +93,32 @@ module _ (plan : Plan) (es ds : List Event) where
 
 -- ---- what the last one left
 
-record Goes (plan : Plan) (early late : List Event) (a : ℕ) (before after : Own) : Type 0 where
-  quiet : Quiet (run plan early)
-  rest : (b : ℕ) → b ≢ a → b < plan.passes → length (trail_of plan (early ++ late) b) ≡ length (trail_of plan early b)
-  first : HasOwn plan early a before
-  last : HasOwn plan (early ++ late) a after
+-- nothing was begun, and then pass a alone went on from the trail of its part before to its part after
+pub record Goes (plan : Plan) (early late : List Event) (a : ℕ) (before after : Own) : Type 0 where
+  pub quiet : Quiet (run plan early)
+  pub rest : (b : ℕ) → b ≢ a → b < plan.passes
+      → length (trail_of plan (early ++ late) b) ≡ length (trail_of plan early b)
+  pub first : before.trail ≡ trail_of plan early a
+  pub last : after.trail ≡ trail_of plan (early ++ late) a
+  pub body : slice_get (run plan (early ++ late)).parts a ≡ Some after.body
 
-goes : (layout : Layout) (v w : View) → IsLayout layout → IsShape v.shape → Fits layout v.shape → IsLastOne v
+pub goes : (layout : Layout) (v w : View) → IsLayout layout → IsShape v.shape → Fits layout v.shape → IsLastOne v
     → SameTale v w → (early late : List Event) → LeadsHere layout v early → LeadsHere layout w (early ++ late)
     → Goes (plan_of layout v.shape) early late v.pass v.own w.own
-goes layout v w is_layout is_shape fits last same early late before after = record {
-  quiet = last_ones_are_quiet layout v is_layout is_shape fits last early before;
-  rest = λ b other inside. ap length (told_rested (plan_of layout v.shape) early (early ++ late) b v.told before.told
-      (subst (λ (ts : List Told). Each (λ t. HasOwn (plan_of layout v.shape) (early ++ late) t.pass t.own) ts) same.told
-      (subst (λ (z : Numbers). Each (λ t. HasOwn (plan_of layout z) (early ++ late) t.pass t.own) w.told) same.shape
-      after.told))
-      (named b other (v.pass == b) refl (last.whole b inside)));
-  first = before.own;
-  last = subst (λ z. HasOwn (plan_of layout v.shape) (early ++ late) z w.own) same.pass
-      (subst (λ (z : Numbers). HasOwn (plan_of layout z) (early ++ late) w.pass w.own) same.shape after.own);
-} where
+goes layout v w is_layout is_shape fits last same early late before after =
+    let plan = plan_of layout v.shape in
+    let now : HasOwn plan (early ++ late) v.pass w.own = subst (λ z. HasOwn plan (early ++ late) z w.own) same.pass
+    (subst (λ (z : Numbers). HasOwn (plan_of layout z) (early ++ late) w.pass w.own) same.shape after.own) in record {
+      quiet = last_ones_are_quiet layout v is_layout is_shape fits last early before;
+      rest = λ b other inside. ap length (told_rested plan early (early ++ late) b v.told before.told
+          (subst (λ (ts : List Told). Each (λ t. HasOwn plan (early ++ late) t.pass t.own) ts) same.told
+          (subst (λ (z : Numbers). Each (λ t. HasOwn (plan_of layout z) (early ++ late) t.pass t.own) w.told)
+          same.shape after.told))
+          (named b other (v.pass == b) refl (last.whole b inside)));
+      first = before.own.trail;
+      last = now.trail;
+      body = now.body;
+    } where
   named : (b : ℕ) → b ≢ v.pass → (c : Bool) → (v.pass == b) ≡ c → (c || names_told b v.told) ≡ true
       → names_told b v.told ≡ true
   named b other true is all = absurd (other (sym (eqb-true v.pass b is)))
@@ -133,14 +139,14 @@ module _ (layout : Layout) (shape : Numbers) (is_layout : IsLayout layout) (is_s
   alone : Alone planned a (run planned late) (lists_of planned late) (trail_of planned late a)
       (trail_of planned early a)
   alone = went_on layout shape is_layout is_shape fits a early more g.quiet g.rest
-      (ap puts (sym g.last.trail) ∙ (same ∙ ap puts g.first.trail))
+      (ap puts (sym g.last) ∙ (same ∙ ap puts g.first))
 
-  quiet_still : after.body.hand ≡ Idle → Quiet (run planned late)
+  pub quiet_still : after.body.hand ≡ Idle → Quiet (run planned late)
   quiet_still idle b u has = ⊎_elim
       (λ (is : b ≡ a).
       let here : slice_get (run planned late).parts a ≡ Some u = subst
       (λ z. slice_get (run planned late).parts z ≡ Some u) is has in
-      let both : Some after.body ≡ Some u = sym g.last.body ∙ here in
+      let both : Some after.body ≡ Some u = sym g.body ∙ here in
       let it : after.body ≡ u = cc in subst (λ (z : Body). z.hand ≡ Idle) it idle)
       (λ (other : b ≢ a). alone.others b u other has)
       (cases_eq b a)
@@ -148,28 +154,37 @@ module _ (layout : Layout) (shape : Numbers) (is_layout : IsLayout layout) (is_s
   taken_is_empty : (q : ℕ) → takes q before.trail < takes q after.trail → (lists_of planned late).stack q ≡ []
   taken_is_empty q more = ⊎_elim
       (λ e.
-      let b = ap (takes q) g.first.trail in
-      let l = ap (takes q) g.last.trail in absurd (omega (arith, e, b, l, more)))
+      let b = ap (takes q) g.first in
+      let l = ap (takes q) g.last in absurd (omega (arith, e, b, l, more)))
       (λ h. h) (alone.stack q)
 
-  rung_is_empty : (n : ℕ) → bell_takes n before.trail < bell_takes n after.trail → (lists_of planned late).bells n ≡ []
+  pub rung_is_empty : (n : ℕ) → bell_takes n before.trail < bell_takes n after.trail
+      → (lists_of planned late).bells n ≡ []
   rung_is_empty n more = ⊎_elim
       (λ e.
-      let b = ap (bell_takes n) g.first.trail in
-      let l = ap (bell_takes n) g.last.trail in absurd (omega (arith, e, b, l, more)))
+      let b = ap (bell_takes n) g.first in
+      let l = ap (bell_takes n) g.last in absurd (omega (arith, e, b, l, more)))
       (λ h. h) (alone.bells n)
 
-  none_met : (q : ℕ) → met q before.trail < met q after.trail → ⊥
+  pub none_met : (q : ℕ) → met q before.trail < met q after.trail → ⊥
   none_met q more =
-      let b = ap (met q) g.first.trail in
-      let l = ap (met q) g.last.trail in
+      let b = ap (met q) g.first in
+      let l = ap (met q) g.last in
       let e = alone.met q in omega (arith, e, b, l, more)
 
-  none_met_on_bell : (n : ℕ) → bell_met planned n before.trail < bell_met planned n after.trail → ⊥
+  pub none_met_on_bell : (n : ℕ) → bell_met planned n before.trail < bell_met planned n after.trail → ⊥
   none_met_on_bell n more =
-      let b = ap (bell_met planned n) g.first.trail in
-      let l = ap (bell_met planned n) g.last.trail in
+      let b = ap (bell_met planned n) g.first in
+      let l = ap (bell_met planned n) g.last in
       let e = alone.bell_met n in omega (arith, e, b, l, more)
+
+  pub head_is_empty : (q : ℕ) → arms after.trail ≡ arms before.trail → takes q before.trail < takes q after.trail
+      → (run planned late).words.head_at q ≡ 0
+  head_is_empty q none more = ⊎_elim
+      (λ e.
+      let b = ap (takes q) g.first in
+      let l = ap (takes q) g.last in absurd (omega (arith, e, b, l, more)))
+      (λ h. h) (alone.heads q (ap arms (sym g.last) ∙ (none ∙ ap arms g.first)))
 
 -- ---- a page that was collected
 
@@ -218,7 +233,7 @@ collected_is_empty layout v w q last same put idle mine taken none is_layout is_
     nothing_queued layout shape is_layout is_shape fits late q quiet
     (taken_is_empty layout shape is_layout is_shape fits early more a v.view.own w.view.own g put q taken)
     (chain_ends plan (run plan late) (lists_of plan late) (theorem layout shape is_layout is_shape fits late) quiet a
-    (own_body w) g.last.body q mine none)
+    (own_body w) g.body q mine none)
 
 -- ---- Full
 
@@ -274,7 +289,7 @@ full_is_exact layout c o n last had held full is_layout is_shape fits early more
     = end_of q v.view.own.trail u.view.own.trail (noted q (own_body u).cursors) refl page_before done.waits
     (none_met layout shape is_layout is_shape fits early more a v.view.own u.view.own g put q) in
     let body = own_body u in
-    let at = g.last.body in
+    let at = g.body in
     let some = has_some (λ r. r == q) body.armed cursor_and_armed.1 in
     let stands = all.parts a body at in
     let mine : own plan body q ≡ true = (stands.armed q some).1 in

@@ -324,5 +324,7 @@ went_on layout shape is_layout is_shape fits a early late quiet rest same =
         bells = λ n. inl refl;
         met = λ q. refl;
         bell_met = λ n. refl;
+        armed_more = omega arith;
+        heads = λ q none. inl refl;
       };
     })).alone rest same

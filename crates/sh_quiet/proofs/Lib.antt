@@ -2,3 +2,4 @@ pub mod Alone
 pub mod GoesOn
 pub mod Emptied
 pub mod Exact
+pub mod Leaves

@@ -20,6 +20,7 @@ use Rattle.sh_pass.specs.Growing.{SameTale}
 use Rattle.sh_pass.specs.Owners.{NonePut, heap_page, own_body, seen_page}
 use Rattle.sh_pass.specs.Passes.{Caller}
 use Rattle.sh_shard.specs.Pages.{Paged, page_at, shard_page}
+use Rattle.sh_shard.specs.Leaving.{Waiting}
 use Rattle.sh_shard.specs.Shards.{Sharded, HoldsShard, NoRoom}
 use Rattle.sh_gather.specs.Histories.{LeadsHere}
 
@@ -62,6 +63,12 @@ abbrev pub FullIsExact : Type 0
 FullIsExact = (layout : Layout) (c : ℕ) (o n : Sharded) → IsLastOne o.pages.owner.view → HoldsShard layout o
     → HoldsShard layout n → NoRoom c o n
     → SureAfter layout o.pages.owner.view n.pages.owner.view (λ w l. ClassIsUsed c n.pages w)
+
+-- the last one, if it owns a shard, is never told to wait when it leaves: no run leads to that
+abbrev pub LeavesNeverWait : Type 0
+LeavesNeverWait = (layout : Layout) (o n : Sharded) → IsLastOne o.pages.owner.view → HoldsShard layout o
+    → HoldsShard layout n → Waiting o.pages n.pages
+    → SureAfter layout o.pages.owner.view n.pages.owner.view (λ w l. ⊥)
 
 -- if a tale names all passes, and none of them has begun anything, then so it is after all events that lead to it
 abbrev pub LastOnesAreQuiet : Type 0

@@ -1,5 +1,5 @@
 //! What is true of an owner after all other passes were joined to it.
-ghost use Rattle.sh_quiet.specs.Quiescence.{CollectedIsEmpty, FullIsExact, LastOnesAreQuiet};
+ghost use Rattle.sh_quiet.specs.Quiescence.{CollectedIsEmpty, FullIsExact, LastOnesAreQuiet, LeavesNeverWait};
 
 /// An owner whose tale names all passes, that takes what was put on a page of its shard, follows it to its end and puts
 /// nothing, leaves nothing queued there. Each empty slot of the page is then its own.
@@ -13,6 +13,12 @@ pub fn collected_is_empty()
 /// and after the insert, is what each of its calls ensures.
 pub fn full_is_exact()
     ensures { FullIsExact }
+{}
+
+/// An owner whose tale names all passes is never refused as `Waiting` when it leaves its shard: no run of the core
+/// leads to that. So an owner that joined all other passes can give its shard up at once.
+pub fn leaves_never_wait()
+    ensures { LeavesNeverWait }
 {}
 
 /// If the tale of a pass names all passes and none of them has begun anything, then so it is in the heap.

@@ -4,4 +4,4 @@
 
 pub mod laws;
 
-pub use laws::{collected_is_empty, full_is_exact, last_ones_are_quiet};
+pub use laws::{collected_is_empty, full_is_exact, last_ones_are_quiet, leaves_never_wait};
