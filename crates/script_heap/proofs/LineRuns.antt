@@ -10,6 +10,7 @@ use Rattle.sh_slots.specs.declared.hand.Hand.TheVariants.{Idle}
 use Rattle.sh_step.specs.declared.action.Event.{Event}
 use Rattle.sh_step.specs.declared.body.Body.{Body}
 use Rattle.sh_step.specs.declared.footstep.Footstep.{Footstep}
+use Rattle.sh_step.specs.Footsteps.{bell_met}
 use Rattle.sh_step.specs.Parts.{newcomer}
 use Rattle.sh_step.specs.Plans.{Plan, plan_of}
 use Rattle.sh_core.specs.Trails.{trail_of, body_by}
@@ -20,6 +21,7 @@ use Rattle.sh_table.specs.Reached.{StepsBefore}
 use Rattle.sh_table.specs.Seats.{Heap}
 use Rattle.sh_table.specs.Views.{Each}
 use Rattle.sh_pass.specs.Growing.{GoesOn}
+use Rattle.sh_pass.specs.Owners.{SeenBell}
 use Rattle.sh_member.specs.declared.member.Side.TheVariants.{Pass, Shard, Moving}
 use Rattle.sh_member.specs.Sides.{SeenSide, SideStands}
 use Rattle.sh_script.specs.declared.calls.CallLine.{CallLine}
@@ -30,7 +32,7 @@ use Rattle.script_calls.specs.Runs.{CallsRun, LineAnswered, opening_calls}
 use Rattle.script_calls.specs.Stepping.{HeardOfSteps, LinesHeard, StepsInTurn}
 use Rattle.script_calls.proofs.LineLemmas.{part_there}
 use Rattle.script_calls.proofs.PartsGoOn.{line_follows, goes_then, goes_to_end}
-use Rattle.script_heap.specs.ByLine.{HasPart, HaveParts, RunsByLine}
+use Rattle.script_heap.specs.ByLine.{KnowsBell, HasPart, HaveParts, RunsByLine}
 use Rattle.script_heap.specs.HeapOutput.{EndsInRun}
 use Rattle.script_heap.proofs.LineCuts.{CutBefore, CutAt, heard_cut, exact_cut, next_cut, none_done}
 
@@ -41,10 +43,11 @@ record Settled (layout : Layout) (shape : Numbers) (s : SeenSide) : Type 0 where
   pub made : (own_part s).body ≡ body_by (plan_of layout shape) newcomer (own_part s).trail
   pub shard : (own_part s).body.owned ≡ shard_owned s
   pub idle : (own_part s).body.hand ≡ Idle
+  pub bell : KnowsBell (plan_of layout shape) s
 
 settled_new : (layout : Layout) (heap : Heap) (p : ℕ) → Settled layout heap.shape (new_side (Some heap) p)
 unfolding body_by
-settled_new layout heap p = record { shape_is = refl; made = refl; shard = refl; idle = refl }
+settled_new layout heap p = record { shape_is = refl; made = refl; shard = refl; idle = refl; bell = tt }
 
 settled_so : (layout : Layout) (shape : Numbers) (s : SeenSide) → SideStands layout s → shape_in s ≡ shape
     → Settled layout shape s
@@ -54,6 +57,7 @@ settled_so layout shape (Pass v) h e = record {
       h.1.part.made;
   shard = h.0.left;
   idle = h.0.idle;
+  bell = tt;
 }
 settled_so layout shape (Shard o) h e = record {
   shape_is = e;
@@ -61,6 +65,12 @@ settled_so layout shape (Shard o) h e = record {
       ≡ body_by (plan_of layout n) newcomer o.pages.owner.view.own.trail) e h.stands.part.made;
   shard = h.owned;
   idle = h.idle;
+  bell = (
+    ap (λ (b : SeenBell). b.cursor) h.bell,
+    ap (λ (b : SeenBell). b.takes) h.bell,
+    ap (λ (b : SeenBell). b.met) h.bell
+        ∙ ap (λ (n : Numbers). bell_met (plan_of layout n) o.pages.shard o.pages.owner.view.own.trail) e,
+  );
 }
 settled_so layout shape Moving h e = absurd h
 
@@ -165,6 +175,7 @@ module _ (layout : Layout) (shape : Numbers) (tag : Option ℕ) (events : List E
         shard = s.shard;
         idle = s.idle;
         shards = ap (λ (n : Numbers). n.shards) s.shape_is;
+        bell = s.bell;
       }
 
   settled_next : (before next : CallsRun) (l : CallLine) (a : Answer) → LineAnswered run_terms tag before l a next

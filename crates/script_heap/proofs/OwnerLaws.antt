@@ -1,4 +1,5 @@
--- Between two lines of a run in one thread no two passes own one shard, and adopts are answered by who owns what.
+-- Between two lines of a run in one thread no two passes own one shard. Adopts and leaves are answered by who owns
+-- what.
 use Rattle.std.proofs.Common.{◌≡◌, ◌≢◌, ℕ, ◌+◌, ◌<◌, ◌≤◌, Bool, true, false, List, [], ◌∷◌, ◌++◌, length, refl}
 use Rattle.std.proofs.Common.{ap, sym, ◌∙◌, subst, arith, inl, inr, slice_get, Option, Some, None, Result, Ok, Err}
 use Rattle.std.specs.Prelude.{IsSome}
@@ -12,6 +13,7 @@ use Rattle.sh_value.specs.declared.refusal.Refusal.{Refusal}
 use Rattle.sh_value.specs.declared.refusal.Refusal.TheVariants as refusal
 use Rattle.sh_key.specs.Layout.{Layout, IsLayout}
 use Rattle.sh_shape.specs.Shape.{Numbers, IsShape, Fits}
+use Rattle.sh_slots.specs.declared.hand.Hand.TheVariants.{Idle}
 use Rattle.sh_step.specs.declared.action.Event.{Event}
 use Rattle.sh_step.specs.declared.body.Body.{Body}
 use Rattle.sh_step.specs.declared.footstep.Footstep.{Footstep}
@@ -21,6 +23,7 @@ use Rattle.sh_step.specs.Parts.{newcomer}
 use Rattle.sh_step.specs.Plans.{Plan, plan_of}
 use Rattle.sh_step.proofs.FootstepLaws.{counts_grow}
 use Rattle.sh_core.specs.Lists.{lists_of}
+use Rattle.sh_core.specs.Quiet.{Quiet}
 use Rattle.sh_core.specs.Refines.{Refines}
 use Rattle.sh_core.specs.Trails.{trail_of, body_by}
 use Rattle.sh_core.specs.Worlds.{run}
@@ -29,9 +32,13 @@ use Rattle.sh_core.proofs.Replays.{steps_make_parts}
 use Rattle.sh_core.proofs.Sums.Tests.{if1_one}
 use Rattle.sh_table.specs.declared.view.Own.{Own}
 use Rattle.sh_pass.specs.Passes.{Caller}
+use Rattle.sh_shard.specs.Leaving.{Waiting}
 use Rattle.sh_shard.specs.Pages.{AdoptRefused}
+use Rattle.sh_shard.specs.Shards.{Sharded}
+use Rattle.sh_quiet.proofs.Exact.{Goes}
+use Rattle.sh_quiet.proofs.Leaves.{SeesBell, never_waits}
 use Rattle.sh_member.specs.declared.member.Side.TheVariants.{Pass, Shard, Moving}
-use Rattle.sh_member.specs.Sides.{SeenSide, SideAdopts}
+use Rattle.sh_member.specs.Sides.{SeenSide, SideAdopts, SideLeaves}
 use Rattle.sh_script.specs.declared.calls.Call.{Call}
 use Rattle.sh_script.specs.declared.calls.Call.TheVariants as call
 use Rattle.sh_script.specs.declared.calls.CallLine.{CallLine}
@@ -40,12 +47,13 @@ use Rattle.script_output.specs.Results.{done_answer}
 use Rattle.script_calls.specs.Calls.{CallAnswers}
 use Rattle.script_calls.specs.OwnParts.{own_part, shape_in}
 use Rattle.script_calls.specs.Parts.{RunTerms, PassPart, heap_terms, shard_owned}
+use Rattle.script_calls.specs.Receipts.{MayHeed, SideHeeded}
 use Rattle.script_calls.specs.Runs.{CallsRun, LineAnswered, number_meant, opening_calls}
 use Rattle.script_calls.proofs.LineLemmas.{part_here, part_there}
 use Rattle.script_calls.proofs.PartsGoOn.{SameOwnPart, heeds_same}
-use Rattle.script_heap.specs.ByLine.{HasPart, HaveParts, RunsByLine}
-use Rattle.script_heap.specs.Owners.{owned_by, OwnApart, IsFree, IsOwned, AdoptIsExact, CallIsExact, OwnersAreExact}
-use Rattle.script_heap.specs.Owners.{LinesKeepOwnersApart}
+use Rattle.script_heap.specs.ByLine.{KnowsBell, HasPart, HaveParts, RunsByLine}
+use Rattle.script_heap.specs.Owners.{owned_by, OwnApart, IsFree, IsOwned, AdoptIsExact, LeaveIsExact, CallIsExact}
+use Rattle.script_heap.specs.Owners.{OwnersAreExact, LinesKeepOwnersApart}
 use Rattle.script_heap.proofs.FoundWords.{FoundAfter, only_step, met_one}
 
 -- a list with one element more has that element behind
@@ -55,6 +63,16 @@ one_behind [] steps n long one = let both = length-append steps [] in absurd (om
 one_behind (t ∷ []) steps n long one = (t, refl)
 one_behind (t ∷ (u ∷ more)) steps n long one =
     let both = length-append steps (t ∷ (u ∷ more)) in absurd (omega (arith, long, one, both))
+
+-- a pass that heeds a receipt knows of its bell what it knew
+still_heeded : (plan : Plan) (r : Caller) (s t : SeenSide) → SideHeeded r s t → KnowsBell plan s → KnowsBell plan t
+still_heeded plan r (Pass v) t h k = subst (λ (s : SeenSide). KnowsBell plan s) (sym h) tt
+still_heeded plan r (Shard o) t h k = subst (λ (s : SeenSide). KnowsBell plan s) (sym h) k
+still_heeded plan r Moving t h k = absurd h
+
+still_knows : (plan : Plan) (v w : PassPart) → MayHeed v w → KnowsBell plan v.stands → KnowsBell plan w.stands
+still_knows plan v w (inl e) k = subst (λ (p : PassPart). KnowsBell plan p.stands) (sym e) k
+still_knows plan v w (inr h) k = still_heeded plan h.0 v.stands w.stands h.1.stands k
 
 module _ (layout : Layout) (shape : Numbers) (la : IsLayout layout) (ls : IsShape shape) (lf : Fits layout shape) where
   abbrev core_plan : Plan
@@ -206,10 +224,76 @@ module _ (layout : Layout) (shape : Numbers) (la : IsLayout layout) (ls : IsShap
         (inl (subst (λ (z : Option ℕ). IsSome z) (sym (owns (Shard o) was)) refl))
     adopts k Moving t was is r h = absurd h
 
+    -- ---- a leave
+
+    was_quiet : Quiet (run core_plan early)
+    was_quiet b u at =
+        let low = slice_get_within (run core_plan early).parts b u at in
+        let all = all_parts early in
+        let lt : b < core_plan.passes = omega (arith, low, all) in
+        let same : (own_part (before.parts b).stands).body ≡ u = same_Some (own_part (before.parts b).stands).body u
+        (sym (here b lt).body ∙ at) in subst (λ (z : Body). z.hand ≡ Idle) same (here b lt).idle
+
+    -- an owner that is told to wait: it had the bell of its steps, and alone went on
+    module _ (o n : Sharded) (was : first_side ≡ Shard o) (is : ends ≡ Shard n) where
+      ends_is : (next.parts l.pass).stands ≡ Shard n
+      ends_is = ap (λ (p : PassPart). p.stands) next_here ∙ is
+
+      own_before : own_part (before.parts l.pass).stands ≡ o.pages.owner.view.own
+      own_before = sym heeded.own ∙ ap own_part was
+
+      own_after : own_part (next.parts l.pass).stands ≡ n.pages.owner.view.own
+      own_after = ap own_part ends_is
+
+      alone : Goes core_plan early own l.pass o.pages.owner.view.own n.pages.owner.view.own
+      alone = record {
+        quiet = was_quiet;
+        rest = λ q ne lt. ap (λ (t : List Footstep). length t) ((there q lt).trail
+            ∙ (ap (λ (p : PassPart). (own_part p.stands).trail) (next_there q ne) ∙ sym (here q lt).trail));
+        first = sym ((here l.pass inside).trail ∙ ap (λ (z : Own). z.trail) own_before);
+        last = sym ((there l.pass inside).trail ∙ ap (λ (z : Own). z.trail) own_after);
+        body = (there l.pass inside).body ∙ ap (λ (z : Own). Some z.body) own_after;
+      }
+
+      bell_before : SeesBell core_plan o.pages
+      bell_before =
+          let k : KnowsBell core_plan (Shard o) = subst (λ (s : SeenSide). KnowsBell core_plan s) was
+          (still_knows core_plan (before.parts l.pass) line.begins line.heeds (here l.pass inside).bell) in
+          record { cursor = k.0; takes = k.1; met = k.2 }
+
+      bell_after : SeesBell core_plan n.pages
+      bell_after =
+          let k : KnowsBell core_plan (Shard n) = subst (λ (s : SeenSide). KnowsBell core_plan s) ends_is
+          (there l.pass inside).bell in
+          record { cursor = k.0; takes = k.1; met = k.2 }
+
+      not_waiting : Waiting o.pages n.pages → ⊥
+      not_waiting waits = never_waits layout shape la ls lf early own l.pass o.pages n.pages alone bell_before
+          bell_after
+          (subst (λ (s : SeenSide). (own_part s).body.owned ≡ shard_owned s) ends_is (there l.pass inside).shard)
+          (subst (λ (s : SeenSide). (own_part s).body.hand ≡ Idle) ends_is (there l.pass inside).idle) waits
+
+    leaves : (s t : SeenSide) → first_side ≡ s → ends ≡ t → (r : Result (Unit {0}) Refusal) → SideLeaves s r t
+        → LeaveIsExact before.parts l.pass (done_answer r)
+    leaves (Shard o) (Pass w) was is (Ok x) h = subst (λ (z : Option ℕ). IsSome z) (sym (owns (Shard o) was)) refl
+    leaves (Shard o) (Shard n) was is (Ok x) h = absurd h
+    leaves (Shard o) Moving was is (Ok x) h = absurd h
+    leaves (Shard o) (Shard n) was is (Err why) h = absurd (not_waiting o n was is h.1)
+    leaves (Shard o) (Pass w) was is (Err why) h = absurd h
+    leaves (Shard o) Moving was is (Err why) h = absurd h
+    leaves (Pass v) t was is r h =
+        subst (λ (z : Result (Unit {0}) Refusal). LeaveIsExact before.parts l.pass (done_answer z)) (sym h.0)
+        (owns (Pass v) was)
+    leaves Moving t was is r h = absurd h
+
+    -- ---- a call
+
     call_is : (c : Call) (bound : Option ℕ) → CallAnswers core_terms tag l.pass line.begins c bound a line.part
         → CallIsExact core_terms before.parts l.pass c a
     call_is (call.Adopt k) bound h = subst (λ (z : Answer). AdoptIsExact core_terms before.parts l.pass k z) (sym h.is)
         (adopts k first_side ends refl refl h.result h.does.1)
+    call_is call.Leave bound h = subst (λ (z : Answer). LeaveIsExact before.parts l.pass z) (sym h.is)
+        (leaves first_side ends refl refl h.result h.does.1)
     call_is _ bound h = tt
 
     line_is : CallIsExact core_terms before.parts l.pass l.call a

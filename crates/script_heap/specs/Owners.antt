@@ -1,4 +1,4 @@
--- Who owns what between the lines of a run in one thread, and what an adopt is answered.
+-- Who owns what between the lines of a run in one thread, and what an adopt and a leave are answered.
 use Rattle.std.specs.Prelude.{◌≡◌, ◌≢◌, ◌⊎◌, ℕ, ◌<◌, ◌≤◌, Bool, true, List, [], ◌∷◌, ◌++◌, Option, Some, None}
 use Rattle.std.specs.Prelude.{IsSome, refl}
 use Rattle.std.specs.List.{All}
@@ -45,9 +45,16 @@ AdoptIsExact terms parts p k (answer.Refused refusal.Memory) = (owned_by parts p
 AdoptIsExact terms parts p k answer.Done = (owned_by parts p ≡ None) × IsFree terms parts k
 AdoptIsExact terms parts p k _ = ⊥
 
--- the same for a call, if it is an adopt
+-- The answer to a leave of pass p. It is ok if the pass owns a shard, and otherwise NoShard. It is never Waiting.
+abbrev pub LeaveIsExact : (ℕ → PassPart) → (p : ℕ) → Answer → Type 0
+LeaveIsExact parts p (answer.Refused refusal.NoShard) = owned_by parts p ≡ None
+LeaveIsExact parts p answer.Done = IsSome (owned_by parts p)
+LeaveIsExact parts p _ = ⊥
+
+-- the same for a call, if it is an adopt or a leave
 abbrev pub CallIsExact : RunTerms → (ℕ → PassPart) → (p : ℕ) → Call → Answer → Type 0
 CallIsExact terms parts p (call.Adopt k) a = AdoptIsExact terms parts p k a
+CallIsExact terms parts p call.Leave a = LeaveIsExact parts p a
 CallIsExact terms parts p _ a = Unit {0}
 
 -- for each of these lines: no two passes own one shard before it, and its answer is exact
@@ -62,7 +69,8 @@ OwnersAreExact plan early late terms tag before (l ∷ lines) (a ∷ answers) af
     × OwnersAreExact plan (early ++ h.3) h.4 terms tag h.1 lines answers after h.6
 
 -- In a run of mode heap no two passes own one shard between two lines. An adopt is Taken only if the pass owns a shard
--- by the lines before, or another pass owns this one, and ok only if it is free. So what owners have is the script's.
+-- by the lines before, or another pass owns this one, and ok only if it is free. A leave of a pass that owns a shard is
+-- ok. So what owners have is the script's.
 abbrev pub LinesKeepOwnersApart : Type 0
 LinesKeepOwnersApart = (asked : Bool) (layout : Layout) (shape : Numbers) (tag : Option ℕ) (lines : List CallLine)
     (output : List ℕ) → IsLayout layout → IsShape shape → Fits layout shape

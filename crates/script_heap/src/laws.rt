@@ -10,7 +10,8 @@ pub fn lone_adopt_is_not_taken()
 
 /// In a run of mode heap no two passes own one shard between two lines. An adopt is `Taken` only if the pass owns a
 /// shard by the lines before, or another pass owns this one. It is `NoShard` only if there is no such shard and the
-/// pass owns none, and ok only if no pass owns this one. `Memory` may come in place of ok.
+/// pass owns none, and ok only if no pass owns this one. `Memory` may come in place of ok. A leave is ok if the pass
+/// owns a shard, and never `Waiting`.
 pub fn lines_keep_owners_apart()
     ensures { LinesKeepOwnersApart }
 {}
