@@ -15,7 +15,7 @@ use Rattle.sh_step.specs.declared.body.Body.{Body}
 use Rattle.sh_step.specs.declared.moves.Move.{Move}
 use Rattle.sh_step.specs.declared.moves.Move.TheVariants as move
 use Rattle.sh_step.specs.Collections.{has, noted}
-use Rattle.sh_step.specs.Footsteps.{takes_page, meets_page, meets_owner, puts_slot, arms_page, owner_met}
+use Rattle.sh_step.specs.Footsteps.{takes_page, meets_page, meets_owner, puts_slot, arms_page, owner_met, footstep_of}
 use Rattle.sh_table.specs.declared.view.View.{View}
 use Rattle.sh_table.specs.Steps.{row_by}
 use Rattle.sh_table.specs.Views.{key_read, logged_of}
@@ -91,6 +91,12 @@ module _ (layout : Layout) (v w : Caller) where
       let is = body_is layout a m 0 v w d b refl in (
         tries a m 0 d b refl refl idle refl refl,
         record {
+          found = record {
+            step = footstep_of a (row_by layout v.view m) 0;
+            more = [];
+            is = ap (λ (u : View). u.own.trail) d.view;
+            free = and_from (k == k) (0 == 0) (self k) refl;
+          };
           owned = ap (λ (c : Body). c.owned) is;
           bell = ap (λ (c : Body). c.bell_cursor) is;
           pages = λ r. page_after layout a m 0 v w d b refl r (record (seen_page v r)

@@ -1,6 +1,6 @@
 -- Owners: what a contract sees of a pass that may own a shard, and what each of its steps does.
 use Rattle.std.specs.Prelude.{◌≡◌, ◌≢◌, ℕ, zero, suc, ◌+◌, ◌-◌, ◌<◌, ◌==◌, ◌⊎◌, nat_lt, Bool, true, false, cond}
-use Rattle.std.specs.Prelude.{not, ◌&&◌, ◌||◌, List, ◌++◌, length, Option, Some, None}
+use Rattle.std.specs.Prelude.{not, ◌&&◌, ◌||◌, List, ◌∷◌, ◌++◌, length, Option, Some, None}
 use Rattle.atomic_table.specs.declared.shared.Seat.{Seat}
 use Rattle.sh_bell.specs.Bell.{is_armed, top_of}
 use Rattle.sh_history.specs.declared.log.LogEntry.{LogEntry}
@@ -14,13 +14,15 @@ use Rattle.sh_slots.specs.declared.hand.SlotRef.{SlotRef}
 use Rattle.sh_slots.specs.Slots.{same_slot, published_name, slot_ref_of}
 use Rattle.sh_stack.specs.Stack.{top_item, link_item}
 use Rattle.sh_step.specs.declared.action.Action.{Action}
+use Rattle.sh_step.specs.declared.action.Action.TheVariants.{Adopt}
 use Rattle.sh_step.specs.declared.action.PageName.{PageName}
 use Rattle.sh_step.specs.declared.action.SlotName.{SlotName}
 use Rattle.sh_step.specs.declared.body.Body.{Body}
+use Rattle.sh_step.specs.declared.footstep.Footstep.{Footstep}
 use Rattle.sh_step.specs.declared.moves.Move.{Move}
 use Rattle.sh_step.specs.Collections.{noted, has}
 use Rattle.sh_step.specs.Fits.{RowFits}
-use Rattle.sh_step.specs.Footsteps.{takes, met, bell_takes, bell_met, owner_met, puts, arms}
+use Rattle.sh_step.specs.Footsteps.{takes, met, bell_takes, bell_met, owner_met, puts, arms, at_owner, did_find}
 use Rattle.sh_step.specs.Moves.{place_named}
 use Rattle.sh_step.specs.Operations.{answer}
 use Rattle.sh_step.specs.Plans.{Plan, plan_of, home}
@@ -216,8 +218,20 @@ pub record OwnerTries (v w : Caller) : Type 0 where
   pub log : w.view.own.log ≡ v.view.own.log
   pub steps : length w.view.own.trail ≡ length v.view.own.trail + 1
 
--- the pass owns shard n, of which it knows nothing yet
+-- this step found that shard n has no owner
+abbrev pub finds_free : ℕ → Footstep → Bool
+finds_free n t = elim (t.action) [ Adopt k ↦ at_owner n t.place && did_find 0 t | _ ↦ false ]
+
+-- the first step that the pass did found that shard n has no owner
+pub record FoundFree (n : ℕ) (v w : Caller) : Type 0 where
+  pub step : Footstep
+  pub more : List Footstep
+  pub is : w.view.own.trail ≡ v.view.own.trail ++ step ∷ more
+  pub free : finds_free n step ≡ true
+
+-- the pass owns shard n, which had no owner, and of which it knows nothing yet
 pub record Adopted (n : ℕ) (v w : Caller) : Type 0 where
+  pub found : FoundFree n v w
   pub owned : (own_body w).owned ≡ Some n
   pub bell : (own_body w).bell_cursor ≡ None
   pub pages : (q : ℕ) → seen_page w q ≡ record (seen_page v q)

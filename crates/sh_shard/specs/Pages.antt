@@ -16,7 +16,7 @@ use Rattle.sh_pass.specs.Growing.{SameTale}
 use Rattle.sh_pass.specs.Passes.{Caller}
 use Rattle.sh_pass.specs.Receipts.{heeded}
 use Rattle.sh_pass.specs.Owners.{SeenPage, SeenBell, Aside, NonePut, NoneArmed, HasNothing, heap_page, own_body}
-use Rattle.sh_pass.specs.Owners.{page_given, page_with, seen_page, IsKeyIn, IsKeyOn}
+use Rattle.sh_pass.specs.Owners.{page_given, page_with, seen_page, IsKeyIn, IsKeyOn, FoundFree}
 
 -- what the owner knows, its shard, the number of its pages, and its bell as the owner sees it
 pub record Paged : Type 0 where
@@ -297,16 +297,16 @@ pub record ShardLeft (v w : Caller) : Type 0 where
   pub hand : (own_body w).hand ≡ Idle
   pub owned : (own_body w).owned ≡ None
 
--- why a shard was not adopted: no shard has this number, one more step found that it has an owner, or memory was
--- refused
+-- why a shard was not adopted: no shard has this number, one more step found that it has an owner, or it had none and
+-- memory was refused
 abbrev pub AdoptRefused : ℕ → Caller → Caller → Refusal → Type 0
 AdoptRefused shard v w refusal.NoShard = (v.view.shape.shards ≤ shard) × (w ≡ v)
 AdoptRefused shard v w refusal.Taken = (shard < v.view.shape.shards) × ShardLeft v w
     × (length w.view.own.trail ≡ length v.view.own.trail + 1) ×
     (owner_met shard w.view.own.trail ≡ owner_met shard v.view.own.trail + 1)
-AdoptRefused shard v w refusal.Memory = (shard < v.view.shape.shards) × ShardLeft v w
+AdoptRefused shard v w refusal.Memory = (shard < v.view.shape.shards) × ShardLeft v w × FoundFree shard v w
 AdoptRefused shard v w _ = ⊥
 
 abbrev pub AdoptsPages : ℕ → Caller → Result Paged (Caller × Refusal) → Type 0
-AdoptsPages shard v (Ok n) = (shard < v.view.shape.shards) × AdoptsShard v shard n
+AdoptsPages shard v (Ok n) = (shard < v.view.shape.shards) × AdoptsShard v shard n × FoundFree shard v n.owner
 AdoptsPages shard v (Err r) = AdoptRefused shard v r.0 r.1

@@ -22,8 +22,9 @@ const SEGMENT: u64 = SEGMENT_PAGES as u64;
 impl<L: KeyLayout, H: KeepsHeap<L>> Shard<L, H> {
     /// Makes the pass the owner of shard `n`, with all that earlier owners left there. Refused, with the pass, as
     /// `NoShard` exactly if the heap has no shard of this number, and as `Taken` if the shard has an owner. Refused as
-    /// `Memory` if memory for its pages is refused: then the shard is left again. It takes at most two steps more than
-    /// the shard has pages.
+    /// `Memory` if it has none and memory for its pages is refused: then the shard is left again. It takes at most two
+    /// steps more than the shard has pages.
+    #[tactic(auto, using(crate::proofs::Sides::free_then))]
     pub fn adopt(alloc: Global, pass: Pass<L, H>, n: u64) -> Result<Self, (Pass<L, H>, Refusal)>
         ensures serves { AdoptServes n pass result }
         ensures bounded { AdoptIsBounded pass result }
