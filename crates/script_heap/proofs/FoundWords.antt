@@ -1,4 +1,4 @@
--- The word that a pass found, if its step is the only one between two cuts.
+-- The word that a pass found, if between two cuts it alone did steps and this was its first.
 use Rattle.std.proofs.Common.{◌≡◌, ◌≢◌, ℕ, ◌+◌, ◌<◌, ◌==◌, ◌&&◌, Bool, true, false, List, [], ◌∷◌, ◌++◌, length, refl}
 use Rattle.std.proofs.Common.{ap, sym, ◌∙◌, subst, arith, append-nil, append_assoc, eqb-true, ⊎_elim}
 use Rattle.std.proofs.Common.{Option, Some, None, slice_get}
@@ -28,6 +28,7 @@ use Rattle.sh_core.specs.Worlds.{World, run}
 use Rattle.sh_core.proofs.Words.Steps.{row_of_at, trail_grows, skips_leave_trails}
 use Rattle.sh_core.proofs.Words.Stepping.{row_of_past}
 use Rattle.sh_core.proofs.Words.Trails.{trail_goes_on}
+use Rattle.sh_pass.specs.Owners.{finds_free}
 
 -- ---- the step of an event
 
@@ -56,24 +57,25 @@ module _ (plan : Plan) (few : (es : List Event) → length (run plan es).parts �
     pub m : Row
     pub is : t ≡ footstep_of x m (read (run plan events).words m.place)
 
-  first_is : (steps more : List Footstep) (s t : Footstep) → (steps ++ s ∷ []) ++ more ≡ steps ++ t ∷ [] → s ≡ t
-  first_is [] more s t e = cc
-  first_is (x ∷ xs) more s t e =
-      let rest : (xs ++ s ∷ []) ++ more ≡ xs ++ t ∷ [] = cc in first_is xs more s t rest
+  first_is : (steps more later : List Footstep) (s t : Footstep) → (steps ++ s ∷ []) ++ more ≡ steps ++ t ∷ later
+      → s ≡ t
+  first_is [] more later s t e = cc
+  first_is (x ∷ xs) more later s t e =
+      let rest : (xs ++ s ∷ []) ++ more ≡ xs ++ t ∷ later = cc in first_is xs more later s t rest
 
-  -- the only step between two cuts
-  pub only_step : (early own : List Event) (p : ℕ) (t : Footstep)
-      → trail_of plan (early ++ own) p ≡ trail_of plan early p ++ t ∷ []
+  -- the first step between two cuts, if no other pass does one
+  pub first_step : (early own : List Event) (p : ℕ) (t : Footstep) (later : List Footstep)
+      → trail_of plan (early ++ own) p ≡ trail_of plan early p ++ t ∷ later
       → ((q : ℕ) → q < plan.passes → q ≢ p → trail_of plan (early ++ own) q ≡ trail_of plan early q)
       → FoundAfter early t
-  only_step early [] p t mine others =
-      let same : trail_of plan early p ≡ trail_of plan early p ++ t ∷ [] =
+  first_step early [] p t later mine others =
+      let same : trail_of plan early p ≡ trail_of plan early p ++ t ∷ later =
       ap (λ (es : List Event). trail_of plan es p) (sym (append-nil early)) ∙ mine in
-      let long : length (trail_of plan early p) ≡ length (trail_of plan early p ++ t ∷ []) = ap length same in
-      let both = length-append (trail_of plan early p) (t ∷ []) in
+      let long : length (trail_of plan early p) ≡ length (trail_of plan early p ++ t ∷ later) = ap length same in
+      let both = length-append (trail_of plan early p) (t ∷ later) in
       absurd (omega (arith, long, both))
-  only_step early (e ∷ es) p t mine others =
-      go (only_step (early ++ e ∷ []) es p t) (row_of_event plan (run plan early) e) refl
+  first_step early (e ∷ es) p t later mine others =
+      go (first_step (early ++ e ∷ []) es p t later) (row_of_event plan (run plan early) e) refl
     where
       more : List Event
       more = early ++ e ∷ []
@@ -84,11 +86,11 @@ module _ (plan : Plan) (few : (es : List Event) → length (run plan es).parts �
       skipped : row_of_event plan (run plan early) e ≡ None → (q : ℕ) → trail_of plan more q ≡ trail_of plan early q
       skipped none q = skips_leave_trails plan early e q none
 
-      go : (trail_of plan (more ++ es) p ≡ trail_of plan more p ++ t ∷ []
+      go : (trail_of plan (more ++ es) p ≡ trail_of plan more p ++ t ∷ later
           → ((q : ℕ) → q < plan.passes → q ≢ p → trail_of plan (more ++ es) q ≡ trail_of plan more q)
           → FoundAfter more t) → (o : Option Row) → row_of_event plan (run plan early) e ≡ o → FoundAfter early t
-      go later None none =
-          let f = later (then_rest p ∙ (mine ∙ ap (λ (s : List Footstep). s ++ t ∷ []) (sym (skipped none p))))
+      go on None none =
+          let f = on (then_rest p ∙ (mine ∙ ap (λ (s : List Footstep). s ++ t ∷ later) (sym (skipped none p))))
           (λ q lt ne. then_rest q ∙ (others q lt ne ∙ sym (skipped none q))) in
           record {
             events = f.events;
@@ -97,7 +99,7 @@ module _ (plan : Plan) (few : (es : List Event) → length (run plan es).parts �
             m = f.m;
             is = f.is;
           }
-      go later (Some m) some = ⊎_elim by_pass by_other (cases_eq e.pass p)
+      go on (Some m) some = ⊎_elim by_pass by_other (cases_eq e.pass p)
         where
           s : Footstep
           s = footstep_of e.action m (read (run plan early).words m.place)
@@ -110,14 +112,14 @@ module _ (plan : Plan) (few : (es : List Event) → length (run plan es).parts �
               let grown : trail_of plan more p ≡ trail_of plan early p ++ s ∷ [] = subst
               (λ (c : ℕ). trail_of plan more c ≡ trail_of plan early c ++ s ∷ []) own one.trail in
               let rest = trail_goes_on plan more es p in
-              let both : (trail_of plan early p ++ s ∷ []) ++ rest.0 ≡ trail_of plan early p ++ t ∷ [] =
+              let both : (trail_of plan early p ++ s ∷ []) ++ rest.0 ≡ trail_of plan early p ++ t ∷ later =
               ap (λ (ss : List Footstep). ss ++ rest.0) (sym grown) ∙ (sym rest.1 ∙ (then_rest p ∙ mine)) in
               record {
                 events = early;
                 same = λ q lt. refl;
                 x = e.action;
                 m = m;
-                is = sym (first_is (trail_of plan early p) rest.0 s t both);
+                is = sym (first_is (trail_of plan early p) rest.0 later s t both);
               }
 
           by_other : e.pass ≢ p → FoundAfter early t
@@ -134,28 +136,35 @@ module _ (plan : Plan) (few : (es : List Event) → length (run plan es).parts �
 
 -- ---- the word that an adopt found
 
-found_one : (o : Operation) (x : Action) (at : Place) (n : ℕ)
-    → did_find 1 (record { action = x; place = at; answer = answer o n }) ≡ true → n ≡ 1
-found_one (FetchAdd m) x at n h = eqb-true n 1 h
-found_one (FetchSub m) x at n h = eqb-true n 1 h
-found_one (FetchOr m) x at n h = eqb-true n 1 h
-found_one (Swap m) x at n h = eqb-true n 1 h
-found_one (Store m) x at n h = absurd (let z : false ≡ true = h in cc)
-found_one (CompareExchange old new) x at n h = eqb-true n 1 h
-found_one Load x at n h = eqb-true n 1 h
+found_word : (word : ℕ) (o : Operation) (x : Action) (at : Place) (n : ℕ)
+    → did_find word (record { action = x; place = at; answer = answer o n }) ≡ true → n ≡ word
+found_word word (FetchAdd m) x at n h = eqb-true n word h
+found_word word (FetchSub m) x at n h = eqb-true n word h
+found_word word (FetchOr m) x at n h = eqb-true n word h
+found_word word (Swap m) x at n h = eqb-true n word h
+found_word word (Store m) x at n h = absurd (let z : false ≡ true = h in cc)
+found_word word (CompareExchange old new) x at n h = eqb-true n word h
+found_word word Load x at n h = eqb-true n word h
+
+-- the owner word that a step found on the place of this row
+owner_word : (word k j : ℕ) (m : Row) (w : Words) (o : Place)
+    → (at_owner k o && did_find word (record { action = Adopt j; place = o; answer = answer m.operation (read w o) }))
+    ≡ true → w.owner_at k ≡ word
+owner_word word k j m w (Owner i) h =
+    let both = and2 (i == k)
+    (did_find word (record { action = Adopt j; place = Owner i; answer = answer m.operation (w.owner_at i) })) h in
+    subst (λ (z : ℕ). w.owner_at z ≡ word) (eqb-true i k both.0)
+    (found_word word m.operation (Adopt j) (Owner i) (w.owner_at i) both.1)
+owner_word word k j m w _ h = absurd (let z : false ≡ true = h in cc)
 
 -- a step that met an owner found the shard's owner word 1
 pub met_one : (k : ℕ) (x : Action) (m : Row) (w : Words)
     → meets_owner k (footstep_of x m (read w m.place)) ≡ true → w.owner_at k ≡ 1
-met_one k (Adopt j) m w h = at m.place h
-  where
-    at : (o : Place) → (at_owner k o
-        && did_find 1 (record { action = Adopt j; place = o; answer = answer m.operation (read w o) })) ≡ true
-        → w.owner_at k ≡ 1
-    at (Owner i) h =
-        let both = and2 (i == k)
-        (did_find 1 (record { action = Adopt j; place = Owner i; answer = answer m.operation (w.owner_at i) })) h in
-        subst (λ (z : ℕ). w.owner_at z ≡ 1) (eqb-true i k both.0)
-        (found_one m.operation (Adopt j) (Owner i) (w.owner_at i) both.1)
-    at _ h = absurd (let z : false ≡ true = h in cc)
+met_one k (Adopt j) m w h = owner_word 1 k j m w m.place h
 met_one k _ m w h = absurd (let z : false ≡ true = h in cc)
+
+-- a step that found no owner found it 0
+pub met_none : (k : ℕ) (x : Action) (m : Row) (w : Words)
+    → finds_free k (footstep_of x m (read w m.place)) ≡ true → w.owner_at k ≡ 0
+met_none k (Adopt j) m w h = owner_word 0 k j m w m.place h
+met_none k _ m w h = absurd (let z : false ≡ true = h in cc)

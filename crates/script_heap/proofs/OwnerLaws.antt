@@ -31,6 +31,7 @@ use Rattle.sh_core.proofs.Clauses.RunTheorem.{theorem}
 use Rattle.sh_core.proofs.Replays.{steps_make_parts}
 use Rattle.sh_core.proofs.Sums.Tests.{if1_one}
 use Rattle.sh_table.specs.declared.view.Own.{Own}
+use Rattle.sh_pass.specs.Owners.{FoundFree, finds_free}
 use Rattle.sh_pass.specs.Passes.{Caller}
 use Rattle.sh_shard.specs.Leaving.{Waiting}
 use Rattle.sh_shard.specs.Pages.{AdoptRefused}
@@ -54,7 +55,7 @@ use Rattle.script_calls.proofs.PartsGoOn.{SameOwnPart, heeds_same}
 use Rattle.script_heap.specs.ByLine.{KnowsBell, HasPart, HaveParts, RunsByLine}
 use Rattle.script_heap.specs.Owners.{owned_by, OwnApart, IsFree, IsOwned, AdoptIsExact, LeaveIsExact, CallIsExact}
 use Rattle.script_heap.specs.Owners.{OwnersAreExact, LinesKeepOwnersApart}
-use Rattle.script_heap.proofs.FoundWords.{FoundAfter, only_step, met_one}
+use Rattle.script_heap.proofs.FoundWords.{FoundAfter, first_step, met_one, met_none}
 
 -- a list with one element more has that element behind
 one_behind : (more steps : List Footstep) (n : ℕ) → length (steps ++ more) ≡ n → n ≡ length steps + 1
@@ -147,6 +148,33 @@ module _ (layout : Layout) (shape : Numbers) (la : IsLayout layout) (ls : IsShap
         let its : owned_by next.parts q ≡ Some k = ap (λ (v : PassPart). shard_owned v.stands) (next_there q ne) ∙ has
         in ne (apart (early ++ own) next.parts there q l.pass k lt inside its mine))
 
+    -- the world in which a pass that owns no shard did its first step of the line
+    found_after : (v w : Caller) → first_side ≡ Pass v → ends ≡ Pass w → (t : Footstep) (later : List Footstep)
+        → w.view.own.trail ≡ v.view.own.trail ++ t ∷ later → FoundAfter core_plan all_parts early t
+    found_after v w was is t later goes =
+        let before_trail : trail_of core_plan early l.pass ≡ v.view.own.trail = (here l.pass inside).trail
+        ∙ ap (λ (o : Own). o.trail) (sym heeded.own ∙ ap own_part was) in
+        let after_trail : trail_of core_plan (early ++ own) l.pass ≡ w.view.own.trail = (there l.pass inside).trail
+        ∙ ap (λ (o : Own). o.trail) (ap (λ (p : PassPart). own_part p.stands) next_here ∙ ap own_part is) in
+        first_step core_plan all_parts early own l.pass t later
+        (after_trail ∙ (goes ∙ ap (λ (s : List Footstep). s ++ t ∷ later) (sym before_trail)))
+        (λ q lt ne. (there q lt).trail
+        ∙ (ap (λ (p : PassPart). (own_part p.stands).trail) (next_there q ne) ∙ sym (here q lt).trail))
+
+    -- the shard was free, if the first step of the adopt found so
+    found_none : (k : ℕ) (v w : Caller) → first_side ≡ Pass v → ends ≡ Pass w → FoundFree k v w → (q : ℕ)
+        → q < shape.passes → owned_by before.parts q ≢ Some k
+    found_none k v w was is f q lt has =
+        let at = found_after v w was is f.step f.more f.is in
+        let none : (run core_plan at.events).words.owner_at k ≡ 0 = met_none k at.x at.m
+        (run core_plan at.events).words (subst (λ (t : Footstep). finds_free k t ≡ true) at.is f.free) in
+        let b : Body = body_by core_plan newcomer (trail_of core_plan at.events q) in
+        let made : slice_get (run core_plan at.events).parts q ≡ Some b = steps_make_parts core_plan at.events q lt in
+        let body = same_body early at.events before.parts here q b lt (at.same q lt) made in
+        let owned : b.owned ≡ Some k = ap (λ (z : Body). z.owned) (sym body) ∙ ((here q lt).shard ∙ has) in
+        let one = (refined at.events).owners.owner q b k made owned in
+        omega (arith, none, one)
+
     -- the shard was owned, if the adopt met an owner
     module _ (v w : Caller) (was : first_side ≡ Pass v) (is : ends ≡ Pass w) (k : ℕ) (more : List Footstep)
         (goes : w.view.own.trail ≡ v.view.own.trail ++ more)
@@ -168,18 +196,8 @@ module _ (layout : Layout) (shape : Numbers) (la : IsLayout layout) (ls : IsShap
           let one_more : if1 (meets_owner k step) ≡ 1 = omega (arith, met, count, grows) in
           if1_one (meets_owner k step) one_more
 
-      before_trail : trail_of core_plan early l.pass ≡ v.view.own.trail
-      before_trail = (here l.pass inside).trail ∙ ap (λ (o : Own). o.trail) (sym heeded.own ∙ ap own_part was)
-
-      after_trail : trail_of core_plan (early ++ own) l.pass ≡ w.view.own.trail
-      after_trail = (there l.pass inside).trail ∙ ap (λ (o : Own). o.trail)
-          (ap (λ (p : PassPart). own_part p.stands) next_here ∙ ap own_part is)
-
       found : FoundAfter core_plan all_parts early step
-      found = only_step core_plan all_parts early own l.pass step
-          (after_trail ∙ (with_step ∙ ap (λ (t : List Footstep). t ++ step ∷ []) (sym before_trail)))
-          (λ q lt ne. (there q lt).trail
-          ∙ (ap (λ (p : PassPart). (own_part p.stands).trail) (next_there q ne) ∙ sym (here q lt).trail))
+      found = found_after v w was is step [] with_step
 
       was_owned : (q : ℕ) × (q < shape.passes) × (q ≢ l.pass) × (owned_by before.parts q ≡ Some k)
       was_owned =
@@ -203,8 +221,10 @@ module _ (layout : Layout) (shape : Numbers) (la : IsLayout layout) (ls : IsShap
       subst (λ (n : ℕ). k < n) (knows (Pass v) was) h.0,
       was_owned v w was is k h.1.same.trail.0 h.1.same.trail.1 h.2 h.3,
     )
-    refused k v w was is refusal.Memory h =
-        (owns (Pass v) was, subst (λ (n : ℕ). k < n) (knows (Pass v) was) h.0)
+    refused k v w was is refusal.Memory h = (
+      owns (Pass v) was,
+      (subst (λ (n : ℕ). k < n) (knows (Pass v) was) h.0, found_none k v w was is h.2),
+    )
     refused k v w was is _ h = absurd h
 
     adopts : (k : ℕ) (s t : SeenSide) → first_side ≡ s → ends ≡ t → (r : Result (Unit {0}) Refusal) → SideAdopts k s r t

@@ -41,7 +41,7 @@ IsOwned terms parts p k = (k < terms.shape.shards)
 abbrev pub AdoptIsExact : RunTerms → (ℕ → PassPart) → (p k : ℕ) → Answer → Type 0
 AdoptIsExact terms parts p k (answer.Refused refusal.Taken) = IsSome (owned_by parts p) ⊎ IsOwned terms parts p k
 AdoptIsExact terms parts p k (answer.Refused refusal.NoShard) = (owned_by parts p ≡ None) × (terms.shape.shards ≤ k)
-AdoptIsExact terms parts p k (answer.Refused refusal.Memory) = (owned_by parts p ≡ None) × (k < terms.shape.shards)
+AdoptIsExact terms parts p k (answer.Refused refusal.Memory) = (owned_by parts p ≡ None) × IsFree terms parts k
 AdoptIsExact terms parts p k answer.Done = (owned_by parts p ≡ None) × IsFree terms parts k
 AdoptIsExact terms parts p k _ = ⊥
 
