@@ -70,7 +70,6 @@ impl<L: KeyLayout, H: KeepsHeap<L>> Shard<L, H> {
         ensures returned { ReturnsSlot self.old self.new }
         ensures stays { StaysOwner L.layout self.old self.new }
     {
-        let _known = &self.queues;
         let (answer, gained) = self.pages.get(key);
         return_one(&self.pages, &mut self.queues, gained);
         let _known = self.standing();
@@ -97,7 +96,6 @@ impl<L: KeyLayout, H: KeepsHeap<L>> Shard<L, H> {
         ensures returned { ReturnsSlot self.old self.new }
         ensures stays { StaysOwner L.layout self.old self.new }
     {
-        let _known = &self.queues;
         let (answer, gained) = self.pages.get_guard(key);
         return_one(&self.pages, &mut self.queues, gained);
         let _known = self.standing();
@@ -123,7 +121,6 @@ impl<L: KeyLayout, H: KeepsHeap<L>> Shard<L, H> {
         ensures moved { MovesNothing self.old self.new }
         ensures stays { StaysOwner L.layout self.old self.new }
     {
-        let _known = &self.queues;
         let answer = self.pages.read_into(hold, value);
         let _known = self.standing();
         answer
@@ -135,7 +132,6 @@ impl<L: KeyLayout, H: KeepsHeap<L>> Shard<L, H> {
         ensures moved { MovesNothing self.old self.new }
         ensures stays { StaysOwner L.layout self.old self.new }
     {
-        let _known = &self.queues;
         let answer = self.pages.read_guard(guard, value);
         let _known = self.standing();
         answer
@@ -147,7 +143,6 @@ impl<L: KeyLayout, H: KeepsHeap<L>> Shard<L, H> {
         ensures returned { ReturnsSlot self.old self.new }
         ensures stays { StaysOwner L.layout self.old self.new }
     {
-        let _known = &self.queues;
         let (answer, gained) = self.pages.remove(key);
         return_one(&self.pages, &mut self.queues, gained);
         let _known = self.standing();
@@ -160,7 +155,6 @@ impl<L: KeyLayout, H: KeepsHeap<L>> Shard<L, H> {
         ensures returned { ReturnsSlot self.old self.new }
         ensures stays { StaysOwner L.layout self.old self.new }
     {
-        let _known = &self.queues;
         let (answer, gained) = self.pages.release(hold);
         return_one(&self.pages, &mut self.queues, gained);
         let _known = self.standing();
@@ -173,7 +167,6 @@ impl<L: KeyLayout, H: KeepsHeap<L>> Shard<L, H> {
         ensures returned { ReturnsSlot self.old self.new }
         ensures stays { StaysOwner L.layout self.old self.new }
     {
-        let _known = &self.queues;
         let (answer, gained) = self.pages.release_guard(guard);
         return_one(&self.pages, &mut self.queues, gained);
         let _known = self.standing();
