@@ -62,7 +62,6 @@ impl<L: KeyLayout> Pages for World<L> {
     }
 
     fn accounts(&mut self, shard: u32, number: u32) -> Accounts {
-        let _known = World::shape(self);
         match page(self, shard, number) {
             Some(accounts) => accounts,
             None => unreachable!(),

@@ -2,6 +2,7 @@
 ghost use Rattle.std.specs.Prelude.{◌≡◌, ◌+◌, ◌<◌, ◌≤◌, Some, None, IfSome, MatchOption, get_or};
 ghost use Rattle.sh_shape.specs.Places.{page_number, slot_places};
 ghost use Rattle.sh_shape.specs.Classes.{slots, class_count};
+ghost use Rattle.sh_core.specs.Kept.{FromEvents};
 ghost use Rattle.sh_core.specs.Lists.{class_named};
 ghost use Rattle.sh_accounts.specs.Kinds.{with_one};
 ghost use Rattle.sh_accounts.specs.Accounts.{ShapeHasPage, AreAccounts, FillPage, all_slots, no_slots, class_word};
@@ -99,8 +100,9 @@ fn count_slots<L: KeyLayout>(world: &World<L>, shard: u32, page: u32, class: u32
 /// The accounts of a shard's page: its class, and how many of the slots of the class are of each kind. `None` if the
 /// heap has no such page.
 ///
-/// They hold after every list of events that leads to this world.
+/// They hold after every list of events that leads to this world, and some list does.
 pub fn page<L: KeyLayout>(world: &World<L>, shard: u32, page: u32) -> Option<Accounts>
+    ensures reached { FromEvents L.layout world.now }
     ensures there { MatchOption result (¬ ShapeHasPage world.now.shape shard page)
         (λ accounts. ShapeHasPage world.now.shape shard page) }
     ensures are { IfSome result (AreAccounts L.layout world.now (page_number world.now.shape shard page)) }
