@@ -49,7 +49,6 @@ impl<'a, L: KeyLayout> Pages for WholeHeap<'a, L> {
     }
 
     fn accounts(&mut self, shard: u32, page: u32) -> Accounts {
-        let _known = self.whole.shape();
         match self.whole.accounts(shard, page) {
             Some(accounts) => accounts,
             None => unreachable!(),

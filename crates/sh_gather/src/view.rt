@@ -58,6 +58,8 @@ impl<L: KeyLayout, H: KeepsHeap<L>> Whole<L, H> {
     /// these. Live are the page's keys that were inserted and not removed. Marked are those that were removed and are
     /// still held. Retired are those that were removed in the last generation of their slots and are not held.
     pub fn accounts(&mut self, shard: u32, page: u32) -> Option<Accounts>
+        ensures rest { IsAtRest self.old }
+        ensures stands { ViewStands L.layout self.old.view }
         ensures heap { self.new.heap ≡ self.old.heap }
         ensures tale { NotedMore self.old.view self.new.view }
         ensures looks { length self.new.view.noted ≤ length self.old.view.noted + 98 }
