@@ -112,8 +112,6 @@ impl<L: KeyLayout, H: KeepsHeap<L>> Owner<L, H> {
         ensures same { self.now.view.shape ≡ self.now.heap.shape }
         ensures stands { ViewStands L.layout self.now.view }
     {
-        // What holds of every owner holds of this one.
-        let _known = &self.held;
         let heap = self.heap.kept();
         heap.table.shape()
     }
