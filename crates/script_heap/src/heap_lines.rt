@@ -91,7 +91,6 @@ fn push_whole<L: KeyLayout>(output: &mut Vec<u8>, pass: Pass<'_, L>) -> Result<(
         × TellsTale L.layout pass.entry.heap.shape (tale_told (seen_of_caller L.layout pass.entry))
         pass.entry.view.orders (parts_carried (seen_of_caller L.layout pass.entry)) text) }
 {
-    let _known = pass.shape();
     let Ok(whole) = whole(pass) else {
         unreachable!()
     };
@@ -104,7 +103,6 @@ fn look<L: KeyLayout>(pass: Pass<'_, L>)
     requires whole { IsWhole pass.view }
     ensures { (events : List Event) × LeadsToWhole L.layout pass.entry events }
 {
-    let _known = pass.shape();
     let Ok(whole) = whole(pass) else {
         unreachable!()
     };
