@@ -13,7 +13,12 @@ use Rattle.sh_plain.specs.declared.index.Held.{Held}
 use Rattle.sh_plain.specs.Plain.{Plain, IsSound, plain_book, plain_setting}
 use Rattle.sh_plain.specs.Store.{IsBook}
 
--- the book of a sound store is in a legal history, which is the book itself
+-- the book of a store whose entries are a legal history is in a legal history, which is the book itself
+pub legal_stands : (layout : Layout) (s : Plain) → Legal s.passes layout.guard_max s.entries
+    → IsBook (plain_setting layout s) (plain_book s)
+legal_stands layout s legal = known_stands s.passes layout.guard_max s.entries legal
+
+-- so is the book of a sound store
 pub book_stands : (layout : Layout) (issued : List Issued) (holds : List Held) (entries : List Entry) (pass passes : ℕ)
     (s : Plain)
     → IsSound layout entries pass passes issued holds

@@ -3,5 +3,6 @@ pub mod IndexSteps
 pub mod Holds
 pub mod Sound
 pub mod Held
+pub mod Following
 pub mod Leaves
 pub mod NewKey

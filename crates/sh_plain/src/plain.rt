@@ -216,9 +216,7 @@ impl<L: KeyLayout> Lookup for PlainStore<L> {
         ensures exact { result ≡ read_answer self.old hold.key }
         ensures unchanged { self.new ≡ self.old }
     {
-        let result = self.plain_read(hold);
-        let _known = &self.entries;
-        result
+        self.plain_read(hold)
     }
 
     fn remove(&mut self, key: u64) -> Result<(), Refusal>
@@ -240,9 +238,7 @@ impl<L: KeyLayout> Lookup for PlainStore<L> {
         ensures same { plain_setting L.layout self.new ≡ plain_setting L.layout self.old }
         ensures exact { Replied (release_reply self.old hold.key) self.old result self.new }
     {
-        let result = self.plain_release(hold);
-        let _known = &self.entries;
-        result
+        self.plain_release(hold)
     }
 }
 

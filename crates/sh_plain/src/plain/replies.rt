@@ -1,6 +1,6 @@
 //! What the plain store returns for each call, and which entry each call adds.
 ghost use Rattle.std.specs.Prelude.{◌≡◌};
-ghost use Rattle.sh_history.specs.History.{present_value};
+ghost use Rattle.sh_history.specs.History.{Legal, present_value};
 
 use super::PlainStore;
 use crate::index::{Issued, make_room};
@@ -73,7 +73,8 @@ impl<L: KeyLayout> PlainStore<L> {
     }
 
     pub(super) fn plain_read(&self, hold: Hold) -> Result<Value, Refusal>
-        ensures { result ≡ read_answer self.now hold.key }
+        ensures exact { result ≡ read_answer self.now hold.key }
+        ensures legal { Legal self.now.passes L.layout.guard_max self.now.entries }
     {
         if !self.has_hold(hold.key) {
             return Err(Refusal::NotHeld);
@@ -107,7 +108,8 @@ impl<L: KeyLayout> PlainStore<L> {
     }
 
     pub(super) fn plain_release(&mut self, hold: Hold) -> Result<(), Refusal>
-        ensures { Replied (release_reply self.old hold.key) self.old result self.new }
+        ensures exact { Replied (release_reply self.old hold.key) self.old result self.new }
+        ensures legal { Legal self.old.passes L.layout.guard_max self.old.entries }
     {
         if self.has_hold(hold.key) {
             self.note_released(hold.key)

@@ -1,15 +1,11 @@
-use Rattle.std.proofs.Common.{refl, subst}
-use Rattle.sh_history.specs.History.{Legal}
-use Rattle.sh_plain.specs.Plain.{Plain}
-use Rattle.sh_plain.proofs.Held.{book_stands}
+use Rattle.std.proofs.Common.{refl}
+use Rattle.sh_plain.proofs.Held.{legal_stands}
 use Rattle.sh_plain.proofs.Leaves.{read_leaves}
 use Rattle.sh_plain.proofs.plain.PlainStoreLookup.read.Goals as goal
 
 pub returns-clause-stands : goal.returns-clause-stands
-returns-clause-stands g c = book_stands g.L.KeyLayout.layout _ _ _ _ _ _ c.self.invariant c.self.view_is
+returns-clause-stands g c = legal_stands g.L.KeyLayout.layout c.args.self.now c.plain_read.ensures.legal
 
 pub returns-clause-leaves : goal.returns-clause-leaves
-returns-clause-leaves g c =
-    let P : Plain → Type 0 = λ s. Legal s.passes g.L.KeyLayout.layout.guard_max s.entries in
-    read_leaves g.L.KeyLayout.layout c.args.self.now c.args.hold.key (subst P c.self.view_is c.self.invariant.legal)
-    c.plain_read-result.result c.args.self.now c.plain_read-result.ensures refl
+returns-clause-leaves g c = read_leaves g.L.KeyLayout.layout c.args.self.now c.args.hold.key c.plain_read.ensures.legal
+    c.plain_read.result c.args.self.now c.plain_read.ensures.exact refl
