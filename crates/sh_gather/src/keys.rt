@@ -25,7 +25,6 @@ impl<L: KeyLayout, H: KeepsHeap<L>> Whole<L, H> {
         ensures key { AreLiveAt L.layout self.new.view place result }
     {
         core_refines();
-        let _known = self.pass.shape();
         let page = place / u64::from(SLOT_PLACES);
         let slot = place % u64::from(SLOT_PLACES);
         let state = State::of(self.pass.load(Place::State(page, slot)));
