@@ -1,17 +1,21 @@
 -- A shard keeps the laws of a store.
-use Rattle.std.proofs.Common.{◌≡◌, ℕ, ◌==◌, List, ap}
-use Rattle.std.proofs.Common.{sym, subst}
-use Rattle.std.specs.Prelude.{Result, Ok, Err}
+use Rattle.std.proofs.Common.{◌≡◌, ℕ, ◌==◌, List, Some, refl, ap, ◌∙◌, sym, subst}
+use Rattle.std.specs.Prelude.{Option, Result, Ok, Err}
 use Rattle.sh_key.specs.Layout.{Layout}
 use Rattle.sh_plain.specs.Store.{IsBook, InsertLeaves}
+use Rattle.sh_queue.specs.Queues.{PageQueues}
 use Rattle.sh_value.specs.declared.refusal.Refusal.{Refusal}
 use Rattle.sh_value.specs.declared.refusal.Refusal.TheVariants as refusal
+use Rattle.sh_table.specs.Seats.{Heap}
 use Rattle.sh_table.specs.Tales.{ViewStands}
 use Rattle.sh_pass.specs.Growing.{SameTale}
-use Rattle.sh_pass.specs.Owners.{Aside}
+use Rattle.sh_pass.specs.Owners.{Aside, own_body}
+use Rattle.sh_pass.specs.Passes.{Caller}
 use Rattle.sh_pass.specs.Remaining.{Remains}
-use Rattle.sh_shard.specs.Shards.{Sharded, HoldsShard, InsertServes, PrepareServes}
+use Rattle.sh_shard.specs.Pages.{Paged, GainsSlot, HoldsPages}
+use Rattle.sh_shard.specs.Shards.{Sharded, HoldsShard, StaysOwner, InsertServes, PrepareServes}
 use Rattle.sh_shard.specs.Stores.{shard_book, shard_setting}
+use Rattle.sh_shard.proofs.PageSteps.{paged_of}
 use Rattle.sh_shard.proofs.Sides.{aside_none}
 
 pub setting_same : (layout : Layout) (o n : Sharded) → SameTale o.pages.owner.view n.pages.owner.view
@@ -76,6 +80,29 @@ remains_aside layout o n before after aside = record {
   shape = before.shape;
   stood = before.stands;
   stands = after.stands;
+}
+
+-- what is known after a call of the owner
+pub holds_after : {layout : Layout} {v w : Caller} {shard : ℕ} (count : ℕ) → Remains layout v w
+    → (own_body v).owned ≡ Some shard → w.view.shape ≡ v.view.shape
+    → HoldsPages layout (paged_of layout w shard count)
+holds_after count remains owned shape = record {
+  stands = remains.stands;
+  idle = remains.idle;
+  owned = remains.shard ∙ owned;
+  shape = shape ∙ (remains.shape ∙ ap (λ (h : Heap). h.shape) (sym remains.heap));
+  bell = refl;
+}
+
+-- a call of the owner that at most gains a slot leaves it the shard
+pub stays_owner : (layout : Layout) (gained : Option ℕ) (o n : Paged) (q r : PageQueues) → HoldsPages layout n
+    → GainsSlot gained o n → Remains layout o.owner n.owner
+    → StaysOwner layout (record { pages = o; queues = q }) (record { pages = n; queues = r })
+stays_owner layout gained o n q r holds gains remains = record {
+  holds = holds;
+  shard = gains.shard;
+  same = gains.same;
+  remains = remains;
 }
 
 -- ---- the owner of the shard

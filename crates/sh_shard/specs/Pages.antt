@@ -10,13 +10,14 @@ use Rattle.sh_slots.specs.declared.hand.Hand.TheVariants.{Idle}
 use Rattle.sh_step.specs.Collections.{if1}
 use Rattle.sh_step.specs.Footsteps.{owner_met}
 use Rattle.sh_step.specs.declared.action.PageName.{PageName}
+use Rattle.sh_table.specs.Tales.{ViewStands}
 use Rattle.sh_value.specs.declared.refusal.Refusal.{Refusal}
 use Rattle.sh_value.specs.declared.refusal.Refusal.TheVariants as refusal
 use Rattle.sh_pass.specs.Growing.{SameTale}
 use Rattle.sh_pass.specs.Passes.{Caller}
 use Rattle.sh_pass.specs.Receipts.{heeded}
 use Rattle.sh_pass.specs.Owners.{SeenPage, SeenBell, Aside, NonePut, NoneArmed, HasNothing, heap_page, own_body}
-use Rattle.sh_pass.specs.Owners.{page_given, page_with, seen_page, IsKeyIn, IsKeyOn, FoundFree}
+use Rattle.sh_pass.specs.Owners.{page_given, page_with, seen_bell, seen_page, IsKeyIn, IsKeyOn, FoundFree}
 
 -- what the owner knows, its shard, the number of its pages, and its bell as the owner sees it
 pub record Paged : Type 0 where
@@ -24,6 +25,15 @@ pub record Paged : Type 0 where
   pub shard : ℕ
   pub count : ℕ
   pub bell : SeenBell
+
+-- Nothing is begun, the shard is the owner's, and all that it knows is true in the heap's shape. The bell is that of
+-- its shard as the owner sees it.
+pub record HoldsPages (layout : Layout) (v : Paged) : Type 0 where
+  pub stands : ViewStands layout v.owner.view
+  pub idle : (own_body v.owner).hand ≡ Idle
+  pub owned : (own_body v.owner).owned ≡ Some v.shard
+  pub shape : v.owner.view.shape ≡ v.owner.heap.shape
+  pub bell : v.bell ≡ seen_bell layout v.owner v.shard
 
 -- the pages, once their owner has heeded the receipt
 abbrev pub pages_heeded : Paged → Caller → Paged

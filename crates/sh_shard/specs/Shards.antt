@@ -12,13 +12,11 @@ use Rattle.sh_value.specs.declared.refusal.Refusal.TheVariants as refusal
 use Rattle.sh_shape.specs.Classes.{class_of}
 use Rattle.sh_pass.specs.Passes.{Caller}
 use Rattle.sh_shard.specs.Pages.{pages_heeded}
-use Rattle.sh_slots.specs.declared.hand.Hand.TheVariants.{Idle}
-use Rattle.sh_table.specs.Tales.{ViewStands}
 use Rattle.sh_pass.specs.Growing.{SameTale}
 use Rattle.sh_pass.specs.Remaining.{Remains}
-use Rattle.sh_pass.specs.Owners.{SeenPage, Aside, NonePut, IsKeyIn, IsKeyOn, heap_page, own_body, seen_bell}
+use Rattle.sh_pass.specs.Owners.{SeenPage, Aside, NonePut, IsKeyIn, IsKeyOn, heap_page}
 use Rattle.sh_shard.specs.Pages.{Paged, shard_page, page_at, seen_class, NothingMine, WhollyMine, GivesClass, PageDone}
-use Rattle.sh_shard.specs.Pages.{PageInserts, TakesSteps, GainsSlot, AdoptsShard, AdoptRefused, ShardLeft}
+use Rattle.sh_shard.specs.Pages.{PageInserts, TakesSteps, GainsSlot, HoldsPages, AdoptsShard, AdoptRefused, ShardLeft}
 use Rattle.sh_shard.specs.Turning.{turned_past, come_back_each, any_of_class, gained_back}
 use Rattle.sh_shard.specs.Works.{WorksThroughout, BellDone, ClassDone, ReadFromBell, ReadInTurn}
 use Rattle.sh_shard.specs.Leaving.{Waiting}
@@ -62,14 +60,9 @@ pub record ReturnsEach (v : Paged) (q r : PageQueues) : Type 0 where
   pub all : q.opened ≤ below
   pub each : ReturnsBelow below v q r
 
--- Nothing is begun, the shard is the owner's, and all that it knows is true in the heap's shape. The bell is that of
--- its shard as the owner sees it.
-pub record HoldsShard (layout : Layout) (o : Sharded) : Type 0 where
-  pub stands : ViewStands layout o.pages.owner.view
-  pub idle : (own_body o.pages.owner).hand ≡ Idle
-  pub owned : (own_body o.pages.owner).owned ≡ Some o.pages.shard
-  pub shape : o.pages.owner.view.shape ≡ o.pages.owner.heap.shape
-  pub bell : o.pages.bell ≡ seen_bell layout o.pages.owner o.pages.shard
+-- nothing is begun in the shard's pages, and all that the owner knows is true
+abbrev pub HoldsShard : Layout → Sharded → Type 0
+HoldsShard layout o = HoldsPages layout o.pages
 
 -- after a call the same pass holds the same shard
 pub record StaysOwner (layout : Layout) (o n : Sharded) : Type 0 where

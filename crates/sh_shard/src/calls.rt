@@ -3,7 +3,7 @@ ghost use Rattle.std.specs.Prelude.{◌≡◌, ◌+◌, ◌*◌, ◌^◌, ◌≤
 ghost use Rattle.sh_pass.specs.Passes.{GetDoes, ReadIntoDoes, RemoveDoes, ReleaseDoes};
 ghost use Rattle.sh_pass.specs.Remaining.{Remains};
 ghost use Rattle.sh_shard.specs.Kept.{MayGain, PushesGained};
-ghost use Rattle.sh_shard.specs.Pages.{GainsSlot};
+ghost use Rattle.sh_shard.specs.Pages.{GainsSlot, HoldsPages};
 
 use crate::pages::Pages;
 use sh_key::KeyLayout;
@@ -32,6 +32,7 @@ impl<L: KeyLayout, H: KeepsHeap<L>> Pages<L, H> {
     pub(crate) fn get(&mut self, key: u64) -> (Result<Hold, Refusal>, Option<u64>)
         ensures does { GetDoes L.layout key self.old.owner result.0 self.new.owner }
         ensures gained { GainsSlot result.1 self.old self.new }
+        ensures holds { HoldsPages L.layout self.new }
         ensures remains { Remains L.layout self.old.owner self.new.owner }
     {
         let (answer, gained) = self.owner.get(key);
@@ -44,6 +45,7 @@ impl<L: KeyLayout, H: KeepsHeap<L>> Pages<L, H> {
     pub(crate) fn get_guard(&mut self, key: u64) -> (Result<Guard<L>, Refusal>, Option<u64>)
         ensures does { GetDoes L.layout key self.old.owner result.0 self.new.owner }
         ensures gained { GainsSlot result.1 self.old self.new }
+        ensures holds { HoldsPages L.layout self.new }
         ensures remains { Remains L.layout self.old.owner self.new.owner }
     {
         let (answer, gained) = self.owner.get_guard(key);
@@ -56,6 +58,7 @@ impl<L: KeyLayout, H: KeepsHeap<L>> Pages<L, H> {
     pub(crate) fn read_into(&mut self, hold: Hold, value: &mut Value) -> Result<(), Refusal>
         ensures does { ReadIntoDoes hold.key self.old.owner value.old result value.new self.new.owner }
         ensures gained { GainsSlot None self.old self.new }
+        ensures holds { HoldsPages L.layout self.new }
         ensures remains { Remains L.layout self.old.owner self.new.owner }
     {
         self.owner.read_into(hold, value)
@@ -66,6 +69,7 @@ impl<L: KeyLayout, H: KeepsHeap<L>> Pages<L, H> {
     pub(crate) fn read_guard(&mut self, guard: &Guard<L>, value: &mut Value) -> Result<(), Refusal>
         ensures does { ReadIntoDoes guard.now.key self.old.owner value.old result value.new self.new.owner }
         ensures gained { GainsSlot None self.old self.new }
+        ensures holds { HoldsPages L.layout self.new }
         ensures remains { Remains L.layout self.old.owner self.new.owner }
     {
         self.owner.read_guard(guard, value)
@@ -75,6 +79,7 @@ impl<L: KeyLayout, H: KeepsHeap<L>> Pages<L, H> {
     pub(crate) fn remove(&mut self, key: u64) -> (Result<(), Refusal>, Option<u64>)
         ensures does { RemoveDoes L.layout key self.old.owner result.0 self.new.owner }
         ensures gained { GainsSlot result.1 self.old self.new }
+        ensures holds { HoldsPages L.layout self.new }
         ensures remains { Remains L.layout self.old.owner self.new.owner }
     {
         let (answer, gained) = self.owner.remove(key);
@@ -86,6 +91,7 @@ impl<L: KeyLayout, H: KeepsHeap<L>> Pages<L, H> {
     pub(crate) fn release(&mut self, hold: Hold) -> (Result<(), Refusal>, Option<u64>)
         ensures does { ReleaseDoes L.layout hold.key self.old.owner result.0 self.new.owner }
         ensures gained { GainsSlot result.1 self.old self.new }
+        ensures holds { HoldsPages L.layout self.new }
         ensures remains { Remains L.layout self.old.owner self.new.owner }
     {
         let (answer, gained) = self.owner.release(hold);
@@ -98,6 +104,7 @@ impl<L: KeyLayout, H: KeepsHeap<L>> Pages<L, H> {
     pub(crate) fn release_guard(&mut self, guard: Guard<L>) -> (Result<(), Refusal>, Option<u64>)
         ensures does { ReleaseDoes L.layout guard.key self.old.owner result.0 self.new.owner }
         ensures gained { GainsSlot result.1 self.old self.new }
+        ensures holds { HoldsPages L.layout self.new }
         ensures remains { Remains L.layout self.old.owner self.new.owner }
     {
         let (answer, gained) = self.owner.release_guard(guard);

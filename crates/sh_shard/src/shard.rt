@@ -72,7 +72,6 @@ impl<L: KeyLayout, H: KeepsHeap<L>> Shard<L, H> {
     {
         let (answer, gained) = self.pages.get(key);
         return_one(&self.pages, &mut self.queues, gained);
-        let _known = self.standing();
         answer
     }
 
@@ -98,7 +97,6 @@ impl<L: KeyLayout, H: KeepsHeap<L>> Shard<L, H> {
     {
         let (answer, gained) = self.pages.get_guard(key);
         return_one(&self.pages, &mut self.queues, gained);
-        let _known = self.standing();
         answer
     }
 
@@ -121,9 +119,7 @@ impl<L: KeyLayout, H: KeepsHeap<L>> Shard<L, H> {
         ensures moved { MovesNothing self.old self.new }
         ensures stays { StaysOwner L.layout self.old self.new }
     {
-        let answer = self.pages.read_into(hold, value);
-        let _known = self.standing();
-        answer
+        self.pages.read_into(hold, value)
     }
 
     /// The same as `read_into`, by a hold that keeps its place.
@@ -132,9 +128,7 @@ impl<L: KeyLayout, H: KeepsHeap<L>> Shard<L, H> {
         ensures moved { MovesNothing self.old self.new }
         ensures stays { StaysOwner L.layout self.old self.new }
     {
-        let answer = self.pages.read_guard(guard, value);
-        let _known = self.standing();
-        answer
+        self.pages.read_guard(guard, value)
     }
 
     /// Removes a key. Refused as `BadKey` or `Gone`.
@@ -145,7 +139,6 @@ impl<L: KeyLayout, H: KeepsHeap<L>> Shard<L, H> {
     {
         let (answer, gained) = self.pages.remove(key);
         return_one(&self.pages, &mut self.queues, gained);
-        let _known = self.standing();
         answer
     }
 
@@ -157,7 +150,6 @@ impl<L: KeyLayout, H: KeepsHeap<L>> Shard<L, H> {
     {
         let (answer, gained) = self.pages.release(hold);
         return_one(&self.pages, &mut self.queues, gained);
-        let _known = self.standing();
         answer
     }
 
@@ -169,7 +161,6 @@ impl<L: KeyLayout, H: KeepsHeap<L>> Shard<L, H> {
     {
         let (answer, gained) = self.pages.release_guard(guard);
         return_one(&self.pages, &mut self.queues, gained);
-        let _known = self.standing();
         answer
     }
 

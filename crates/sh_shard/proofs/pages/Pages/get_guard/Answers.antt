@@ -1,5 +1,6 @@
 use Rattle.std.proofs.Common.{length, subst}
 use Rattle.sh_shard.specs.Pages.{Paged, GainsSlot}
+use Rattle.sh_shard.proofs.Booking.{holds_after}
 use Rattle.sh_shard.proofs.Coming.{few_pages, may_gain, kept_after}
 use Rattle.sh_shard.proofs.PageSteps.{paged_of}
 use Rattle.sh_shard.proofs.pages.Pages.get_guard.Goals as goal
@@ -28,3 +29,7 @@ returns-clause-gained g c =
     c.push_gained-page.new.states c.self.invariant c.get_guard-answer.ensures.leaves
     c.get_guard-answer.ensures.remains.stands
     c.push_gained-page.ensures).comes
+
+pub returns-clause-holds : goal.returns-clause-holds
+returns-clause-holds g c = holds_after (length c.push_gained-page.new.states) c.get_guard-answer.ensures.remains
+    c.self.invariant.owned c.get_guard-answer.ensures.leaves.same.shape

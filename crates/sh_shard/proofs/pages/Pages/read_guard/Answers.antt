@@ -1,5 +1,6 @@
 use Rattle.std.proofs.Common.{None, refl, length, subst}
 use Rattle.sh_shard.specs.Pages.{Paged, GainsSlot}
+use Rattle.sh_shard.proofs.Booking.{holds_after}
 use Rattle.sh_shard.proofs.Coming.{kept_after}
 use Rattle.sh_shard.proofs.PageSteps.{paged_of}
 use Rattle.sh_shard.proofs.pages.Pages.read_guard.Goals as goal
@@ -14,3 +15,7 @@ returns-clause-gained g c =
     c.self.inside.shard (length c.self.inside.states)) in
     subst P c.self.view_is (kept_after None None c.read_guard.new.self c.self.inside.states c.self.invariant
     c.read_guard.ensures.leaves c.read_guard.ensures.remains.stands (refl, refl)).comes
+
+pub returns-clause-holds : goal.returns-clause-holds
+returns-clause-holds g c = holds_after (length c.self.inside.states) c.read_guard.ensures.remains
+    c.self.invariant.owned c.read_guard.ensures.leaves.same.shape

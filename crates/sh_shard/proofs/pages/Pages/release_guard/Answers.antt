@@ -1,5 +1,6 @@
 use Rattle.std.proofs.Common.{length, subst}
 use Rattle.sh_shard.specs.Pages.{Paged, GainsSlot}
+use Rattle.sh_shard.proofs.Booking.{holds_after}
 use Rattle.sh_shard.proofs.Coming.{few_pages, may_gain, kept_after}
 use Rattle.sh_shard.proofs.PageSteps.{paged_of}
 use Rattle.sh_shard.proofs.pages.Pages.release_guard.Goals as goal
@@ -26,3 +27,7 @@ returns-clause-gained g c =
     subst P c.self.view_is (kept_after c.release_guard-answer.result.1 c.push_gained-page.result
     c.release_guard-answer.new.self c.push_gained-page.new.states c.self.invariant c.release_guard-answer.ensures.leaves
     c.release_guard-answer.ensures.remains.stands c.push_gained-page.ensures).comes
+
+pub returns-clause-holds : goal.returns-clause-holds
+returns-clause-holds g c = holds_after (length c.push_gained-page.new.states) c.release_guard-answer.ensures.remains
+    c.self.invariant.owned c.release_guard-answer.ensures.leaves.same.shape
