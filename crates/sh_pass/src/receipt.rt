@@ -1,7 +1,8 @@
 //! Receipts: one pass gives a receipt and another heeds it. Then all results of the first, up to the receipt, happen
 //! before all later results of the other.
 ghost use Rattle.std.specs.Prelude.{◌≡◌};
-ghost use Rattle.sh_table.specs.Tales.{ViewStands};
+ghost use Rattle.sh_slots.specs.declared.hand.Hand.TheVariants.{Idle};
+ghost use Rattle.sh_pass.specs.Owners.{own_body};
 ghost use Rattle.sh_pass.specs.Receipts.{receipt_by, heeded};
 ghost use Rattle.sh_pass.specs.Remaining.{Remains};
 
@@ -101,8 +102,10 @@ impl<L: KeyLayout, H: KeepsHeap<L>> Pass<L, H> {
 impl<L: KeyLayout, H: KeepsHeap<L>> Owner<L, H> {
     /// A receipt of all results of the owner, and of all that it heard of others: one load.
     pub fn receipt(&mut self) -> Receipt
+        requires idle { (own_body self.old).hand ≡ Idle }
         ensures same { self.new ≡ self.old }
         ensures tells { result ≡ receipt_by self.old }
+        ensures remains { Remains L.layout self.old self.new }
     {
         let heap = self.heap.kept();
         Receipt {
@@ -112,9 +115,10 @@ impl<L: KeyLayout, H: KeepsHeap<L>> Owner<L, H> {
 
     /// Everything that the receipt covers happens before all later results of the owner: two loads.
     pub fn heed(&mut self, receipt: Receipt)
-        requires { receipt.heap ≡ self.old.heap }
+        requires idle { (own_body self.old).hand ≡ Idle }
+        requires receipt { receipt.heap ≡ self.old.heap }
         ensures heeds { self.new ≡ heeded self.old receipt }
-        ensures stands { ViewStands L.layout self.new.view }
+        ensures remains { Remains L.layout self.old self.new }
     {
         let Receipt { seat: told } = receipt;
         let heap = self.heap.kept();
