@@ -4,7 +4,7 @@ ghost use Rattle.sh_shape.specs.Classes.{class_count};
 ghost use Rattle.sh_shape.specs.Shape.{segment_pages};
 ghost use Rattle.sh_lists.specs.Numbers.{upward};
 ghost use Rattle.sh_queue.specs.Chain.{ChainNumbers};
-ghost use Rattle.sh_queue.specs.Queues.{FilingQueues, mark_behind, next_filed, none_opened};
+ghost use Rattle.sh_queue.specs.Queues.{EachOnce, FilingQueues, mark_behind, next_filed, none_opened};
 
 use crate::chain::{Chain, END};
 use crate::queues::{BLANK, FIRST_PAGE, Queues};
@@ -78,7 +78,8 @@ impl Filing {
     /// The queues, once all pages are filed.
     pub fn into_queues(self) -> Queues
         requires { self.queues.opened ≡ self.pages }
-        ensures { result ≡ self.queues }
+        ensures is { result ≡ self.queues }
+        ensures once { EachOnce result }
     {
         let Filing {
             chain,

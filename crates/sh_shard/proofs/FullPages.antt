@@ -4,12 +4,13 @@ use Rattle.std.proofs.Common.{MatchOption, IfSome, [], ◌∷◌, ◌++◌, refl
 use Rattle.std.proofs.lemmas.Bool.{cases_eq, false≢true}
 use Rattle.std.proofs.lemmas.List.{length-set}
 use Rattle.sh_queue.specs.Numbers.{has_number, RisesFrom}
-use Rattle.sh_queue.specs.Queues.{PageQueues, FilingQueues, EachOnce, class_queue, at_back, next_filed}
+use Rattle.sh_queue.specs.Queues.{PageQueues, FilingQueues, class_queue, at_back, next_filed}
 use Rattle.sh_queue.proofs.Filings.{next_filed-opened, next_filed-unopened, class_queue-next_filed_same}
 use Rattle.sh_queue.proofs.Filings.{class_queue-next_filed_other}
 use Rattle.sh_queue.proofs.PutBack.{has_number-from_without}
 use Rattle.sh_queue.proofs.ClassQueues.{has_number-at_back}
 use Rattle.sh_queue.proofs.PagePlaces.{full_opened}
+use Rattle.sh_queue.proofs.StandOnce.{EachOnce-at_back}
 use Rattle.sh_pass.specs.Owners.{SeenPage}
 use Rattle.sh_shard.specs.Pages.{Paged, page_at, seen_class, GainsSlot}
 use Rattle.sh_shard.specs.Shards.{SortedPages, FullPage, ReturnsPage}
@@ -23,6 +24,7 @@ use Rattle.sh_shard.proofs.ClassWords.{classed_is}
 pub but_none : (v : Paged) (q : PageQueues) (named : ℕ → Type 0) → SortedBut named v q
     → ((p : ℕ) → has_number p q.full ≡ true → ¬ named p) → SortedPages v q
 but_none v q named s none = record {
+  once = s.once;
   all = s.all;
   later = s.later;
   classes = s.classes;
@@ -34,6 +36,7 @@ but_none v q named s none = record {
 pub but_fewer : (v : Paged) (q : PageQueues) (named named' : ℕ → Type 0) → SortedBut named v q
     → ((p : ℕ) → named p → named' p) → SortedBut named' v q
 but_fewer v q named named' s more = record {
+  once = s.once;
   all = s.all;
   later = s.later;
   classes = s.classes;
@@ -48,6 +51,7 @@ pub but_classes : (v w : Paged) (q : PageQueues) → SortedPages v q → w.count
     → ((p : ℕ) → (page_at w p).class ≡ (page_at v p).class)
     → (named : ℕ → Type 0) → ((p : ℕ) → ¬ named p → page_at w p ≡ page_at v p) → SortedBut named w q
 but_classes v w q s count class named others = record {
+  once = s.once;
   all = s.all ∙ sym count;
   later = λ p from upto. class p ∙ s.later p from (omega arith);
   classes = λ c p here. class p ∙ s.classes c p here;
@@ -75,9 +79,10 @@ but_gained gained v w q s k =
 
 -- page p was looked at, and moved back to its class if it was not full
 module _ (v : Paged) (q q' : PageQueues) (p : ℕ) (named named' : ℕ → Type 0) (s : SortedBut named v q)
-    (once : EachOnce q) (fewer : (r : ℕ) → ¬ named' r → r ≢ p → ¬ named r) where
+    (fewer : (r : ℕ) → ¬ named' r → r ≢ p → ¬ named r) where
   stayed : q' ≡ q → (has_number p q.full ≡ false) ⊎ FullPage (page_at v p) → SortedBut named' v q'
   stayed is why = subst (SortedBut named' v) (sym is) (record {
+    once = s.once;
     all = s.all;
     later = s.later;
     classes = s.classes;
@@ -96,13 +101,14 @@ module _ (v : Paged) (q q' : PageQueues) (p : ℕ) (named named' : ℕ → Type 
   went : has_number p q.full ≡ true → q' ≡ at_back (seen_class (page_at v p) - 1) p q → (page_at v p).class
       ≡ Some (seen_class (page_at v p)) → SortedBut named' v q'
   went here is class = subst (SortedBut named' v) (sym is) (record {
+    once = EachOnce-at_back d p q s.once few inside;
     all = s.all;
     later = s.later;
     classes = λ e r h. ⊎_elim
         (λ (t : has_number r (class_queue q e) ≡ true). s.classes e r t)
         (λ (t : (e ≡ d) × (r ≡ p)). let P : ℕ × ℕ → Type 0 = λ z. (page_at v z.1).class ≡ Some (z.0 + 1)
         in subst P (λ i. (sym t.0 i, sym t.1 i)) (class ∙ ap (λ (z : ℕ). Some z) next))
-        (has_number-at_back d p q e r (let m = once.classes in let w = s.word p here in let w1 = w.1 in let w0 = w.0
+        (has_number-at_back d p q e r (let m = s.once.classes in let w = s.word p here in let w1 = w.1 in let w0 = w.0
         in omega arith) h);
     full = λ r h none. s.full r (has_number-from_without r p q.full h)
         (fewer r none (λ (e : r ≡ p). false≢true (sym gone ∙ subst (λ z. has_number z now.full ≡ true) e h)));
@@ -118,9 +124,14 @@ module _ (v : Paged) (q q' : PageQueues) (p : ℕ) (named named' : ℕ → Type 
     next : seen_class (page_at v p) ≡ d + 1
     next = let w = s.word p here in let w0 = w.0 in omega arith
 
+    few : d < 8
+    few = let w = s.word p here in let w1 = w.1 in let w0 = w.0 in omega arith
+
+    inside : p < q.opened
+    inside = full_opened p q s.once here
+
     gone : has_number p now.full ≡ false
-    gone = let w = s.word p here in let w1 = w.1 in let w0 = w.0 in
-        (stands_at_back q p d once (omega arith) (full_opened p q once here)).0
+    gone = (stands_at_back q p d s.once few inside).0
 
   pub but_returned : (page_at v p).class ≡ Some (seen_class (page_at v p)) ⊎ (has_number p q.full ≡ false)
       → ReturnsPage p v q q' → SortedBut named' v q'

@@ -9,7 +9,8 @@ use Rattle.sh_queue.proofs.PutBack.{has_number-from_without, has_number-in_back}
 use Rattle.sh_queue.proofs.ClassQueues.{has_number-at_front, has_number-at_back, has_number-among_full}
 use Rattle.sh_queue.proofs.ClassQueues.{has_number-one_more_segment, class_queue-at_front_same}
 use Rattle.sh_queue.proofs.ClassQueues.{class_queue-at_back_same}
-use Rattle.sh_queue.proofs.StandOnce.{EachOnce-at_front, EachOnce-at_back}
+use Rattle.sh_queue.proofs.StandOnce.{EachOnce-at_front, EachOnce-at_back, EachOnce-among_full}
+use Rattle.sh_queue.proofs.StandOnce.{EachOnce-one_more_segment}
 use Rattle.sh_queue.proofs.PagePlaces.{class_apart, classes_apart, full_opened}
 use Rattle.sh_pass.specs.Owners.{SeenPage}
 use Rattle.sh_shard.specs.Pages.{Paged, page_at, seen_class, WorksOn, PageInserts, NothingMine, GivesClass, BellReads}
@@ -24,6 +25,7 @@ or_right false is = is
 pub sorted_opened : (v : Paged) (q : PageQueues) → SortedPages v q → (q' : PageQueues) → q.unopened ≢ 0 → q'
     ≡ one_more_segment q → SortedPages v q'
 sorted_opened v q sorted q' some moved = subst (SortedPages v) (sym moved) (record {
+  once = EachOnce-one_more_segment q sorted.once;
   all = let a = sorted.all in let s = some_more q.unopened some in omega arith;
   later = λ p from upto. sorted.later p (omega arith) upto;
   classes = sorted.classes;
@@ -40,14 +42,15 @@ sorted_opened v q sorted q' some moved = subst (SortedPages v) (sym moved) (reco
 
 -- ---- moves
 
-module _ (v : Paged) (q : PageQueues) (sorted : SortedPages v q) (once : EachOnce q) where
+module _ (v : Paged) (q : PageQueues) (sorted : SortedPages v q) where
   eight : length q.classes ≡ 8
-  eight = once.classes
+  eight = sorted.once.classes
 
   -- to the back of its class
-  pub sorted_back : (q' : PageQueues) (c p : ℕ) → c < 8 → (page_at v p).class ≡ Some (c + 1) → q' ≡ at_back c p q
-      → SortedPages v q'
-  sorted_back q' c p class is moved = subst (SortedPages v) (sym moved) (record {
+  pub sorted_back : (q' : PageQueues) (c p : ℕ) → c < 8 → p < q.opened → (page_at v p).class ≡ Some (c + 1)
+      → q' ≡ at_back c p q → SortedPages v q'
+  sorted_back q' c p class inside is moved = subst (SortedPages v) (sym moved) (record {
+    once = EachOnce-at_back c p q sorted.once class inside;
     all = sorted.all;
     later = sorted.later;
     classes = λ d r here. ⊎_elim
@@ -60,8 +63,10 @@ module _ (v : Paged) (q : PageQueues) (sorted : SortedPages v q) (once : EachOnc
   })
 
   -- to the full queue
-  pub sorted_full : (q' : PageQueues) (p : ℕ) → FullPage (page_at v p) → q' ≡ among_full p q → SortedPages v q'
-  sorted_full q' p is moved = subst (SortedPages v) (sym moved) (record {
+  pub sorted_full : (q' : PageQueues) (p : ℕ) → p < q.opened → FullPage (page_at v p) → q' ≡ among_full p q
+      → SortedPages v q'
+  sorted_full q' p inside is moved = subst (SortedPages v) (sym moved) (record {
+    once = EachOnce-among_full p q sorted.once inside;
     all = sorted.all;
     later = sorted.later;
     classes = λ d r here. sorted.classes d r (has_number-among_full 0 p q d r here);
@@ -76,6 +81,7 @@ module _ (v : Paged) (q : PageQueues) (sorted : SortedPages v q) (once : EachOnc
   pub sorted_given : (w : Paged) (q' : PageQueues) (c p : ℕ) → c < 8 → p < q.opened → GivesClass p c v w → q'
       ≡ at_front c p q → SortedPages w q'
   sorted_given w q' c p class inside given moved = subst (SortedPages w) (sym moved) (record {
+    once = once_now;
     all = sorted.all ∙ sym given.count;
     later = λ r from upto. ap (λ (g : SeenPage). g.class) (given.others r (λ (is : r ≡ p). absurd (omega arith)))
         ∙ sorted.later r from (let e = given.count in omega arith);
@@ -97,7 +103,7 @@ module _ (v : Paged) (q : PageQueues) (sorted : SortedPages v q) (once : EachOnc
     now = at_front c p q
 
     once_now : EachOnce now
-    once_now = EachOnce-at_front c p q once class inside
+    once_now = EachOnce-at_front c p q sorted.once class inside
 
     stands : has_number p (class_queue now c) ≡ true
     stands = ap (has_number p) (class_queue-at_front_same c p q (let e = eight in omega arith))
@@ -125,7 +131,8 @@ module _ (v : Paged) (q : PageQueues) (sorted : SortedPages v q) (once : EachOnc
       → (page_at w p).class ≡ (page_at v p).class
       → ((r : ℕ) → r ≢ p → page_at w r ≡ page_at v r) → SortedPages w q
   sorted_on w c p here count inside class others =
-      let apart = class_apart p q once c here in record {
+      let apart = class_apart p q sorted.once c here in record {
+        once = sorted.once;
         all = sorted.all ∙ sym count;
         later = λ r from upto. ap (λ (g : SeenPage). g.class) (others r (λ (is : r ≡ p). absurd (omega arith)))
             ∙ sorted.later r from (omega arith);
@@ -141,7 +148,7 @@ module _ (v : Paged) (q : PageQueues) (sorted : SortedPages v q) (once : EachOnc
             (cases_eq r p)
 
   class_inside : (c p : ℕ) → has_number p (class_queue q c) ≡ true → p < q.opened
-  class_inside c p here = Rattle.sh_queue.proofs.PagePlaces.class_opened p q once c here
+  class_inside c p here = Rattle.sh_queue.proofs.PagePlaces.class_opened p q sorted.once c here
 
   pub sorted_works : (w : Paged) (c p : ℕ) → has_number p (class_queue q c) ≡ true → WorksOn p v w → SortedPages w q
   sorted_works w c p here k = sorted_on w c p here k.count (class_inside c p here) k.class k.others
@@ -194,6 +201,7 @@ module _ (v w : Paged) (q : PageQueues) (p : ℕ) (sorted : SortedPages v q) (al
   -- the page was not full
   pub sorted_altered : has_number p q.full ≡ false → SortedPages w q
   sorted_altered none = record {
+    once = sorted.once;
     all = sorted.all ∙ sym alters.count;
     later = λ r from upto. alters.class r ∙ sorted.later r from (let e = alters.count in omega arith);
     classes = λ d r here. alters.class r ∙ sorted.classes d r here;
@@ -206,6 +214,7 @@ module _ (v w : Paged) (q : PageQueues) (p : ℕ) (sorted : SortedPages v q) (al
   pub sorted_returned : (q' : PageQueues) (word d : ℕ) → EachOnce q → p < q.opened → (page_at w p).class ≡ Some word
       → d + 1 ≡ word → d < 8 → q' ≡ at_back d p q → SortedPages w q'
   sorted_returned q' word d once inside class next few moved = subst (SortedPages w) (sym moved) (record {
+    once = EachOnce-at_back d p q once few inside;
     all = sorted.all ∙ sym alters.count;
     later = λ r from upto. alters.class r ∙ sorted.later r from (let e = alters.count in omega arith);
     classes = λ e r here. ⊎_elim
@@ -240,14 +249,14 @@ not_full p q once beyond = go (has_number p q.full) refl where
 
 -- ---- after a try of a page of a class
 
-module _ (v w : Paged) (q : PageQueues) (c p : ℕ) (value : List ℕ) (sorted : SortedPages v q) (once : EachOnce q)
+module _ (v w : Paged) (q : PageQueues) (c p : ℕ) (value : List ℕ) (sorted : SortedPages v q)
     (here : has_number p (class_queue q c) ≡ true) where
   pub sorted_tried : (A : Type 0) (r : Option ℕ) → MatchOption r (WorksOn p v w × A)
       (λ key. PageInserts p value key v w) → SortedPages w q
-  sorted_tried A None t = sorted_works v q sorted once w c p here t.0
-  sorted_tried A (Some key) t = sorted_inserts v q sorted once w c p key value here t
+  sorted_tried A None t = sorted_works v q sorted w c p here t.0
+  sorted_tried A (Some key) t = sorted_inserts v q sorted w c p key value here t
 
   pub sorted_used : (A : Type 0) (r : Option ℕ) → MatchOption r ((w ≡ v) × A) (λ key. PageInserts p value key v w)
       → SortedPages w q
   sorted_used A None t = subst (λ z. SortedPages z q) (sym t.0) sorted
-  sorted_used A (Some key) t = sorted_inserts v q sorted once w c p key value here t
+  sorted_used A (Some key) t = sorted_inserts v q sorted w c p key value here t

@@ -1,7 +1,7 @@
 -- How pages come back from the full queue, and how the pages of an adopted shard are put into their queues.
 use Rattle.std.specs.Prelude.{◌≡◌, ◌≢◌, ℕ, ◌+◌, ◌*◌, ◌<◌, ◌≤◌, ◌⊎◌, true, List, [], ◌++◌, length, Option, Some, None}
 use Rattle.sh_queue.specs.Numbers.{has_number, RisesFrom}
-use Rattle.sh_queue.specs.Queues.{PageQueues, FilingQueues, class_queue}
+use Rattle.sh_queue.specs.Queues.{PageQueues, FilingQueues, EachOnce, class_queue}
 use Rattle.sh_shard.specs.Pages.{Paged, page_at, seen_class}
 use Rattle.sh_shard.specs.Filing.{FilesRising}
 use Rattle.sh_shard.specs.Shards.{FullPage, ReturnsPage}
@@ -9,6 +9,7 @@ use Rattle.sh_shard.specs.Shards.{FullPage, ReturnsPage}
 -- each page is in the queue where it belongs, except that a named page in the full queue may have a slot or a cursor,
 -- or not be armed
 pub record SortedBut (named : ℕ → Type 0) (v : Paged) (q : PageQueues) : Type 0 where
+  pub once : EachOnce q
   pub all : q.opened + 8 * q.unopened ≡ v.count
   pub later : (p : ℕ) → q.opened ≤ p → p < v.count → (page_at v p).class ≡ Some 0
   pub classes : (c p : ℕ) → has_number p (class_queue q c) ≡ true → (page_at v p).class ≡ Some (c + 1)

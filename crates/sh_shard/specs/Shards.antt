@@ -36,8 +36,9 @@ pub record FullPage (g : SeenPage) : Type 0 where
   pub cursor : g.cursor ≡ None
   pub mine : NothingMine g
 
--- each page is where it belongs: in the queue of its class, in the full queue, or blank
+-- each page is where it belongs, once: in the queue of its class, in the full queue, or blank
 pub record SortedPages (v : Paged) (q : PageQueues) : Type 0 where
+  pub once : EachOnce q
   pub all : q.opened + 8 * q.unopened ≡ v.count
   pub later : (p : ℕ) → q.opened ≤ p → p < v.count → (page_at v p).class ≡ Some 0
   pub classes : (c p : ℕ) → has_number p (class_queue q c) ≡ true → (page_at v p).class ≡ Some (c + 1)
@@ -290,7 +291,7 @@ MovesNothing o n = GainsSlot None o.pages n.pages × (n.queues ≡ o.queues)
 -- queue rises. Or no shard has this number, or it has an owner, or memory was refused.
 abbrev pub AdoptServes : ℕ → Caller → Result Sharded (Caller × Refusal) → Type 0
 AdoptServes k v (Ok n) = (k < v.view.shape.shards) × AdoptsShard v k n.pages × OpensClassed n.pages n.queues
-    × FilesRising n.queues × SortedPages n.pages n.queues × EachOnce n.queues
+    × FilesRising n.queues × SortedPages n.pages n.queues
 AdoptServes k v (Err r) = AdoptRefused k v r.0 r.1
 
 -- the shard is left, or leaving waits for others and the shard is returned

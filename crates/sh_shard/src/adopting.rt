@@ -35,7 +35,6 @@ impl<L: KeyLayout, H: KeepsHeap<L>> Shard<L, H> {
             Ok(queues) => {
                 let shard = Shard { pages, queues };
                 let _known = shard.standing();
-                let _known = shard.sorted();
                 Ok(shard)
             }
             Err(refusal) => Err((pages.give_up(), refusal)),

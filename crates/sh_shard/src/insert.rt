@@ -84,7 +84,6 @@ impl<L: KeyLayout, H: KeepsHeap<L>> Shard<L, H> {
         ensures queues { self.new.queues ≡ self.old.queues }
         ensures steps { IfSome result (λ _. TakesSteps (length value.now + 2) self.old.pages self.new.pages) }
     {
-        let _known = self.queues.opened();
         self.pages.use_slot(page as u64, value)
     }
 }

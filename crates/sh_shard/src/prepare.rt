@@ -51,7 +51,6 @@ impl<L: KeyLayout, H: KeepsHeap<L>> Shard<L, H> {
         requires spare { NoneSpare class self.old.pages }
         ensures { PrepareServes class self.old result self.new }
     {
-        let _known = self.queues.opened();
         if self.queues.unopened() == 0 {
             return Err(Refusal::Full);
         }
@@ -68,7 +67,6 @@ impl<L: KeyLayout, H: KeepsHeap<L>> Shard<L, H> {
         ensures { MatchOption result ((self.new ≡ self.old) × NoneOpenedBlank self.old)
             (λ page. PreparesPage class page self.old self.new) }
     {
-        let _known = self.queues.opened();
         let Some(page) = self.queues.blank() else {
             return None;
         };
@@ -88,7 +86,6 @@ impl<L: KeyLayout, H: KeepsHeap<L>> Shard<L, H> {
         let Some(page) = self.spare(class) else {
             return None;
         };
-        let _known = self.queues.opened();
         self.pages.give_class(page as u64, class);
         self.queues.to_front(class, page);
         Some(page)

@@ -20,10 +20,8 @@ pub(crate) fn return_all<L: KeyLayout, H: KeepsHeap<L>>(pages: &Pages<L, H>, que
 {
     let opened = queues.opened();
     for page in 0..opened {
-        let _known = queues.opened();
         return_page(pages, queues, page as u64);
     }
-    let _known = queues.opened();
 }
 
 // Moves a page that gained a slot back to its class, if it was full.
@@ -40,7 +38,6 @@ pub(crate) fn return_one<L: KeyLayout, H: KeepsHeap<L>>(
     let Some(page) = gained else {
         return;
     };
-    let _known = queues.opened();
     return_page(pages, queues, page);
 }
 

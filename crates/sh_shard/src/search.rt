@@ -48,7 +48,6 @@ impl<L: KeyLayout, H: KeepsHeap<L>> Shard<L, H> {
             return None;
         };
         for _turn in 0..opened {
-            let _known = self.queues.opened();
             let Some(page) = self.queues.front(c) else {
                 return None;
             };
@@ -76,7 +75,6 @@ impl<L: KeyLayout, H: KeepsHeap<L>> Shard<L, H> {
         ensures steps { MatchOption result (StepsAtMost 4 self.old.pages.owner self.new.pages.owner)
             (λ _. StepsAtMost (length value.now + 54) self.old.pages.owner self.new.pages.owner) }
     {
-        let _known = self.queues.opened();
         self.pages.try_page(page as u64, value)
     }
 
@@ -90,7 +88,6 @@ impl<L: KeyLayout, H: KeepsHeap<L>> Shard<L, H> {
             (λ _. Unit {0}) }
         ensures { SetsAside c page self.old self.new }
     {
-        let _known = self.queues.opened();
         if self.pages.has_cursor(page as u64) {
             self.queues.to_back(c, page);
         } else {

@@ -28,13 +28,13 @@ pub loop-page-preserved : goal.loop-page-preserved
 loop-page-preserved g c =
     let i = c.loop-page.invariant in record {
       sorted = but_returned c.args.pages.now c.loop-page.queues c.return_page.new.queues c.loop-page.page
-          (λ p. c.loop-page.page ≤ p) (λ p. c.loop-page.page + 1 ≤ p) i.sorted c.opened-known.ensures.once
+          (λ p. c.loop-page.page ≤ p) (λ p. c.loop-page.page + 1 ≤ p) i.sorted
           (λ r none other. later c.loop-page.page r none other)
           (full_classed c.args.pages.now c.loop-page.queues c.loop-page.page _ i.sorted) c.return_page.ensures;
       opened = returns_opened c.loop-page.page c.args.pages.now c.loop-page.queues c.return_page.new.queues
           c.return_page.ensures ∙ i.opened;
       rising = returned_more c.loop-page.page c.args.pages.now c.args.queues.now c.loop-page.queues
-          c.return_page.new.queues i.rising c.opened-known.ensures.once
+          c.return_page.new.queues i.rising i.sorted.once
           (λ here. i.sorted.word c.loop-page.page here) c.return_page.ensures;
       each = returns_below_more c.loop-page.page c.args.pages.now c.args.queues.now c.loop-page.queues
           c.return_page.new.queues i.each c.return_page.ensures;
@@ -54,5 +54,5 @@ returns-clause-each g c = record {
 pub returns-clause-sorted : goal.returns-clause-sorted
 returns-clause-sorted g c = but_none c.args.pages.now c.loop-page.queues (λ p. c.loop-page.page ≤ p)
     c.loop-page.invariant.sorted
-    (λ p here from. let inside = full_opened p c.loop-page.queues c.opened-known-2.ensures.once here
+    (λ p here from. let inside = full_opened p c.loop-page.queues c.loop-page.invariant.sorted.once here
     in let o = c.loop-page.invariant.opened in let l = c.loop-page-test.false in omega arith)

@@ -17,7 +17,7 @@ returns-clause-moved g c = subst (λ (z : Option ℕ). ReturnsGained z c.args.pa
 pub returns-clause-sorted : goal.returns-clause-sorted
 returns-clause-sorted g c = but_none c.args.pages.now c.return_page.new.queues (λ r. ⊥)
     (but_returned c.args.pages.now c.args.queues.now c.return_page.new.queues c.in-Some.page
-    (λ p. c.args.gained ≡ Some p) (λ r. ⊥) c.requires.sorted c.opened-known.ensures.once (λ r none other is. other
+    (λ p. c.args.gained ≡ Some p) (λ r. ⊥) c.requires.sorted (λ r none other is. other
     (let e : Some r ≡ Some c.in-Some.page = sym is ∙ c.in-Some.is in let f : r ≡ c.in-Some.page = cc in f))
     (full_classed c.args.pages.now c.args.queues.now c.in-Some.page _ c.requires.sorted) c.return_page.ensures)
     (λ p here no. no)

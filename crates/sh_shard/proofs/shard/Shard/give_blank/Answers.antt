@@ -12,7 +12,7 @@ give_class-requires-clause-may g c = inl (c.self.invariant.blank c.in-Some.page
 
 pub invariant_of-self : goal.invariant_of-self
 invariant_of-self g c = sorted_given c.self.inside.pages c.self.inside.queues c.self.invariant
-    c.opened-known.ensures.once c.give_class.new.self c.to_front.new.self c.args.class c.in-Some.page c.requires
+    c.give_class.new.self c.to_front.new.self c.args.class c.in-Some.page c.requires
     c.in-Some.ensures.opened c.give_class.ensures c.to_front.ensures
 
 pub returns : goal.returns
@@ -23,9 +23,9 @@ returns g c =
     (front_blank c.in-Some.page c.self.inside.queues (sym c.blank.ensures.front ∙ c.in-Some.is)) in
     let lowest : IsLowest IsBlank c.in-Some.page c.self.inside.pages = lowest_blank
     (record { pages = c.self.inside.pages; queues = c.self.inside.queues }) c.self.invariant
-    c.opened-known.ensures.once c.in-Some.page c.in-Some.ensures.opened was c.in-Some.ensures.lowest in
+    c.self.invariant.once c.in-Some.page c.in-Some.ensures.opened was c.in-Some.ensures.lowest in
     subst P c.self.view_is (prepared c.self.inside.pages c.give_class.new.self c.self.inside.queues c.to_front.new.self
-    c.args.class c.in-Some.page c.self.invariant c.opened-known.ensures.once c.requires c.in-Some.ensures.opened
+    c.args.class c.in-Some.page c.self.invariant c.self.invariant.once c.requires c.in-Some.ensures.opened
     (inl (c.in-Some.ensures.opened, lowest)) (blank_other c.args.class (page_at c.self.inside.pages c.in-Some.page) was)
     c.give_class.ensures c.to_front.ensures)
 
@@ -33,5 +33,5 @@ pub returns-in_default : goal.returns-in_default
 returns-in_default g c =
     let none : NoneOpenedBlank (record { pages = c.self.inside.pages; queues = c.self.inside.queues }) =
     none_opened_blank (record { pages = c.self.inside.pages; queues = c.self.inside.queues }) c.self.invariant
-    c.opened-known.ensures.once (sym c.blank.ensures.front ∙ c.in_default.is) in
+    c.self.invariant.once (sym c.blank.ensures.front ∙ c.in_default.is) in
     (refl, subst NoneOpenedBlank c.self.view_is none)

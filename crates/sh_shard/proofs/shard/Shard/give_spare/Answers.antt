@@ -18,7 +18,7 @@ invariant_of-self g c =
     let e = c.self.view_is ∙ c.in-Some.ensures.same in
     let inside : c.in-Some.page < c.self.inside.queues.opened = subst
     (λ (z : Sharded). c.in-Some.page < z.queues.opened) (sym e) c.in-Some.ensures.lowest.0 in
-    sorted_given c.self.inside.pages c.self.inside.queues c.self.invariant c.opened-known.ensures.once
+    sorted_given c.self.inside.pages c.self.inside.queues c.self.invariant
     c.give_class.new.self c.to_front.new.self c.args.class c.in-Some.page c.requires.class inside c.give_class.ensures
     c.to_front.ensures
 
@@ -35,5 +35,5 @@ returns g c =
     let P : Sharded → Type 0 = λ z. PreparesPage c.args.class c.in-Some.page z
     (record { pages = c.give_class.new.self; queues = c.to_front.new.self }) in
     subst P e (prepared c.self.inside.pages c.give_class.new.self c.self.inside.queues c.to_front.new.self
-    c.args.class c.in-Some.page c.self.invariant c.opened-known.ensures.once c.requires.class inside
+    c.args.class c.in-Some.page c.self.invariant c.self.invariant.once c.requires.class inside
     (inr (inl (none, lowest))) lowest.here.other c.give_class.ensures c.to_front.ensures)

@@ -73,7 +73,7 @@ returns-then-page-last-clause-searched g c =
     ≡ Some c.in-Some-front.page = ap (λ (z : Sharded). slice_get (class_queue z.queues c.args.c) 0)
     (sym c.self-in-loop-turn.view_is) ∙ (sym c.front.ensures.front ∙ c.in-Some-front.is) in
     let once : EachOnce c.loop-turn.self.queues = subst (λ (z : Sharded). EachOnce z.queues) c.self-in-loop-turn.view_is
-    c.opened-known.ensures.once in
+    c.self-in-loop-turn.invariant.once in
     let sorted : SortedPages c.loop-turn.self.pages c.loop-turn.self.queues = subst
     (λ (z : Sharded). SortedPages z.pages z.queues) c.self-in-loop-turn.view_is c.self-in-loop-turn.invariant in
     let tried = c.in_default-try_page.ensures.tried in
@@ -88,7 +88,7 @@ loop-turn-preserved g c =
     ≡ Some c.in-Some-front.page = ap (λ (z : Sharded). slice_get (class_queue z.queues c.args.c) 0)
     (sym c.self-in-loop-turn.view_is) ∙ (sym c.front.ensures.front ∙ c.in-Some-front.is) in
     let once : EachOnce c.loop-turn.self.queues = subst (λ (z : Sharded). EachOnce z.queues) c.self-in-loop-turn.view_is
-    c.opened-known.ensures.once in
+    c.self-in-loop-turn.invariant.once in
     let tried = c.in_default-try_page.ensures.tried in
     let opened : c.set_aside.new.self.queues.opened ≡ c.loop-turn.self.queues.opened = settled_opened c.args.c
     c.in-Some-front.page c.try_page.new.self c.set_aside.new.self c.set_aside.ensures

@@ -1,4 +1,4 @@
-use Rattle.std.proofs.Common.{◌≡◌, MatchOption, true, refl, sym, subst}
+use Rattle.std.proofs.Common.{◌≡◌, ◌<◌, MatchOption, true, refl, sym, subst}
 use Rattle.sh_queue.specs.Numbers.{has_number}
 use Rattle.sh_queue.specs.Queues.{class_queue}
 use Rattle.sh_shard.specs.Pages.{page_at, NothingMine}
@@ -13,9 +13,10 @@ invariant_of-self g c =
     let here : has_number c.args.page (class_queue c.self.inside.queues c.args.c)
     ≡ true = subst (λ (z : Sharded). has_number c.args.page (class_queue z.queues c.args.c) ≡ true)
     (sym c.self.view_is) c.requires.here in
-    sorted_back c.self.inside.pages c.self.inside.queues c.self.invariant c.opened-known.ensures.once
-    c.to_back.new.self c.args.c c.args.page c.requires.class (c.self.invariant.classes c.args.c c.args.page here)
-    c.to_back.ensures
+    let inside : c.args.page < c.self.inside.queues.opened = subst (λ (z : Sharded). c.args.page < z.queues.opened)
+    (sym c.self.view_is) c.requires.inside in
+    sorted_back c.self.inside.pages c.self.inside.queues c.self.invariant c.to_back.new.self c.args.c c.args.page
+    c.requires.class inside (c.self.invariant.classes c.args.c c.args.page here) c.to_back.ensures
 
 pub invariant_of-self-else-has_cursor : goal.invariant_of-self-else-has_cursor
 invariant_of-self-else-has_cursor g c =
@@ -28,10 +29,11 @@ invariant_of-self-else-has_cursor g c =
     ((page_at c.self.inside.pages c.args.page).armed ≡ true) (λ _. Unit {0}) = subst
     (λ (z : Sharded). MatchOption (page_at z.pages c.args.page).cursor ((page_at z.pages c.args.page).armed ≡ true)
     (λ _. Unit {0})) (sym c.self.view_is) c.requires.waits in
-    sorted_full c.self.inside.pages c.self.inside.queues c.self.invariant c.opened-known.ensures.once
-    c.to_full.new.self c.args.page (full_page c.self.inside.pages c.self.inside.queues c.self.invariant
-    c.opened-known.ensures.once c.args.c c.args.page c.requires.class here nothing c.if-has_cursor.ensures waits)
-    c.to_full.ensures
+    let inside : c.args.page < c.self.inside.queues.opened = subst (λ (z : Sharded). c.args.page < z.queues.opened)
+    (sym c.self.view_is) c.requires.inside in
+    sorted_full c.self.inside.pages c.self.inside.queues c.self.invariant c.to_full.new.self c.args.page inside
+    (full_page c.self.inside.pages c.self.inside.queues c.self.invariant c.args.c c.args.page c.requires.class here
+    nothing c.if-has_cursor.ensures waits) c.to_full.ensures
 
 pub returns-then-has_cursor : goal.returns-then-has_cursor
 returns-then-has_cursor g c = subst (λ (o : Sharded). SetsAside c.args.c c.args.page o (record {

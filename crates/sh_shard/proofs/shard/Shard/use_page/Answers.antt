@@ -11,4 +11,4 @@ invariant_of-self g c =
     ≡ true = subst (λ (z : Sharded). has_number c.args.page (class_queue z.queues c.args.c) ≡ true)
     (sym c.self.view_is) c.requires.here in
     sorted_used c.self.inside.pages c.use_slot.new.self c.self.inside.queues c.args.c c.args.page _ c.self.invariant
-    c.opened-known.ensures.once here _ c.use_slot.result c.use_slot.ensures.used
+    here _ c.use_slot.result c.use_slot.ensures.used
