@@ -1,5 +1,5 @@
 // How pages come back from the full queue: once they have a free slot or a cursor, or are no longer armed.
-ghost use Rattle.std.specs.Prelude.{◌≡◌, ℕ, ◌<◌, Some, MatchBool, IfSome, true};
+ghost use Rattle.std.specs.Prelude.{◌≡◌, ℕ, ◌<◌, ◌≤◌, Some, MatchBool, IfSome, true};
 ghost use Rattle.sh_queue.specs.Numbers.{has_number};
 ghost use Rattle.sh_shard.specs.Pages.{page_at, seen_class};
 ghost use Rattle.sh_shard.specs.Shards.{FullPage, SortedPages, ReturnsPage, ReturnsEach};
@@ -45,6 +45,7 @@ pub(crate) fn return_one<L: KeyLayout, H: KeepsHeap<L>>(
 fn return_page<L: KeyLayout, H: KeepsHeap<L>>(pages: &Pages<L, H>, queues: &mut Queues, page: u64)
     requires inside { page < pages.now.count }
     requires classed { has_number page queues.old.full ≡ true → 0 < seen_class (page_at pages.now page) }
+    requires few { has_number page queues.old.full ≡ true → seen_class (page_at pages.now page) ≤ 8 }
     ensures { ReturnsPage page pages.now queues.old queues.new }
 {
     let opened = queues.opened();
@@ -65,9 +66,9 @@ fn return_page<L: KeyLayout, H: KeepsHeap<L>>(pages: &Pages<L, H>, queues: &mut 
 fn is_full<L: KeyLayout, H: KeepsHeap<L>>(pages: &Pages<L, H>, page: u64) -> bool
     requires inside { page < pages.now.count }
     requires classed { 0 < seen_class (page_at pages.now page) }
+    requires few { seen_class (page_at pages.now page) ≤ 8 }
     ensures { MatchBool result (FullPage (page_at pages.now page)) (¬ FullPage (page_at pages.now page)) }
 {
-    let _known = pages.class_word(page);
     if !pages.is_armed(page) {
         return false;
     }

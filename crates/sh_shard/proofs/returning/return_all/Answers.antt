@@ -20,6 +20,9 @@ return_page-requires-clause-inside g c = let a = c.loop-page.invariant.sorted.al
 pub return_page-requires-clause-classed : goal.return_page-requires-clause-classed
 return_page-requires-clause-classed g c = λ here. (c.loop-page.invariant.sorted.word c.loop-page.page here).0
 
+pub return_page-requires-clause-few : goal.return_page-requires-clause-few
+return_page-requires-clause-few g c = λ here. (c.loop-page.invariant.sorted.word c.loop-page.page here).1
+
 later : (k r : ℕ) → ((k + 1 ≤ r) → ⊥) → r ≢ k → (k ≤ r) → ⊥
 later k r none other from = ⊎_elim (λ (h : k < r). none (omega arith)) (λ (h : r ≤ k). other (omega arith))
     (cases_lt k r)

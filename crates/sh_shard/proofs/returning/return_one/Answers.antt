@@ -6,6 +6,9 @@ use Rattle.sh_shard.proofs.returning.return_one.Goals as goal
 pub return_page-requires-clause-classed : goal.return_page-requires-clause-classed
 return_page-requires-clause-classed g c = λ here. (c.requires.sorted.word c.in-Some.page here).0
 
+pub return_page-requires-clause-few : goal.return_page-requires-clause-few
+return_page-requires-clause-few g c = λ here. (c.requires.sorted.word c.in-Some.page here).1
+
 pub returns-in_default-clause-moved : goal.returns-in_default-clause-moved
 returns-in_default-clause-moved g c = subst (λ (z : Option ℕ). ReturnsGained z c.args.pages.now c.args.queues.now
     c.args.queues.now) (sym c.in_default.is) refl
