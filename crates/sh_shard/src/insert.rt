@@ -4,7 +4,7 @@ ghost use Rattle.sh_queue.specs.Numbers.{has_number};
 ghost use Rattle.sh_queue.specs.Queues.{class_queue};
 ghost use Rattle.sh_shape.specs.Classes.{width};
 ghost use Rattle.sh_shard.specs.Pages.{page_at, NothingMine, NamesSlot, PageInserts, TakesSteps};
-ghost use Rattle.sh_shard.specs.Shards.{InsertServes, IsQuick, DoneIn};
+ghost use Rattle.sh_shard.specs.Shards.{SortedPages, InsertServes, IsQuick, DoneIn};
 ghost use Rattle.sh_shard.specs.Bounds.{InsertIsBounded};
 ghost use Rattle.sh_shard.specs.Finding.{StoresAtFront, InsertsElsewhere};
 
@@ -38,7 +38,6 @@ impl<L: KeyLayout, H: KeepsHeap<L>> Shard<L, H> {
         if let Some(key) = self.look(c, value) {
             return Ok(key);
         }
-        let _known = self.sorted();
         self.insert_in_another(c, value)
     }
 
@@ -46,7 +45,8 @@ impl<L: KeyLayout, H: KeepsHeap<L>> Shard<L, H> {
     fn insert_in_another(&mut self, c: u32, value: &Value) -> Result<u64, Refusal>
         requires class { c < 8 }
         requires fits { length value.now ≤ width c }
-        ensures { InsertsElsewhere L.layout c value.now self.old result self.new }
+        ensures inserts { InsertsElsewhere L.layout c value.now self.old result self.new }
+        ensures sorted { SortedPages self.old.pages self.old.queues }
     {
         match self.give_page(c) {
             Err(refusal) => Err(refusal),

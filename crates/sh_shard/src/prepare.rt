@@ -4,7 +4,7 @@ ghost use Rattle.std.specs.Prelude.{slice_get};
 ghost use Rattle.sh_queue.specs.Queues.{one_more_segment};
 ghost use Rattle.sh_shard.specs.Pages.{page_at, NoneWhollyMine};
 ghost use Rattle.sh_shard.specs.Shards.{IsSpare, NoneSpare, NoneOpenedBlank, IsLowest, PreparesPage, PrepareServes};
-ghost use Rattle.sh_shard.specs.Shards.{StaysOwner};
+ghost use Rattle.sh_shard.specs.Shards.{SortedPages, StaysOwner};
 ghost use Rattle.sh_shard.specs.Bounds.{PrepareIsBounded};
 
 use crate::shard::Shard;
@@ -33,7 +33,8 @@ impl<L: KeyLayout, H: KeepsHeap<L>> Shard<L, H> {
     // Does what `prepare` does. An insert uses it too.
     pub(crate) fn give_page(&mut self, class: u32) -> Result<u32, Refusal>
         requires { class < 8 }
-        ensures { PrepareServes class self.old result self.new }
+        ensures serves { PrepareServes class self.old result self.new }
+        ensures sorted { SortedPages self.old.pages self.old.queues }
     {
         if let Some(page) = self.give_blank(class) {
             return Ok(page);
@@ -64,8 +65,9 @@ impl<L: KeyLayout, H: KeepsHeap<L>> Shard<L, H> {
     // Gives the lowest blank page the class.
     fn give_blank(&mut self, class: u32) -> Option<u32>
         requires { class < 8 }
-        ensures { MatchOption result ((self.new ≡ self.old) × NoneOpenedBlank self.old)
+        ensures given { MatchOption result ((self.new ≡ self.old) × NoneOpenedBlank self.old)
             (λ page. PreparesPage class page self.old self.new) }
+        ensures sorted { SortedPages self.old.pages self.old.queues }
     {
         let Some(page) = self.queues.blank() else {
             return None;

@@ -1,6 +1,7 @@
 // Reading armed pages from the shard's bell: a full page that is read from it goes back to its class.
 ghost use Rattle.std.specs.Prelude.{◌≡◌, ℕ, ◌+◌, ◌<◌, None, MatchOption, ◌||◌, ◌==◌};
 ghost use Rattle.sh_shard.specs.Pages.{BellTakes, BellStops, StepsForRings};
+ghost use Rattle.sh_shard.specs.Shards.{SortedPages};
 ghost use Rattle.sh_shard.specs.Searches.{Heard, Hears, BellWaits, RingsOut};
 
 use crate::shard::Shard;
@@ -24,7 +25,8 @@ impl<L: KeyLayout, H: KeepsHeap<L>> Shard<L, H> {
     // Follows the bell, takes it once it is at its end, and follows. Returns whether a page of the class was read.
     pub(crate) fn ring_out(&mut self, c: u32) -> bool
         requires class { c < 8 }
-        ensures { RingsOut c result self.old self.new }
+        ensures rings { RingsOut c result self.old self.new }
+        ensures sorted { SortedPages self.old.pages self.old.queues }
     {
         let first = self.read_rings(c);
         if self.pages.has_rings() {
@@ -41,11 +43,11 @@ impl<L: KeyLayout, H: KeepsHeap<L>> Shard<L, H> {
         ensures hears { Hears c result self.old self.new }
         ensures waits { BellWaits self.old self.new }
         ensures steps { StepsForRings 1 self.old.pages self.new.pages }
+        ensures sorted { SortedPages self.old.pages self.old.queues }
     {
         let mut read = false;
         let count = self.pages.count();
         for _turn in 0..count + 1 {
-            let _known = self.queues.opened();
             let Some(word) = self.read_bell() else {
                 return read;
             };
@@ -56,8 +58,9 @@ impl<L: KeyLayout, H: KeepsHeap<L>> Shard<L, H> {
 
     // One step on the bell: a page that is read goes to the back of its class, if it is full. Returns its class word.
     fn read_bell(&mut self) -> Option<u64>
-        ensures { MatchOption result ((self.new.queues ≡ self.old.queues) × BellStops self.old.pages self.new.pages)
-            (λ word. Heard word self.old self.new) }
+        ensures heard { MatchOption result ((self.new.queues ≡ self.old.queues)
+            × BellStops self.old.pages self.new.pages) (λ word. Heard word self.old self.new) }
+        ensures sorted { SortedPages self.old.pages self.old.queues }
     {
         let opened = self.queues.opened();
         let Some(page) = self.pages.follow_bell() else {

@@ -27,7 +27,6 @@ impl<L: KeyLayout, H: KeepsHeap<L>> Shard<L, H> {
         if let Some(key) = self.search(c, value) {
             return Some(key);
         }
-        let _known = self.sorted();
         if !self.ring_out(c) {
             return None;
         }

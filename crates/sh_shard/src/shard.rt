@@ -1,9 +1,8 @@
 //! Shards: the pages of an owner, and the queues that they are in.
 ghost use Rattle.std.specs.Prelude.{◌+◌, length};
-ghost use Rattle.sh_queue.specs.Queues.{EachOnce};
 ghost use Rattle.sh_pass.specs.Passes.{GetDoes, ReadDoes, ReadIntoDoes, RemoveDoes, ReleaseDoes};
 ghost use Rattle.sh_shard.specs.Bounds.{InsertIsBounded};
-ghost use Rattle.sh_shard.specs.Shards.{SortedPages, StaysOwner, InsertServes, IsQuick, DoneIn, value_class};
+ghost use Rattle.sh_shard.specs.Shards.{StaysOwner, InsertServes, IsQuick, DoneIn, value_class};
 ghost use Rattle.sh_shard.specs.Shards.{ReturnsSlot, MovesNothing};
 
 use crate::pages::Pages;
@@ -162,13 +161,5 @@ impl<L: KeyLayout, H: KeepsHeap<L>> Shard<L, H> {
         let (answer, gained) = self.pages.release_guard(guard);
         return_one(&self.pages, &mut self.queues, gained);
         answer
-    }
-
-    // What is known of the queues.
-    pub(crate) fn sorted(&self)
-        ensures sorted { SortedPages self.now.pages self.now.queues }
-        ensures once { EachOnce self.now.queues }
-    {
-        let _known = self.queues.opened();
     }
 }

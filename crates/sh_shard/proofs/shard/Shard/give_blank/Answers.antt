@@ -15,8 +15,8 @@ invariant_of-self g c = sorted_given c.self.inside.pages c.self.inside.queues c.
     c.give_class.new.self c.to_front.new.self c.args.class c.in-Some.page c.requires
     c.in-Some.ensures.opened c.give_class.ensures c.to_front.ensures
 
-pub returns : goal.returns
-returns g c =
+pub returns-clause-given : goal.returns-clause-given
+returns-clause-given g c =
     let P : Sharded → Type 0 = λ z. PreparesPage c.args.class c.in-Some.page z
     (record { pages = c.give_class.new.self; queues = c.to_front.new.self }) in
     let was : IsBlank (page_at c.self.inside.pages c.in-Some.page) = c.self.invariant.blank c.in-Some.page
@@ -29,8 +29,8 @@ returns g c =
     (inl (c.in-Some.ensures.opened, lowest)) (blank_other c.args.class (page_at c.self.inside.pages c.in-Some.page) was)
     c.give_class.ensures c.to_front.ensures)
 
-pub returns-in_default : goal.returns-in_default
-returns-in_default g c =
+pub returns-in_default-clause-given : goal.returns-in_default-clause-given
+returns-in_default-clause-given g c =
     let none : NoneOpenedBlank (record { pages = c.self.inside.pages; queues = c.self.inside.queues }) =
     none_opened_blank (record { pages = c.self.inside.pages; queues = c.self.inside.queues }) c.self.invariant
     c.self.invariant.once (sym c.blank.ensures.front ∙ c.in_default.is) in

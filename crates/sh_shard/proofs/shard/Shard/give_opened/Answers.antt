@@ -20,7 +20,7 @@ unreachable-requires g c =
     let some : c.args.self.now.queues.unopened ≢ 0 = λ none. c.if-unopened-eq0.false (c.unopened.ensures
     ∙ (ap (λ (z : Sharded). z.queues.unopened) c.self.view_is ∙ none)) in
     opened_has_blank c.args.self.now c.open_segment.new.self sorted some c.open_segment.ensures.pages
-    c.in_ok-open_segment.ensures.opened c.in-None.ensures.1
+    c.in_ok-open_segment.ensures.opened c.in-None.ensures.given.1
 
 pub returns : goal.returns
 returns g c =
@@ -30,4 +30,4 @@ returns g c =
     ∙ (ap (λ (z : Sharded). z.queues.unopened) c.self.view_is ∙ none)) in
     prepared_from c.args.self.now c.open_segment.new.self sorted some c.open_segment.ensures.pages
     c.in_ok-open_segment.ensures.opened c.args.class c.in-Some.page c.requires.blank c.requires.spare
-    c.give_blank.new.self c.in-Some.ensures
+    c.give_blank.new.self c.in-Some.ensures.given

@@ -3,9 +3,10 @@ use Rattle.sh_shard.proofs.shard.Shard.insert_slowly.Goals as goal
 
 pub returns-clause-serves : goal.returns-clause-serves
 returns-clause-serves g c = served_after _ c.args.c _ c.args.self.now c.look.new.self c.insert_in_another.new.self
-    c.requires.class c.in_default.ensures.looked c.sorted-known.ensures.sorted c.sorted-known.ensures.once
-    c.insert_in_another.result c.insert_in_another.ensures
+    c.requires.class c.in_default.ensures.looked c.insert_in_another.ensures.sorted
+    c.insert_in_another.ensures.sorted.once c.insert_in_another.result c.insert_in_another.ensures.inserts
 
 pub returns-clause-bounded : goal.returns-clause-bounded
 returns-clause-bounded g c = served_in g.L.KeyLayout.layout c.args.c c.args.value.now c.args.self.now c.look.new.self
-    c.insert_in_another.new.self c.insert_in_another.result c.in_default.ensures.looked c.insert_in_another.ensures
+    c.insert_in_another.new.self c.insert_in_another.result c.in_default.ensures.looked
+    c.insert_in_another.ensures.inserts

@@ -11,15 +11,15 @@ pub returns-then-not-ring_out-clause-looked : goal.returns-then-not-ring_out-cla
 returns-then-not-ring_out-clause-looked g c =
     let P : Bool → Type 0 = λ b. RingsOut c.args.c b c.search.new.self c.ring_out.new.self in
     tried_once c.args.c c.args.self.now c.search.new.self c.ring_out.new.self c.in_default.ensures.searched
-    c.sorted-known.ensures.sorted (subst P c.if-not-ring_out.true c.ring_out.ensures)
+    c.ring_out.ensures.sorted (subst P c.if-not-ring_out.true c.ring_out.ensures.rings)
 
 pub returns-clause-looked : goal.returns-clause-looked
 returns-clause-looked g c = looked_again g.L.KeyLayout.layout c.args.c c.args.value.now c.ring_out.result
     c.args.self.now c.search.new.self c.ring_out.new.self c.search-2.new.self c.search-2.result
-    c.if-not-ring_out.false c.in_default.ensures.searched c.sorted-known.ensures.sorted
-    c.sorted-known.ensures.once c.ring_out.ensures c.search-2.ensures.searched
+    c.if-not-ring_out.false c.in_default.ensures.searched c.ring_out.ensures.sorted
+    c.ring_out.ensures.sorted.once c.ring_out.ensures.rings c.search-2.ensures.searched
 
 pub returns-clause-steps : goal.returns-clause-steps
 returns-clause-steps g c = looked_in c.args.c (length c.args.value.now) c.ring_out.result c.args.self.now
     c.search.new.self c.ring_out.new.self c.search-2.new.self c.search-2.result c.in_default.ensures.searched
-    c.ring_out.ensures c.search-2.ensures.steps
+    c.ring_out.ensures.rings c.search-2.ensures.steps

@@ -6,11 +6,11 @@ use Rattle.sh_shard.proofs.shard.Shard.prepare.Goals as goal
 pub returns-clause-stays : goal.returns-clause-stays
 returns-clause-stays g c =
     let aside : Aside c.args.self.now.pages.owner c.give_page-answer.new.self.pages.owner = prepare_aside c.args.class
-    c.args.self.now c.give_page-answer.new.self c.give_page-answer.result c.give_page-answer.ensures in
+    c.args.self.now c.give_page-answer.new.self c.give_page-answer.result c.give_page-answer.ensures.serves in
     record {
       holds = c.standing-known-2.ensures;
       shard = prepare_shard c.args.class c.args.self.now c.give_page-answer.new.self c.give_page-answer.result
-          c.give_page-answer.ensures;
+          c.give_page-answer.ensures.serves;
       same = aside.same;
       remains = remains_aside g.L.KeyLayout.layout c.args.self.now c.give_page-answer.new.self c.standing-known.ensures
           c.standing-known-2.ensures aside;
@@ -18,4 +18,4 @@ returns-clause-stays g c =
 
 pub returns-clause-bounded : goal.returns-clause-bounded
 returns-clause-bounded g c = prepare_in c.args.class c.args.self.now c.give_page-answer.new.self
-    c.give_page-answer.result c.give_page-answer.ensures
+    c.give_page-answer.result c.give_page-answer.ensures.serves

@@ -35,8 +35,8 @@ invariant_of-self-2 g c =
     (full_opened c.in-Some.page c.self.inside.queues c.opened-opened.ensures.once here)
     c.class_word-word.ensures.word (omega arith) (omega arith) c.to_back.ensures
 
-pub returns-then-page-opened : goal.returns-then-page-opened
-returns-then-page-opened g c =
+pub returns-then-page-opened-clause-heard : goal.returns-then-page-opened-clause-heard
+returns-then-page-opened-clause-heard g c =
     let o = c.opened-opened.ensures.opened in
     let t = c.if-page-opened.true in
     subst (λ (z : Sharded). Heard c.class_word-word.result z (record {
@@ -46,16 +46,16 @@ returns-then-page-opened g c =
     c.self.inside.queues c.in-Some.ensures c.class_word-word.ensures.word
     (not_full c.in-Some.page c.self.inside.queues c.opened-opened.ensures.once (omega arith)))
 
-pub returns-then-not-in_full : goal.returns-then-not-in_full
-returns-then-not-in_full g c = subst (λ (z : Sharded). Heard c.class_word-word.result z (record {
+pub returns-then-not-in_full-clause-heard : goal.returns-then-not-in_full-clause-heard
+returns-then-not-in_full-clause-heard g c = subst (λ (z : Sharded). Heard c.class_word-word.result z (record {
   pages = c.follow_bell.new.self;
   queues = c.self.inside.queues;
 })) c.self.view_is (heard_still c.in-Some.page c.class_word-word.result c.self.inside.pages c.follow_bell.new.self
     c.self.inside.queues c.in-Some.ensures c.class_word-word.ensures.word
     (sym c.in_full.ensures ∙ c.if-not-in_full.true))
 
-pub returns : goal.returns
-returns g c =
+pub returns-clause-heard : goal.returns-clause-heard
+returns-clause-heard g c =
     let here : has_number c.in-Some.page c.self.inside.queues.full ≡ true = sym c.in_full.ensures
     ∙ c.if-not-in_full.false in
     subst (λ (z : Sharded). Heard c.class_word-word.result z (record {
