@@ -142,7 +142,7 @@ impl<L: KeyLayout, H: KeepsHeap<L>> Shard<L, H> {
         ensures same { OnErr result (self.new ≡ self.old) }
         ensures opened { OnOk result (self.new.queues ≡ one_more_segment self.old.queues) }
     {
-        let _first = self.queues.open_segment()?;
+        self.queues.open_segment()?;
         Ok(())
     }
 }

@@ -8,4 +8,4 @@ invariant_of-self-2 g c =
     let some : c.self.inside.queues.unopened ≢ 0 = subst (λ (z : Sharded). z.queues.unopened ≢ 0) (sym c.self.view_is)
     c.requires in
     sorted_opened c.self.inside.pages c.self.inside.queues c.self.invariant c.open_segment.new.self some
-    c.in_ok-_first.ensures.ok
+    c.in_ok-open_segment.ensures.ok
