@@ -126,7 +126,8 @@ impl<L: KeyLayout, H: KeepsHeap<L>> Owner<L, H> {
 
     /// How many pages each shard has.
     pub fn pages(&self) -> u64
-        ensures { result ≡ pages_of self.now.view.shape }
+        ensures is { result ≡ pages_of self.now.view.shape }
+        ensures same { self.now.view.shape ≡ self.now.heap.shape }
     {
         let heap = self.heap.kept();
         u64::from(heap.table.shape().pages())

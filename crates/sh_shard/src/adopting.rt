@@ -32,11 +32,7 @@ impl<L: KeyLayout, H: KeepsHeap<L>> Shard<L, H> {
     {
         let pages = Pages::adopt(alloc, pass, n)?;
         match queues_of(alloc, &pages) {
-            Ok(queues) => {
-                let shard = Shard { pages, queues };
-                let _known = shard.standing();
-                Ok(shard)
-            }
+            Ok(queues) => Ok(Shard { pages, queues }),
             Err(refusal) => Err((pages.give_up(), refusal)),
         }
     }

@@ -1,11 +1,11 @@
 //! The pages of an owner's shard. What is kept of each page is what the owner knows about it.
 ghost use Rattle.std.specs.Prelude.{◌≡◌, ℕ, ◌+◌, ◌^◌, ◌<◌, ◌≤◌, Option, None, Some, MatchOption};
-ghost use Rattle.std.specs.Prelude.{MatchBool, MatchResult, true, false};
+ghost use Rattle.std.specs.Prelude.{IfOk, MatchBool, MatchResult, true, false};
 ghost use Rattle.sh_slots.specs.declared.hand.Hand.TheVariants.{Idle};
 ghost use Rattle.sh_table.specs.Tales.{ViewStands};
 ghost use Rattle.sh_pass.specs.Owners.{HasNothing, own_body, seen_page};
-ghost use Rattle.sh_shard.specs.Pages.{page_at, AdoptsPages, AdoptsShard, CursorStands, NothingMine, ShardLeft};
-ghost use Rattle.sh_shard.specs.Pages.{WhollyMine, NoneWhollyMine, BlankHasNothing, seen_class};
+ghost use Rattle.sh_shard.specs.Pages.{page_at, AdoptsPages, AdoptsShard, CursorStands, HoldsPages, NothingMine};
+ghost use Rattle.sh_shard.specs.Pages.{ShardLeft, WhollyMine, NoneWhollyMine, BlankHasNothing, seen_class};
 ghost use Rattle.sh_shard.specs.Steps.{StepsAtMost};
 
 use sh_key::KeyLayout;
@@ -59,6 +59,7 @@ impl<L: KeyLayout, H: KeepsHeap<L>> Pages<L, H> {
         shard: u64,
     ) -> Result<Self, (Pass<L, H>, Refusal)>
         ensures adopts { AdoptsPages shard pass result }
+        ensures holds { IfOk result (HoldsPages L.layout) }
         ensures steps { MatchResult result (λ pages. StepsAtMost (pages.count + 1) pass pages.owner)
             (λ r. StepsAtMost 2 pass r.0) }
     {
@@ -84,6 +85,7 @@ impl<L: KeyLayout, H: KeepsHeap<L>> Pages<L, H> {
         requires stands { ViewStands L.layout owner.view }
         ensures begins { MatchResult result (λ pages. AdoptsShard owner shard pages)
             (λ back. ShardLeft owner back) }
+        ensures holds { IfOk result (HoldsPages L.layout) }
         ensures steps { MatchResult result (λ pages. StepsAtMost pages.count owner pages.owner)
             (λ back. StepsAtMost 1 owner back) }
     {

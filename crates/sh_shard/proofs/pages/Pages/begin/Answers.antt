@@ -1,5 +1,6 @@
-use Rattle.std.proofs.Common.{length, ap, ◌∙◌, arith}
+use Rattle.std.proofs.Common.{length, refl, ap, ◌∙◌, sym, arith}
 use Rattle.std.proofs.lemmas.List.{length-set}
+use Rattle.sh_table.specs.Seats.{Heap}
 use Rattle.sh_shard.proofs.Beginning.{reading_more, state_of}
 use Rattle.sh_shard.proofs.pages.Pages.begin.Goals as goal
 
@@ -14,4 +15,15 @@ loop-page-preserved g c =
           c.read_page-class_word.ensures.bells c.read_page-class_word.ensures.page
           c.read_page-class_word.ensures.does.stands c.read_page-class_word.ensures.few c.set_word.ensures;
       all = ap length c.set_word.ensures ∙ (length-set c.loop-page.states c.loop-page.page (state_of word) ∙ i.all);
+    }
+
+pub returns-clause-holds : goal.returns-clause-holds
+returns-clause-holds g c =
+    let r = c.loop-page.invariant.reading in
+    record {
+      stands = r.stands;
+      idle = r.idle;
+      owned = r.owned;
+      shape = r.aside.same.shape ∙ (c.pages-count.ensures.same ∙ ap (λ (h : Heap). h.shape) (sym r.aside.heap));
+      bell = refl;
     }
