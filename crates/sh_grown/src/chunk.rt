@@ -1,36 +1,51 @@
 //! The chunks of a growing heap as wholes: their passes are joined, and their pages counted.
-ghost use Rattle.std.specs.Prelude.{◌≡◌, ◌<◌, IfErr, IfSome, length};
+ghost use Rattle.std.specs.Prelude.{◌≡◌, IfErr, IfSome};
 ghost use Rattle.sh_chunk.specs.Chunks.{chunked};
 ghost use Rattle.sh_whole.specs.Homes.{GathersPool, TellsAccounts, TellsTotals};
-ghost use Rattle.sh_grown.specs.Wholes.{WhyUngathered};
+ghost use Rattle.sh_grown.specs.Wholes.{IsChunkOf, OpensNext, WhyUngathered};
 
 use crate::growing::Growing;
+use once_cell::race::Note;
 use sh_chunk::Chunked;
 use sh_gather::{Accounts, Totals};
-use sh_pool::Pool;
+use sh_pool::{Pool, Share};
 use sh_shape::Shape;
+use sh_value::Refusal;
 use sh_whole::{NotTold, gather_pool, pool_accounts, pool_totals};
 use std::alloc::Global;
 use std::marker::Model;
 
-/// A chunk of a growing heap that is open. A contract sees the chunk's heap.
+/// A chunk of a growing heap that is open. A contract sees its number, its heap, and the name of the cell that has it.
 #[derive(Drop)]
 pub struct Chunk<'a> {
+    number: usize,
     pool: &'a Pool<Chunked>,
+    // What is known of the cell that the chunk is in.
+    note: Note<Share<Chunked>>,
 }
 
 impl<'a> Model for Chunk<'a> {
-    ghost use Rattle.sh_table.specs.Seats.{Heap};
+    ghost use Rattle.std.specs.Prelude.{◌≡◌, Some};
+    ghost use Rattle.sh_grown.specs.Wholes.{SeenChunk};
 
-    ghost Value = { Heap };
+    ghost Value = { SeenChunk };
 
-    ghost view = { λ c. c.pool.now };
+    ghost view = { λ c. record { number = c.number; heap = c.pool.now; cell = c.note.cell } };
+
+    ghost invariant = { λ c. c.note.known ≡ Some c.pool.now };
 }
 
 impl<'a> Chunk<'a> {
+    /// Its number, from 0: that in bits 56 to 63 of its keys.
+    pub fn number(&self) -> usize
+        ensures { result ≡ self.now.number }
+    {
+        self.number
+    }
+
     /// The shape of its heap.
     pub fn shape(&self) -> &Shape
-        ensures { result.now ≡ self.now.shape }
+        ensures { result.now ≡ self.now.heap.shape }
     {
         self.pool.shape()
     }
@@ -38,7 +53,7 @@ impl<'a> Chunk<'a> {
     /// Joins all its passes in one, which is the last one. Refused as `Away` if a caller has its pass, or if one was
     /// lost that was not joined before. Refused as `Memory` too; neither joins any.
     pub fn gather(&self, alloc: Global) -> Result<(), NotTold>
-        ensures { GathersPool self.now result }
+        ensures { GathersPool self.now.heap result }
     {
         gather_pool(alloc, self.pool)
     }
@@ -46,7 +61,7 @@ impl<'a> Chunk<'a> {
     /// The sums over all its pages, once it was gathered. Refused as `Away` if the joined pass is not in its pool slot.
     /// It takes no memory.
     pub fn totals(&self) -> Result<Totals, NotTold>
-        ensures { TellsTotals chunked self.now result }
+        ensures { TellsTotals chunked self.now.heap result }
     {
         pool_totals(self.pool)
     }
@@ -54,7 +69,7 @@ impl<'a> Chunk<'a> {
     /// The accounts of one of its pages, once it was gathered. Refused as `totals` is, and as `NoPage` exactly if it
     /// has no such page.
     pub fn accounts(&self, shard: u32, page: u32) -> Result<Accounts, NotTold>
-        ensures { TellsAccounts chunked self.now shard page result }
+        ensures { TellsAccounts chunked self.now.heap shard page result }
     {
         pool_accounts(self.pool, shard, page)
     }
@@ -74,10 +89,57 @@ impl Growing {
     /// }
     /// ```
     pub fn chunk(&self, number: usize) -> Option<Chunk<'_>>
-        ensures { IfSome result (λ _. number < length self.now.cells.items) }
+        ensures number { IfSome result (λ chunk. chunk.number ≡ number) }
+        ensures of { IfSome result (λ chunk. IsChunkOf self.now.cells.items chunk) }
     {
-        let share = self.cells.get(number)?.get()?;
-        Some(Chunk { pool: share.pool() })
+        let cell = self.cells.get(number)?;
+        let mut note = cell.note();
+        let share = cell.get_as(&mut note)?;
+        Some(Chunk {
+            number,
+            pool: share.pool(),
+            note,
+        })
+    }
+
+    /// Opens the first chunk that is not open, outside an insert, and returns it: it is open then, for good. Otherwise
+    /// it is `open_ahead`, which returns the number alone.
+    ///
+    /// ```text
+    /// let growing = Growing::open(alloc, 64, 256)?;
+    /// let chunk = growing.open_next(alloc)?;
+    /// assert_eq!(chunk.number(), 1);
+    /// ```
+    pub fn open_next(&self, alloc: Global) -> Result<Chunk<'_>, Refusal>
+        ensures { OpensNext self.now.cells.items result }
+    {
+        for number in 0..self.chunks_allowed() {
+            if self.chunk(number).is_none() {
+                return self.opened_chunk(alloc, number as u8);
+            }
+        }
+        Err(Refusal::Full)
+    }
+
+    // The chunk of this number, which is opened if it is not open yet. Refused as `Memory`, and as `Full` if the heap
+    // may not have the chunk.
+    fn opened_chunk(&self, alloc: Global, number: u8) -> Result<Chunk<'_>, Refusal>
+        ensures { OpensNext self.now.cells.items result }
+    {
+        let Some(cell) = self.cells.get(number as usize) else {
+            return Err(Refusal::Full);
+        };
+        let mut note = cell.note();
+        let share = match self.opened(alloc, number, &mut note) {
+            Ok(share) => share,
+            Err(Refusal::Memory) => return Err(Refusal::Memory),
+            Err(_) => return Err(Refusal::Full),
+        };
+        Ok(Chunk {
+            number: number as usize,
+            pool: share.pool(),
+            note,
+        })
     }
 
     /// Joins all passes of each open chunk in one. Refused as `Away` if a caller has not ended. Each caller has a pass

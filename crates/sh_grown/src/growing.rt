@@ -138,7 +138,7 @@ impl Growing {
 
     /// Opens the first chunk that is not open, outside an insert, and returns its number. A later insert then finds it
     /// open. So another thread than those that insert can wait for the memory: all words of a chunk are written as it
-    /// opens.
+    /// opens. `open_next` returns the chunk itself.
     ///
     /// If another thread opens the same chunk at once, one of them frees its own heap, and both return the number.
     /// Refused as `Full` if each chunk that the heap may have is open, and as `Memory` if memory is refused.
@@ -150,19 +150,11 @@ impl Growing {
     pub fn open_ahead(&self, alloc: Global) -> Result<usize, Refusal>
         ensures { OpensAhead (length self.now.cells.items) result }
     {
-        for chunk in 0..self.chunks_allowed() {
-            let Some(mut note) = self.note(chunk) else {
-                return Err(Refusal::Full);
-            };
-            if self.seen(chunk, &mut note).is_none() {
-                return match self.opened(alloc, chunk as u8, &mut note) {
-                    Ok(_) => Ok(chunk),
-                    Err(Refusal::Memory) => Err(Refusal::Memory),
-                    Err(_) => Err(Refusal::Full),
-                };
-            }
+        match self.open_next(alloc) {
+            Ok(chunk) => Ok(chunk.number()),
+            Err(Refusal::Memory) => Err(Refusal::Memory),
+            Err(_) => Err(Refusal::Full),
         }
-        Err(Refusal::Full)
     }
 
     // A note of what is known of this chunk's cell: nothing yet. `None` if the heap may not have the chunk.

@@ -1,0 +1,32 @@
+//! Worked calls on the chunks of a growing heap.
+//!
+//! No clause says that a chunk which is open is found, or that the first one which is not open is opened.
+use sh_grown::GrowingShare;
+use sh_value::Refusal;
+use std::fmt::Debug;
+use std::process::Abort;
+
+// Asserts that what was found is what is wanted. Each assertion that is written out is proved anew.
+fn agree<T: PartialEq + Debug + Drop>(rt: &impl Abort, found: T, wanted: T) {
+    assert_eq!(rt; found, wanted);
+}
+
+// Chunks 1 and 2 have one shard each, and the heap may have no more.
+#[test]
+fn the_next_chunk_is_opened_and_returned(rt: HostRuntime) {
+    let growing = GrowingShare::open(rt.alloc(), 2, 3).expect(&rt, "a heap");
+    agree(&rt, growing.heap().chunk(1).is_none(), true);
+    let opened = growing.heap().open_next(rt.alloc()).expect(&rt, "a chunk");
+    agree(&rt, opened.number(), 1);
+    agree(&rt, opened.shape().shards(), 1);
+    let last = growing.heap().open_next(rt.alloc()).expect(&rt, "a chunk");
+    agree(&rt, last.number(), 2);
+    agree(
+        &rt,
+        growing.heap().open_next(rt.alloc()).err(),
+        Some(Refusal::Full),
+    );
+    let found = growing.heap().chunk(1).map(|chunk| chunk.number());
+    agree(&rt, found, Some(1));
+    agree(&rt, growing.heap().chunk(3).is_none(), true);
+}
