@@ -5,8 +5,11 @@ use Rattle.std.specs.Prelude.{Result, Ok, Err, slice_set}
 use Rattle.sh_value.specs.declared.refusal.Refusal.{Refusal}
 use Rattle.sh_value.specs.declared.refusal.Refusal.TheVariants as refusal
 use Rattle.sh_grown.specs.declared.met.Met.{Met}
+use Rattle.sh_grown.specs.declared.caller.Caller.{Caller as SeenCaller}
+use Rattle.sh_grown.specs.Callers.{Stays}
 use Rattle.sh_grown.specs.Inserts.{EndsWithInsert, Inserts, TriesInsert}
 use Rattle.sh_grown.specs.Keeping.{KeepsMember, KeepsMembers}
+use Rattle.sh_grown.specs.Refusals.{ChunkRefused, WasRefused}
 
 -- a place that nothing is done in
 pub place_stays : (a : Option Met) → KeepsMember a a
@@ -86,9 +89,31 @@ tries_then value xs ys zs (Err why) p q =
     let r : (why ≡ refusal.Memory) × KeepsMembers ys zs = try_refused value ys zs why q in
     subst (λ w. TriesInsert value xs (Err w) zs) (sym r.0) (keeps_then xs ys zs p r.1)
 
+-- what was kept before is kept in the course of the call
+pub then_refused : (value : List ℕ) (shard : ℕ) (a b c : Option Met) → KeepsMember a b → WasRefused value shard b c
+    → WasRefused value shard a c
+then_refused value shard a b c kept r = record {
+  before = r.before;
+  after = r.after;
+  begins = place_then a b (Some r.before) kept r.begins;
+  refuses = r.refuses;
+  ends = r.ends;
+}
+
+pub then_chunk_refused : (value : List ℕ) (chunk : ℕ) (xs ys zs : List (Option Met)) → KeepsMembers xs ys
+    → ChunkRefused value chunk ys zs → ChunkRefused value chunk xs zs
+then_chunk_refused value chunk xs ys zs kept r = record {
+  met = r.met;
+  there = r.there;
+  each = λ shard less.
+      then_refused value shard (get_or xs chunk None) (get_or ys chunk None) (get_or zs chunk None) (kept chunk)
+      (r.each shard less);
+}
+
 refused_then : (chunks : ℕ) (value : List ℕ) (xs ys zs : List (Option Met)) (why : Refusal) → KeepsMembers xs ys
     → Inserts chunks value ys (Err why) zs → Inserts chunks value xs (Err why) zs
-refused_then chunks value xs ys zs refusal.Full p q = (keeps_then xs ys zs p q.0, q.1)
+refused_then chunks value xs ys zs refusal.Full p q =
+    (keeps_then xs ys zs p q.0, λ chunk less. then_chunk_refused value chunk xs ys zs p (q.1 chunk less))
 refused_then chunks value xs ys zs refusal.Memory p q = keeps_then xs ys zs p q
 refused_then chunks value xs ys zs refusal.Taken p q = keeps_then xs ys zs p q
 refused_then chunks value xs ys zs refusal.BadKey p q = absurd q
@@ -107,3 +132,7 @@ pub inserts_then : (chunks : ℕ) (value : List ℕ) (xs ys zs : List (Option Me
     → KeepsMembers xs ys → Inserts chunks value ys answer zs → Inserts chunks value xs answer zs
 inserts_then chunks value xs ys zs (Ok key) p q = kept_then_ends value key xs ys zs p q
 inserts_then chunks value xs ys zs (Err why) p q = refused_then chunks value xs ys zs why p q
+
+-- the caller has its number and its growing heap over two calls
+pub stays_then : (a b c : SeenCaller) → Stays a b → Stays b c → Stays a c
+stays_then a b c p q = record { growing = q.growing ∙ p.growing; number = q.number ∙ p.number }

@@ -1,4 +1,5 @@
 pub mod Claims
+pub mod Full
 pub mod Keeping
 pub mod Places
 pub mod Refusals

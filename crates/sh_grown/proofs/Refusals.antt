@@ -10,7 +10,7 @@ use Rattle.sh_grown.specs.Callers.{MetDoes}
 use Rattle.sh_grown.specs.Inserts.{OwnsNone}
 use Rattle.sh_grown.specs.Keeping.{KeepsMember}
 use Rattle.sh_grown.specs.Refusals.{OwnsShard, RefusesShard, Waits, WaitsThere, WasRefused}
-use Rattle.sh_grown.proofs.Keeping.{place_then}
+use Rattle.sh_grown.proofs.Keeping.{then_refused}
 
 -- ---- of a member
 
@@ -55,7 +55,7 @@ side_waits value shard Moving b waits = absurd waits
 
 -- ---- of what a caller has in a chunk
 
-refused_now : (value : List ℕ) (shard : ℕ) (m n : Met) → RefusesShard value shard m.member n.member
+pub refused_now : (value : List ℕ) (shard : ℕ) (m n : Met) → RefusesShard value shard m.member n.member
     → WasRefused value shard (Some m) (Some n)
 refused_now value shard m n refuses = record {
   before = m;
@@ -63,17 +63,6 @@ refused_now value shard m n refuses = record {
   begins = (refl, (refl, refl, refl));
   refuses = refuses;
   ends = (refl, (refl, refl, refl));
-}
-
--- what was kept before is kept in the course of the call
-pub then_refused : (value : List ℕ) (shard : ℕ) (a b c : Option Met) → KeepsMember a b → WasRefused value shard b c
-    → WasRefused value shard a c
-then_refused value shard a b c kept r = record {
-  before = r.before;
-  after = r.after;
-  begins = place_then a b (Some r.before) kept r.begins;
-  refuses = r.refuses;
-  ends = r.ends;
 }
 
 place_waits : (value : List ℕ) (shard : ℕ) (a b : Option Met) → WaitsThere a b → WasRefused value shard a b

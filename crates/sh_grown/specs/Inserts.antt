@@ -9,6 +9,7 @@ use Rattle.sh_member.specs.SideBounds.{InsertTakes}
 use Rattle.sh_grown.specs.declared.met.Met.{Met}
 use Rattle.sh_grown.specs.Callers.{IfMetDoes, MetTakes}
 use Rattle.sh_grown.specs.Keeping.{KeepsMembers}
+use Rattle.sh_grown.specs.Refusals.{ChunkRefused}
 
 -- an insert by the member of a chunk, whose key is returned with the number of the chunk
 abbrev pub InsertsIn : List ℕ → SeenSide → Result ℕ Refusal → SeenSide → Type 0
@@ -47,13 +48,24 @@ TriesInsert value old (Ok None) new = KeepsMembers old new
 TriesInsert value old (Err refusal.Memory) new = KeepsMembers old new
 TriesInsert value old (Err _) new = ⊥
 
+-- no key is returned, unless memory was refused
+abbrev pub unless_memory : Refusal → Result (Option ℕ) Refusal
+unless_memory refusal.Memory = Err refusal.Memory
+unless_memory _ = Ok None
+
+-- if there was no room, this holds
+abbrev pub OnNone : Result (Option ℕ) Refusal → Type 0 → Type 0
+OnNone (Ok None) p = p
+OnNone (Ok (Some key)) p = Unit {0}
+OnNone (Err why) p = Unit {0}
+
 -- An insert over the chunks of a heap that may have this many. The value is stored in the key's chunk. If it is
--- refused, each member keeps its heap, its number, its log and its holds. It is Full only if the caller has met each
--- chunk that the heap may have, so that all are open.
+-- refused, each member keeps its heap, its number, its log and its holds. It is Full only if in this call each shard of
+-- each chunk that the heap may have was refused, so that all chunks are open.
 abbrev pub Inserts : (chunks : ℕ) → List ℕ → List (Option Met) → Result ℕ Refusal → List (Option Met) → Type 0
 Inserts chunks value old (Ok key) new = EndsWithInsert value key old new
 Inserts chunks value old (Err refusal.Full) new =
-    KeepsMembers old new × ((chunk : ℕ) → chunk < chunks → HasMet new chunk)
+    KeepsMembers old new × ((chunk : ℕ) → chunk < chunks → ChunkRefused value chunk old new)
 Inserts chunks value old (Err refusal.Memory) new = KeepsMembers old new
 Inserts chunks value old (Err refusal.Taken) new = KeepsMembers old new
 Inserts chunks value old (Err _) new = ⊥

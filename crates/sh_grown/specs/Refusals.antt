@@ -1,5 +1,5 @@
 -- How a shard of a chunk is refused to a caller.
-use Rattle.std.specs.Prelude.{◌≡◌, ℕ, ◌⊎◌, List, Option, Some, None}
+use Rattle.std.specs.Prelude.{◌≡◌, ℕ, ◌<◌, ◌≤◌, ◌⊎◌, List, Option, Some, None, get_or}
 use Rattle.sh_value.specs.declared.refusal.Refusal.TheVariants as refusal
 use Rattle.sh_shard.specs.Leaving.{Waiting}
 use Rattle.sh_shard.specs.Pages.{AdoptRefused}
@@ -53,3 +53,18 @@ pub record WasRefused (value : List ℕ) (shard : ℕ) (old new : Option Met) : 
   pub begins : KeepsMember old (Some before)
   pub refuses : RefusesShard value shard before.member after.member
   pub ends : KeepsMember (Some after) new
+
+-- the same over all chunks, of a shard of this one
+abbrev pub RefusedIn : List ℕ → (chunk shard : ℕ) → List (Option Met) → List (Option Met) → Type 0
+RefusedIn value chunk shard old new = WasRefused value shard (get_or old chunk None) (get_or new chunk None)
+
+-- the same of each shard of the chunk from this one on, below another
+abbrev pub RangeRefused : List ℕ → (chunk from to : ℕ) → List (Option Met) → List (Option Met) → Type 0
+RangeRefused value chunk from to old new =
+    (shard : ℕ) → from ≤ shard → shard < to → RefusedIn value chunk shard old new
+
+-- each shard of a chunk that the caller has met was refused
+pub record ChunkRefused (value : List ℕ) (chunk : ℕ) (old new : List (Option Met)) : Type 0 where
+  pub met : Met
+  pub there : get_or new chunk None ≡ Some met
+  pub each : (shard : ℕ) → shard < met.shards → RefusedIn value chunk shard old new

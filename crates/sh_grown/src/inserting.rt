@@ -1,16 +1,27 @@
 // How a caller inserts: over the chunks, and at last into a new one.
-ghost use Rattle.std.specs.Prelude.{◌≡◌, IfErr, IfOk, OnErr, OnOk, length};
+ghost use Rattle.std.specs.Prelude.{◌≡◌, ℕ, ◌⊎◌, IfErr, IfOk, IfSome, List, None, OnErr, OnOk, get_or, length};
 ghost use Rattle.sh_value.specs.declared.refusal.Refusal.TheVariants.{Memory};
 ghost use Rattle.sh_chunk.specs.Chunks.{chunk_of};
 ghost use Rattle.sh_grown.specs.Callers.{Stays, WhyWithout};
 ghost use Rattle.sh_grown.specs.Inserts.{InsertsInChunk, InsertTakesInChunk, CollectsInChunk, Inserts, TriesInsert};
-ghost use Rattle.sh_grown.specs.Inserts.{HasMet};
+ghost use Rattle.sh_grown.specs.Inserts.{HasMet, OnNone, unless_memory};
 ghost use Rattle.sh_grown.specs.Keeping.{KeepsMembers};
+ghost use Rattle.sh_grown.specs.Refusals.{ChunkRefused, OwnsThere, RangeRefused, RefusedIn};
 
 use crate::caller::Caller;
 use crate::met::{collect_at, insert_at, meet, move_to, shards_at};
 use sh_value::{Refusal, Value};
 use std::alloc::Global;
+
+// What a try returns that was refused: no key, unless memory was refused.
+fn unless_memory(why: Refusal) -> Result<Option<u64>, Refusal>
+    ensures { result ≡ unless_memory why }
+{
+    match why {
+        Refusal::Memory => Err(Refusal::Memory),
+        _ => Ok(None),
+    }
+}
 
 impl Caller {
     /// Stores a value under a new key, and returns the key.
@@ -20,8 +31,8 @@ impl Caller {
     /// on. For that it leaves the shard that it owns in a chunk. It opens a chunk that is not open yet, so a new chunk
     /// comes last.
     ///
-    /// Refused as `Full` if the heap may have no more chunks, and each shard has no room or has another owner. A shard
-    /// that another caller's free keeps it from leaving counts as full, with the others of that chunk. Refused as
+    /// Refused as `Full` only if the heap may have no more chunks, and each shard was refused in this call. It had no
+    /// room, or a step met another owner, or another caller's free kept the caller in another shard. Refused as
     /// `Memory` if memory was refused to a shard, an adoption or a new chunk. `Taken` comes if the caller's pass is not
     /// in a chunk's pool, which no caller brings about. A refused insert adds nothing to the caller's logs, and leaves
     /// its holds as they were.
@@ -82,6 +93,8 @@ impl Caller {
     // none there, or if that has no room.
     fn try_in(&mut self, chunk: u8, value: &Value) -> Result<Option<u64>, Refusal>
         ensures tries { TriesInsert value.now self.old.met.items result self.new.met.items }
+        ensures refused { OnNone result ((shard : ℕ) → OwnsThere shard (get_or self.old.met.items chunk None)
+            → RefusedIn value.now chunk shard self.old.met.items self.new.met.items) }
         ensures stays { Stays self.old self.new }
     {
         match self.insert_in(chunk, value) {
@@ -89,8 +102,7 @@ impl Caller {
                 self.front = chunk;
                 Ok(Some(key))
             }
-            Err(Refusal::Memory) => Err(Refusal::Memory),
-            Err(_) => Ok(None),
+            Err(why) => unless_memory(why),
         }
     }
 
@@ -155,42 +167,79 @@ impl Caller {
 
     // Stores a value in the first shard of a chunk that it can own and that has room. It begins at the shard of its own
     // number.
+    #[tactic(auto, using(crate::proofs::Full::has_met_then))]
     fn try_shards(
         &mut self,
         alloc: Global,
         chunk: u8,
         value: &Value,
     ) -> Result<Option<u64>, Refusal>
+        requires { HasMet self.old.met.items chunk }
         ensures tries { TriesInsert value.now self.old.met.items result self.new.met.items }
+        ensures refused { OnNone result (ChunkRefused value.now chunk self.old.met.items self.new.met.items) }
         ensures stays { Stays self.old self.new }
     {
-        let shards = self.shards_in(chunk) as usize;
-        for step in 0..shards {
-            let shard = (self.number % shards + step) % shards;
-            if self.move_in(alloc, chunk, shard)? {
-                let found = self.try_in(chunk, value)?;
-                if found.is_some() {
-                    return Ok(found);
-                }
+        let shards = self.shards_in(chunk);
+        let first = self.first_shard(shards);
+        if let Some(found) = self.try_range(alloc, chunk, first, shards, value)? {
+            return Ok(Some(found));
+        }
+        self.try_range(alloc, chunk, 0, first, value)
+    }
+
+    // The same in the shards from this one on, below another.
+    fn try_range(
+        &mut self,
+        alloc: Global,
+        chunk: u8,
+        from: usize,
+        to: usize,
+        value: &Value,
+    ) -> Result<Option<u64>, Refusal>
+        requires { HasMet self.old.met.items chunk }
+        ensures tries { TriesInsert value.now self.old.met.items result self.new.met.items }
+        ensures refused { OnNone result
+            (RangeRefused value.now chunk from to self.old.met.items self.new.met.items) }
+        ensures stays { Stays self.old self.new }
+    {
+        for shard in from..to {
+            if let Some(found) = self.try_shard(alloc, chunk, shard, value)? {
+                return Ok(Some(found));
             }
         }
         Ok(None)
     }
 
-    // Whether it owns this shard of a chunk now, for which it leaves the one that it owned there. Refused as `Memory`.
-    fn move_in(&mut self, alloc: Global, chunk: u8, shard: usize) -> Result<bool, Refusal>
-        ensures err { IfErr result (λ why. why ≡ Memory) }
+    // The same in this shard.
+    fn try_shard(
+        &mut self,
+        alloc: Global,
+        chunk: u8,
+        shard: usize,
+        value: &Value,
+    ) -> Result<Option<u64>, Refusal>
+        requires { HasMet self.old.met.items chunk }
+        ensures tries { TriesInsert value.now self.old.met.items result self.new.met.items }
+        ensures refused { OnNone result
+            (RefusedIn value.now chunk shard self.old.met.items self.new.met.items) }
+        ensures stays { Stays self.old self.new }
+    {
+        match self.move_in(alloc, chunk, shard) {
+            Ok(()) => self.try_in(chunk, value),
+            Err(why) => unless_memory(why),
+        }
+    }
+
+    // Owns this shard of a chunk that it has met, for which it leaves the one that it owned there. Refused as `move_to`.
+    fn move_in(&mut self, alloc: Global, chunk: u8, shard: usize) -> Result<(), Refusal>
+        requires { HasMet self.old.met.items chunk }
+        ensures owns { OnOk result (OwnsThere shard (get_or self.new.met.items chunk None)) }
+        ensures refused { IfErr result (λ why. (why ≡ Memory)
+            ⊎ ((value : List ℕ) → RefusedIn value chunk shard self.old.met.items self.new.met.items)) }
         ensures keeps { KeepsMembers self.old.met.items self.new.met.items }
         ensures stays { Stays self.old self.new }
     {
-        if !self.has_met(chunk as usize) {
-            return Ok(false);
-        }
-        match move_to(alloc, &mut self.met[chunk as usize], shard) {
-            Ok(()) => Ok(true),
-            Err(Refusal::Memory) => Err(Refusal::Memory),
-            Err(_) => Ok(false),
-        }
+        move_to(alloc, &mut self.met[chunk as usize], shard)
     }
 
     // Has a member in this chunk, which is opened if it is not. Refused as `Memory`, and as `Taken` if its pass is not
@@ -222,10 +271,20 @@ impl Caller {
     }
 
     // How many shards a chunk has that it has met, and otherwise 0.
-    fn shards_in(&self, chunk: u8) -> u32 {
+    fn shards_in(&self, chunk: u8) -> usize
+        ensures { IfSome (get_or self.now.met.items chunk None) (λ met. result ≡ met.shards) }
+    {
         match self.met.get(chunk as usize) {
-            Some(place) => shards_at(place),
+            Some(place) => shards_at(place) as usize,
             None => 0,
         }
+    }
+
+    // Which of this many shards it tries first: that of its own number.
+    fn first_shard(&self, shards: usize) -> usize {
+        if shards == 0 {
+            return 0;
+        }
+        self.number % shards
     }
 }

@@ -285,7 +285,9 @@ pub(crate) fn collect_at(place: &mut Option<Met>) -> Result<(), Refusal>
 }
 
 // How many shards the chunk has.
-pub(crate) fn shards_at(place: &Option<Met>) -> u32 {
+pub(crate) fn shards_at(place: &Option<Met>) -> u32
+    ensures { IfSome place.now (λ met. result ≡ met.shards) }
+{
     match place {
         Some(met) => met.shards,
         None => 0,

@@ -2,7 +2,7 @@
 //!
 //! No clause says that a chunk which is open is found, or that the first one which is not open is opened.
 use sh_grown::GrowingShare;
-use sh_value::Refusal;
+use sh_value::{Refusal, Value};
 use std::fmt::Debug;
 use std::process::Abort;
 
@@ -29,4 +29,21 @@ fn the_next_chunk_is_opened_and_returned(rt: HostRuntime) {
     let found = growing.heap().chunk(1).map(|chunk| chunk.number());
     agree(&rt, found, Some(1));
     agree(&rt, growing.heap().chunk(3).is_none(), true);
+}
+
+// Two shards of 384 slots, each with an owner: the one that is full does not use the room of the other.
+#[test]
+fn a_shard_with_an_owner_is_refused(rt: HostRuntime) {
+    let growing = GrowingShare::open(rt.alloc(), 2, 1).expect(&rt, "a heap");
+    let mut caller = growing.claim(rt.alloc()).expect(&rt, "a caller");
+    let mut other = growing.claim(rt.alloc()).expect(&rt, "another caller");
+    let one = Value::from(1);
+    agree(&rt, other.insert(rt.alloc(), &one).is_ok(), true);
+    for _ in 0..384 {
+        agree(&rt, caller.insert(rt.alloc(), &one).is_ok(), true);
+    }
+    agree(&rt, caller.insert(rt.alloc(), &one), Err(Refusal::Full));
+    agree(&rt, other.insert(rt.alloc(), &one).is_ok(), true);
+    agree(&rt, other.end().is_ok(), true);
+    agree(&rt, caller.insert(rt.alloc(), &one).is_ok(), true);
 }

@@ -1,0 +1,13 @@
+use Rattle.sh_grown.specs.Callers.{Stays}
+use Rattle.sh_grown.specs.Inserts.{HasMet}
+use Rattle.sh_grown.specs.Keeping.{KeepsMembers}
+use Rattle.sh_grown.specs.Refusals.{RangeRefused}
+use Rattle.sh_grown.proofs.caller.Caller.try_range.Given as goal
+
+abbrev pub invariant-loop-shard : goal.invariant-loop-shard
+invariant-loop-shard l = record {
+  stays : Stays l.initial.self l.self;
+  keeps : KeepsMembers l.initial.self.met.items l.self.met.items;
+  met : HasMet l.self.met.items l.chunk;
+  refused : RangeRefused l.value l.chunk l.fn.from l.shard l.initial.self.met.items l.self.met.items;
+}
