@@ -8,8 +8,9 @@ use Rattle.sh_pass.specs.Passes.{Caller, ReadDoes, ReadIntoDoes}
 use Rattle.sh_readers.specs.Readers.{FetchDoes, FetchIntoDoes, TakeFitsDoes, TakeIntoDoes}
 use Rattle.sh_member.specs.Sides.{SeenSide, SideDoes}
 use Rattle.sh_member.specs.declared.member.Side.TheVariants.{Pass, Shard, Moving}
+use Rattle.sh_grown.specs.declared.growing.Growing.{Growing}
 use Rattle.sh_grown.specs.declared.met.Met.{Met}
-use Rattle.sh_grown.specs.Callers.{Cell, GrownDoes, HeldDoes, MetDoes, WhyUnmet}
+use Rattle.sh_grown.specs.Callers.{GrownDoes, HeldDoes, MetDoes, WhyUnmet}
 use Rattle.c_handles.specs.declared.held_pass.HeldPass.{HeldPass}
 use Rattle.c_handles.specs.declared.held_pass.HeldPass.TheVariants as held
 use Rattle.c_handles.specs.Members.{AnyDoes, layout_of, side_of}
@@ -68,9 +69,9 @@ unmet_fills after (Err e) why = why
 grown_fills : (does : SeenSide → Result (List ℕ) Refusal → SeenSide → Type 0)
     (into : SeenSide → Result (Unit {0}) Refusal → SeenSide → Type 0) (after : List ℕ)
     → ((a : Result (Unit {0}) Refusal) (m n : SeenSide) → into m a n → does m (read_in after a) n)
-    → (a : Result (Unit {0}) Refusal) (cells : List Cell) (number chunk : ℕ) (old new : List (Option Met))
-    → GrownDoes into cells number chunk old a new → GrownDoes does cells number chunk old (read_in after a) new
-grown_fills does into after fills a cells number chunk old new (inl did) =
+    → (a : Result (Unit {0}) Refusal) (growing : Growing) (number chunk : ℕ) (old new : List (Option Met))
+    → GrownDoes into growing number chunk old a new → GrownDoes does growing number chunk old (read_in after a) new
+grown_fills does into after fills a growing number chunk old new (inl did) =
     inl (record {
       met = did.met;
       meets = did.meets;
@@ -78,7 +79,7 @@ grown_fills does into after fills a cells number chunk old new (inl did) =
       does_it = met_fills does into after fills a (get_or did.met chunk None) did.after did.does_it;
       others = did.others;
     })
-grown_fills does into after fills a cells number chunk old new (inr not) =
+grown_fills does into after fills a growing number chunk old new (inr not) =
     inr (unmet_fills after a not.0, not.1, not.2)
 
 held_fills : (does : SeenSide → Result (List ℕ) Refusal → SeenSide → Type 0)
@@ -100,7 +101,7 @@ by_key : (fixed : HeldPass → Result (List ℕ) Refusal → HeldPass → Type 0
     → FillsByKey fixed_into grows_into key v a w → FillsByKey fixed grows key v (read_in after a) w
 by_key fixed fixed_into grows grows_into key after f g a (held.Growing c) (held.Growing d) did =
     let filled = grown_fills (SideDoes chunked grows) (SideDoes chunked grows_into) after
-    (side_fills chunked grows grows_into after g) a c.growing.cells.items c.number (chunk_of key) c.met.items
+    (side_fills chunked grows grows_into after g) a c.growing c.number (chunk_of key) c.met.items
     d.met.items did.does_it.0 in
     record { does_it = (filled, did.does_it.1) }
 by_key fixed fixed_into grows grows_into key after f g a (held.Growing c) n did = absurd did.does_it

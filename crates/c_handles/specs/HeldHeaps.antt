@@ -39,7 +39,7 @@ OpensGrown owners values words passes chunks (Err why) = OpensGrowingFor owners 
 abbrev pub HeldBegins : HeldHeap → HeldPass → Type 0
 HeldBegins (held.Fixed heap) m = AnyBegins heap m
 HeldBegins (held.Growing growing) (pass.Growing c) =
-    (c.growing ≡ growing) × IsClaimed growing.cells.items c.number c.met.items
+    (c.growing ≡ growing) × IsClaimed growing c.number c.met.items
 HeldBegins (held.Growing growing) m = ⊥
 
 -- a call on the heap as a whole: one that grows is not known as a whole

@@ -41,7 +41,7 @@ pub record EitherDoes {A : Type 0} (fixed : HeldPass → Result A Refusal → He
 abbrev pub OnKey : {A : Type 0} → (SeenSide → Result A Refusal → SeenSide → Type 0) → (key : ℕ) → SeenCaller
     → Result A Refusal → SeenCaller → Type 0
 OnKey does key c answer d =
-    GrownDoes does c.growing.cells.items c.number (chunk_of key) c.met.items answer d.met.items × Stays c d
+    GrownDoes does c.growing c.number (chunk_of key) c.met.items answer d.met.items × Stays c d
 
 -- the same for a call by a hold on this key
 abbrev pub OnHold : {A : Type 0} → (SeenSide → Result A Refusal → SeenSide → Type 0) → (key : ℕ) → SeenCaller

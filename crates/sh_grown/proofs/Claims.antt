@@ -4,17 +4,17 @@ use Rattle.std.specs.Prelude.{slice_set}
 use Rattle.std.proofs.lemmas.List.{get_or-set_same, get_or-set_other, length-set}
 use Rattle.sh_grown.specs.declared.growing.Growing.{Growing}
 use Rattle.sh_grown.specs.declared.met.Met.{Met}
-use Rattle.sh_grown.specs.Callers.{Cell, IsNewcomer, IsClaimed}
+use Rattle.sh_grown.specs.Callers.{IsNewcomer, IsClaimed}
 
 -- the first member goes to the first place of a list that has none
-pub first_goes : (cells : List Cell) (number slot : ℕ) (first : Met) (empty new : List (Option Met))
-    → number ≡ slot → IsNewcomer cells slot 0 first → 0 < length empty → length empty ≡ length cells
+pub first_goes : (growing : Growing) (number slot : ℕ) (first : Met) (empty new : List (Option Met))
+    → number ≡ slot → IsNewcomer growing slot 0 first → 0 < length empty → length empty ≡ length growing.cells.items
     → ((chunk : ℕ) → get_or empty chunk None ≡ None) → new ≡ slice_set empty 0 (Some first)
-    → IsClaimed cells number new
-first_goes cells number slot first empty new same is some room none put =
+    → IsClaimed growing number new
+first_goes growing number slot first empty new same is some room none put =
     record {
       first = first;
-      newcomer = subst (λ n. IsNewcomer cells n 0 first) (sym same) is;
+      newcomer = subst (λ n. IsNewcomer growing n 0 first) (sym same) is;
       met = ap (λ xs. get_or xs 0 None) put ∙ get_or-set_same empty 0 (Some first) None some;
       others = λ chunk later.
           ap (λ xs. get_or xs chunk None) put
@@ -23,6 +23,6 @@ first_goes cells number slot first empty new same is some room none put =
     }
 
 -- what was claimed of a growing heap was claimed of the same one by another name
-pub claimed_alike : (g h : Growing) (number : ℕ) (members : List (Option Met)) → IsClaimed g.cells.items number members
-    → g ≡ h → IsClaimed h.cells.items number members
-claimed_alike g h number members is same = subst (λ (x : Growing). IsClaimed x.cells.items number members) same is
+pub claimed_alike : (g h : Growing) (number : ℕ) (members : List (Option Met)) → IsClaimed g number members → g ≡ h
+    → IsClaimed h number members
+claimed_alike g h number members is same = subst (λ (x : Growing). IsClaimed x number members) same is

@@ -15,8 +15,9 @@ use Rattle.sh_slots.specs.declared.hand.KeyRef.{KeyRef}
 use Rattle.sh_chunk.specs.Chunks.{chunked}
 use Rattle.sh_member.specs.declared.member.Side.TheVariants.{Pass, Shard, Moving}
 use Rattle.sh_member.specs.Sides.{SeenSide, SideInserts}
+use Rattle.sh_grown.specs.declared.growing.Growing.{Growing}
 use Rattle.sh_grown.specs.declared.met.Met.{Met}
-use Rattle.sh_grown.specs.Callers.{Cell, ChunkDoes, Meets, MetDoes}
+use Rattle.sh_grown.specs.Callers.{ChunkDoes, Meets, MetDoes}
 
 -- inside, no other value is returned for what is missing
 pub inside : {X : Type 0} (xs : List X) (i : ℕ) (d e : X) → i < length xs → get_or xs i d ≡ get_or xs i e
@@ -25,15 +26,15 @@ inside (x ∷ xs) zero d e lt = refl
 inside (x ∷ xs) (suc i) d e lt = inside xs i d e (omega arith)
 
 -- the member at place n did it, and n is the number of the chunk
-pub chunk_does : {A : Type 0} (does : SeenSide → Result A Refusal → SeenSide → Type 0) (cells : List Cell)
+pub chunk_does : {A : Type 0} (does : SeenSide → Result A Refusal → SeenSide → Type 0) (growing : Growing)
     (number n chunk : ℕ) (old met new : List (Option Met)) (place after d : Option Met) (answer : Result A Refusal)
-    → n ≡ chunk → n < length met → Meets cells number n old met → place ≡ get_or met n d
-    → MetDoes does place answer after → new ≡ slice_set met n after → ChunkDoes does cells number chunk old answer new
-chunk_does does cells number n chunk old met new place after d answer is lt meets found does_it set =
+    → n ≡ chunk → n < length met → Meets growing number n old met → place ≡ get_or met n d
+    → MetDoes does place answer after → new ≡ slice_set met n after → ChunkDoes does growing number chunk old answer new
+chunk_does does growing number n chunk old met new place after d answer is lt meets found does_it set =
     let at : place ≡ get_or met n None = found ∙ inside met n d None lt in
     record {
       met = met;
-      meets = subst (λ i. Meets cells number i old met) is meets;
+      meets = subst (λ i. Meets growing number i old met) is meets;
       after = after;
       does_it = subst (λ i. MetDoes does (get_or met i None) answer after) is
           (subst (λ o. MetDoes does o answer after) at does_it);

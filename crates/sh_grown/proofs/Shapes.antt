@@ -3,9 +3,11 @@ use Rattle.std.proofs.Common.{◌≡◌, ℕ, ◌-◌, ◌/◌, ◌≤◌, Bool,
 use Rattle.std.specs.Prelude.{◌^◌, ◌==◌, min, if◌then◌else◌}
 use Rattle.std.proofs.Math.Nat.{min-le_right}
 use Rattle.std.proofs.Math.Pow.{pow_mono}
+use Rattle.sh_shape.specs.Rooms.{IsLeastRoomy}
 use Rattle.sh_shape.specs.Shape.{Fits, Numbers}
+use Rattle.sh_table.specs.Seats.{Heap}
 use Rattle.sh_chunk.specs.Chunks.{chunked}
-use Rattle.sh_grown.specs.ChunkShapes.{doublings, shards_of, segments_of, shape_of}
+use Rattle.sh_grown.specs.ChunkShapes.{IsShaped, doublings, shards_of, segments_of, shape_of}
 
 pub power_fits : (d m : ℕ) → d ≤ m → 2 ^ d ≤ 2 ^ m
 power_fits d m few = pow_mono few
@@ -31,3 +33,13 @@ shape_fits n number passes is = subst (λ n. Fits chunked n) (sym is) (record {
   shards_fit = few_shards number;
   pages_fit = omega (arith, few_segments number);
 })
+
+-- what is said of a heap and a shape is said of them by other names
+pub shaped_alike : (a b : Heap) (m n : Numbers) → IsShaped a.shape m → a ≡ b → m ≡ n → IsShaped b.shape n
+shaped_alike a b m n is same alike =
+    subst (λ (z : Numbers). IsShaped b.shape z) alike (subst (λ (h : Heap). IsShaped h.shape m) same is)
+
+pub roomy_alike : (owners values words passes : ℕ) (a b : Numbers)
+    → IsLeastRoomy chunked owners values words passes a → a ≡ b → IsLeastRoomy chunked owners values words passes b
+roomy_alike owners values words passes a b is same =
+    subst (λ (z : Numbers). IsLeastRoomy chunked owners values words passes z) same is

@@ -1,7 +1,6 @@
 -- What a caller has in the chunks that it has met, and what its calls on keys do.
 use Rattle.std.specs.Prelude.{◌≡◌, ℕ, ◌<◌, ◌⊎◌, List, Option, Some, None, Result, Ok, Err, IsErrAnd, IsSome, IfSome}
 use Rattle.std.specs.Prelude.{get_or, slice_get, slice_set, length}
-use Rattle.std.specs.declared.alloc.Global.{Global}
 use Rattle.once_cell.specs.Once.{cell_name}
 use Rattle.sh_chunk.specs.Chunks.{chunked, key_within}
 use Rattle.sh_value.specs.declared.hold.Hold.{Hold}
@@ -11,13 +10,12 @@ use Rattle.sh_pass.specs.Passes.{Caller, IsAtRest, GetDoes}
 use Rattle.sh_table.specs.Seats.{Heap}
 use Rattle.sh_member.specs.declared.member.Side.TheVariants as side
 use Rattle.sh_member.specs.Sides.{SeenSide}
+use Rattle.sh_grown.specs.ChunkShapes.{IsShaped}
+use Rattle.sh_grown.specs.Growing.{shape_in}
+use Rattle.sh_grown.specs.declared.growing.Growing.{Growing}
 use Rattle.sh_grown.specs.declared.met.Met.{Met}
 use Rattle.sh_grown.specs.declared.caller.Caller.{Caller as SeenCaller}
 use Rattle.sh_grown.specs.Keeping.{SamePlace}
-
--- what a contract sees of the cell of a chunk: its allocator and its name
-abbrev pub Cell : Type 0
-Cell = Global × ℕ
 
 -- what a caller has at first in a chunk that has this heap: the pass of this number, at rest, from its pool slot
 pub record IsPooled (heap : Heap) (number : ℕ) (m : Met) : Type 0 where
@@ -30,20 +28,21 @@ pub record IsPooled (heap : Heap) (number : ℕ) (m : Met) : Type 0 where
   pub pool_slot : m.pool_slot ≡ number
   pub shards : m.shards ≡ heap.shape.shards
 
--- the same of the chunk in the cell of this number, whose heap the note knows
-pub record IsNewcomer (cells : List Cell) (number chunk : ℕ) (m : Met) : Type 0 where
+-- the same of the chunk in the cell of this number, whose heap the note knows: it has the shape of that chunk
+pub record IsNewcomer (growing : Growing) (number chunk : ℕ) (m : Met) : Type 0 where
   pub heap : Heap
   pub pooled : IsPooled heap number m
+  pub shape : IsShaped heap.shape (shape_in growing chunk)
   pub seen : m.note.known ≡ Some heap
-  pub cell : IfSome (slice_get cells chunk) (λ c. m.note.cell ≡ cell_name c)
+  pub cell : IfSome (slice_get growing.cells.items chunk) (λ c. m.note.cell ≡ cell_name c)
 
 -- what a caller has that was just claimed: the pass of its number in the first chunk, and nothing in any other
-pub record IsClaimed (cells : List Cell) (number : ℕ) (members : List (Option Met)) : Type 0 where
+pub record IsClaimed (growing : Growing) (number : ℕ) (members : List (Option Met)) : Type 0 where
   pub first : Met
-  pub newcomer : IsNewcomer cells number 0 first
+  pub newcomer : IsNewcomer growing number 0 first
   pub met : get_or members 0 None ≡ Some first
   pub others : (chunk : ℕ) → 0 < chunk → get_or members chunk None ≡ None
-  pub room : length members ≡ length cells
+  pub room : length members ≡ length growing.cells.items
 
 -- why a caller has no member in a chunk that it wants one in: memory was refused, or its pass is not there
 abbrev pub WhyWithout : Refusal → Type 0
@@ -52,10 +51,10 @@ WhyWithout refusal.Taken = Unit {0}
 WhyWithout _ = ⊥
 
 -- the chunk was met before, or it is met now; nothing else changes
-abbrev pub Meets : List Cell → (number chunk : ℕ) → List (Option Met) → List (Option Met) → Type 0
-Meets cells number chunk old new =
+abbrev pub Meets : Growing → (number chunk : ℕ) → List (Option Met) → List (Option Met) → Type 0
+Meets growing number chunk old new =
     (IsSome (get_or old chunk None) × (new ≡ old))
-    ⊎ ((get_or old chunk None ≡ None) × (m : Met) × IsNewcomer cells number chunk m
+    ⊎ ((get_or old chunk None ≡ None) × (m : Met) × IsNewcomer growing number chunk m
     × (new ≡ slice_set old chunk (Some m)))
 
 -- the member in a chunk did this, and kept its place
@@ -66,10 +65,10 @@ MetDoes does (Some m) answer None = ⊥
 MetDoes does None answer n = ⊥
 
 -- the member of this chunk, which the caller had met or met in this call, did it; all others are as they were
-pub record ChunkDoes {A : Type 0} (does : SeenSide → Result A Refusal → SeenSide → Type 0) (cells : List Cell)
+pub record ChunkDoes {A : Type 0} (does : SeenSide → Result A Refusal → SeenSide → Type 0) (growing : Growing)
     (number chunk : ℕ) (old : List (Option Met)) (answer : Result A Refusal) (new : List (Option Met)) : Type 0 where
   pub met : List (Option Met)
-  pub meets : Meets cells number chunk old met
+  pub meets : Meets growing number chunk old met
   pub after : Option Met
   pub does_it : MetDoes does (get_or met chunk None) answer after
   pub others : new ≡ slice_set met chunk after
@@ -87,10 +86,10 @@ WhyUnmet refusal.Taken = Unit {0}
 WhyUnmet _ = ⊥
 
 -- a call on a key of this chunk: its member does it, or the caller has not met the chunk and cannot meet it now
-abbrev pub GrownDoes : {A : Type 0} → (SeenSide → Result A Refusal → SeenSide → Type 0) → List Cell
+abbrev pub GrownDoes : {A : Type 0} → (SeenSide → Result A Refusal → SeenSide → Type 0) → Growing
     → (number chunk : ℕ) → List (Option Met) → Result A Refusal → List (Option Met) → Type 0
-GrownDoes does cells number chunk old answer new =
-    ChunkDoes does cells number chunk old answer new
+GrownDoes does growing number chunk old answer new =
+    ChunkDoes does growing number chunk old answer new
     ⊎ (IsErrAnd answer WhyUnmet × (get_or old chunk None ≡ None) × (new ≡ old))
 
 -- a call in a chunk that the caller has to have met: its member there does it, or this refusal comes and all is as it

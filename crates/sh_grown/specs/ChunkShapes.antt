@@ -1,5 +1,5 @@
 -- The shape of each chunk, as a function of its number.
-use Rattle.std.specs.Prelude.{ℕ, ◌-◌, ◌/◌, ◌^◌, ◌==◌, min, if◌then◌else◌}
+use Rattle.std.specs.Prelude.{◌≡◌, ℕ, ◌-◌, ◌/◌, ◌^◌, ◌==◌, min, if◌then◌else◌}
 use Rattle.sh_shape.specs.Shape.{Numbers}
 
 -- chunks 1 and 2 are the smallest; from there on every second chunk is twice as large, 15 times
@@ -18,3 +18,9 @@ segments_of number = 2 ^ (doublings number - 6)
 abbrev pub shape_of : (number passes : ℕ) → Numbers
 shape_of number passes =
     record { shards = shards_of number; segments = segments_of number; passes = passes }
+
+-- a heap that was found has the shape that is wanted
+pub record IsShaped (found wanted : Numbers) : Type 0 where
+  pub shards : found.shards ≡ wanted.shards
+  pub segments : found.segments ≡ wanted.segments
+  pub passes : found.passes ≡ wanted.passes

@@ -1,10 +1,12 @@
 -- Growing heaps as wholes.
-use Rattle.std.specs.Prelude.{◌≡◌, ℕ, ◌<◌, List, IfSome, Result, Ok, Err, length, slice_get}
-use Rattle.std.specs.declared.alloc.Global.{Global}
+use Rattle.std.specs.Prelude.{◌≡◌, ℕ, ◌<◌, IfSome, Result, Ok, Err, length, slice_get}
 use Rattle.once_cell.specs.Once.{cell_name}
 use Rattle.sh_table.specs.Seats.{Heap}
 use Rattle.sh_value.specs.declared.refusal.Refusal.{Refusal}
 use Rattle.sh_value.specs.declared.refusal.Refusal.TheVariants as refusal
+use Rattle.sh_grown.specs.ChunkShapes.{IsShaped}
+use Rattle.sh_grown.specs.Growing.{shape_in}
+use Rattle.sh_grown.specs.declared.growing.Growing.{Growing}
 use Rattle.sh_whole.specs.declared.refusal.NotTold.{NotTold}
 use Rattle.sh_whole.specs.declared.refusal.NotTold.TheVariants as untold
 
@@ -14,17 +16,18 @@ pub record SeenChunk : Type 0 where
   pub heap : Heap
   pub cell : ℕ
 
--- the chunk is that of its number: its heap is in that one of these cells
-pub record IsChunkOf (cells : List (Global × ℕ)) (chunk : SeenChunk) : Type 0 where
-  pub few : chunk.number < length cells
-  pub cell : IfSome (slice_get cells chunk.number) (λ c. chunk.cell ≡ cell_name c)
+-- the chunk is that of its number: its heap is in the cell of that number, and has the shape of that chunk
+pub record IsChunkOf (growing : Growing) (chunk : SeenChunk) : Type 0 where
+  pub few : chunk.number < length growing.cells.items
+  pub cell : IfSome (slice_get growing.cells.items chunk.number) (λ c. chunk.cell ≡ cell_name c)
+  pub shape : IsShaped chunk.heap.shape (shape_in growing chunk.number)
 
--- a chunk of these cells is open; or each was found open, or memory was refused
-abbrev pub OpensNext : List (Global × ℕ) → Result SeenChunk Refusal → Type 0
-OpensNext cells (Ok chunk) = IsChunkOf cells chunk
-OpensNext cells (Err refusal.Full) = Unit {0}
-OpensNext cells (Err refusal.Memory) = Unit {0}
-OpensNext cells (Err _) = ⊥
+-- a chunk of the growing heap is open; or each was found open, or memory was refused
+abbrev pub OpensNext : Growing → Result SeenChunk Refusal → Type 0
+OpensNext growing (Ok chunk) = IsChunkOf growing chunk
+OpensNext growing (Err refusal.Full) = Unit {0}
+OpensNext growing (Err refusal.Memory) = Unit {0}
+OpensNext growing (Err _) = ⊥
 
 -- why not every chunk was gathered: a pass of one is missing, or memory was refused
 abbrev pub WhyUngathered : NotTold → Type 0

@@ -57,7 +57,7 @@ impl GrowingShare {
     #[tactic(auto, using(crate::proofs::Claims::claimed_alike))]
     pub fn claim(&self, alloc: Global) -> Result<Caller, Refusal>
         ensures growing { IfOk result (λ caller. caller.growing ≡ self.now) }
-        ensures claimed { IfOk result (λ caller. IsClaimed self.now.cells.items caller.number caller.met.items) }
+        ensures claimed { IfOk result (λ caller. IsClaimed self.now caller.number caller.met.items) }
         ensures err { IfErr result WhyWithout }
     {
         let growing = self.share()?;
@@ -75,7 +75,7 @@ impl Growing {
     // What a caller begins with: its number, and its members, of which only the one in the first chunk is there.
     #[tactic(auto, using(crate::proofs::Claims::first_goes))]
     fn first_members(&self, alloc: Global) -> Result<(usize, Vec<Option<Met>>), Refusal>
-        ensures claimed { IfOk result (λ begun. IsClaimed self.now.cells.items begun.0 begun.1.items) }
+        ensures claimed { IfOk result (λ begun. IsClaimed self.now begun.0 begun.1.items) }
         ensures err { IfErr result WhyWithout }
     {
         let mut met = no_members(alloc, self.chunks_allowed())?;
@@ -89,7 +89,7 @@ impl Growing {
 
     // The first pass that is in the pool of the first chunk. `None` if none is.
     fn first_met(&self) -> Option<Met>
-        ensures { IfSome result (λ first. IsNewcomer self.now.cells.items first.pool_slot 0 first) }
+        ensures { IfSome result (λ first. IsNewcomer self.now first.pool_slot 0 first) }
     {
         let mut note = self.note(0)?;
         let share = self.seen(0, &mut note)?;
@@ -109,7 +109,7 @@ impl Caller {
     // it not open, and as `Taken` if its pass is not in the chunk's pool.
     pub(crate) fn meet(&mut self, chunk: usize) -> Result<(), Refusal>
         ensures met { MatchResult result
-            (λ _. Meets self.old.growing.cells.items self.old.number chunk self.old.met.items self.new.met.items)
+            (λ _. Meets self.old.growing self.old.number chunk self.old.met.items self.new.met.items)
             (λ why. WhyUnmet why × (get_or self.old.met.items chunk None ≡ None)
             × (self.new.met.items ≡ self.old.met.items)) }
         ensures there { OnOk result ((chunk < length self.new.met.items)

@@ -45,7 +45,7 @@ impl Caller {
     #[inline(never)]
     pub fn get(&mut self, key: u64) -> Result<Hold, Refusal>
         ensures does { GrownDoes (SideDoes chunked (GetsIn key))
-            self.old.growing.cells.items self.old.number (chunk_of key) self.old.met.items result
+            self.old.growing self.old.number (chunk_of key) self.old.met.items result
             self.new.met.items }
         ensures hold { IfOk result (λ hold. hold.key ≡ key) }
         ensures stays { Stays self.old self.new }
@@ -59,7 +59,7 @@ impl Caller {
     #[inline(never)]
     pub fn get_guard(&mut self, key: u64) -> Result<GrownGuard, Refusal>
         ensures does { GrownDoes (SideDoes chunked (GetsIn key))
-            self.old.growing.cells.items self.old.number (chunk_of key) self.old.met.items result
+            self.old.growing self.old.number (chunk_of key) self.old.met.items result
             self.new.met.items }
         ensures hold { IfOk result (λ hold. hold.key ≡ key) }
         ensures stays { Stays self.old self.new }
@@ -145,7 +145,7 @@ impl Caller {
     #[inline(never)]
     pub fn fetch(&mut self, key: u64) -> Result<Value, Refusal>
         ensures does { GrownDoes (SideDoes chunked (FetchDoes chunked (key_within key)))
-            self.old.growing.cells.items self.old.number (chunk_of key) self.old.met.items result
+            self.old.growing self.old.number (chunk_of key) self.old.met.items result
             self.new.met.items }
         ensures stays { Stays self.old self.new }
     {
@@ -159,7 +159,7 @@ impl Caller {
     pub fn fetch_into(&mut self, key: u64, value: &mut Value) -> Result<(), Refusal>
         ensures does { GrownDoes (SideDoes chunked (λ v answer w. FetchIntoDoes chunked (key_within key) v value.old
             answer value.new w))
-            self.old.growing.cells.items self.old.number (chunk_of key) self.old.met.items result
+            self.old.growing self.old.number (chunk_of key) self.old.met.items result
             self.new.met.items }
         ensures stays { Stays self.old self.new }
     {
@@ -175,7 +175,7 @@ impl Caller {
     pub fn take_into(&mut self, key: u64, most: usize, value: &mut Value) -> Result<(), Refusal>
         ensures does { GrownDoes (SideDoes chunked (λ v answer w. TakeIntoDoes chunked (key_within key) most v answer
             value.new w))
-            self.old.growing.cells.items self.old.number (chunk_of key) self.old.met.items result
+            self.old.growing self.old.number (chunk_of key) self.old.met.items result
             self.new.met.items }
         ensures stays { Stays self.old self.new }
     {
@@ -189,7 +189,7 @@ impl Caller {
     #[inline(never)]
     pub fn remove(&mut self, key: u64) -> Result<(), Refusal>
         ensures does { GrownDoes (SideDoes chunked (RemoveDoes chunked (key_within key)))
-            self.old.growing.cells.items self.old.number (chunk_of key) self.old.met.items result
+            self.old.growing self.old.number (chunk_of key) self.old.met.items result
             self.new.met.items }
         ensures stays { Stays self.old self.new }
     {

@@ -4,7 +4,7 @@ ghost use Rattle.sh_chunk.specs.Chunks.{chunked};
 ghost use Rattle.sh_whole.specs.Homes.{GathersPool, TellsAccounts, TellsTotals};
 ghost use Rattle.sh_grown.specs.Wholes.{IsChunkOf, OpensNext, WhyUngathered};
 
-use crate::growing::Growing;
+use crate::growing::{Growing, of_shape};
 use once_cell::race::Note;
 use sh_chunk::Chunked;
 use sh_gather::{Accounts, Totals};
@@ -76,7 +76,8 @@ impl<'a> Chunk<'a> {
 }
 
 impl Growing {
-    /// The chunk of this number, from 0. `None` if the heap may not have it, or if one load finds it not open.
+    /// The chunk of this number, from 0. `None` if the heap may not have it, or if one load finds it not open. It has
+    /// the shape that the heap was opened with, if it is the first one, and otherwise that of `chunk_shape`.
     ///
     /// ```text
     /// growing.gather(alloc)?;                             // every caller has ended
@@ -88,13 +89,15 @@ impl Growing {
     ///     live += u64::from(chunk.totals()?.live);
     /// }
     /// ```
+    #[tactic(auto, using(crate::proofs::Shapes::shaped_alike))]
     pub fn chunk(&self, number: usize) -> Option<Chunk<'_>>
         ensures number { IfSome result (λ chunk. chunk.number ≡ number) }
-        ensures of { IfSome result (λ chunk. IsChunkOf self.now.cells.items chunk) }
+        ensures of { IfSome result (λ chunk. IsChunkOf self.now chunk) }
     {
         let cell = self.cells.get(number)?;
         let mut note = cell.note();
-        let share = cell.get_as(&mut note)?;
+        let found = cell.get_as(&mut note)?;
+        let share = of_shape(found, self.shape_in(number))?;
         Some(Chunk {
             number,
             pool: share.pool(),
@@ -111,7 +114,7 @@ impl Growing {
     /// assert_eq!(chunk.number(), 1);
     /// ```
     pub fn open_next(&self, alloc: Global) -> Result<Chunk<'_>, Refusal>
-        ensures { OpensNext self.now.cells.items result }
+        ensures { OpensNext self.now result }
     {
         for number in 0..self.chunks_allowed() {
             if self.chunk(number).is_none() {
@@ -123,8 +126,9 @@ impl Growing {
 
     // The chunk of this number, which is opened if it is not open yet. Refused as `Memory`, and as `Full` if the heap
     // may not have the chunk.
+    #[tactic(auto, using(crate::proofs::Shapes::shaped_alike))]
     fn opened_chunk(&self, alloc: Global, number: u8) -> Result<Chunk<'_>, Refusal>
-        ensures { OpensNext self.now.cells.items result }
+        ensures { OpensNext self.now result }
     {
         let Some(cell) = self.cells.get(number as usize) else {
             return Err(Refusal::Full);

@@ -1,9 +1,11 @@
 //! Growing heaps.
-ghost use Rattle.std.specs.Prelude.{◌≡◌, ◌≤◌, Some, None, IfSome, MatchResult, length, slice_get};
+ghost use Rattle.std.specs.Prelude.{◌≡◌, ◌↔◌, ◌<◌, ◌≤◌, ◌*◌, ◌^◌, Some, None, IfOk, IfSome, IsTrue, MatchResult};
+ghost use Rattle.std.specs.Prelude.{length, slice_get};
 ghost use Rattle.once_cell.specs.Once.{cell_name, Agrees};
 ghost use Rattle.sh_value.specs.declared.refusal.Refusal.TheVariants.{Memory};
-ghost use Rattle.sh_shape.specs.Shape.{Fits};
+ghost use Rattle.sh_shape.specs.Shape.{Fits, segment_pages};
 ghost use Rattle.sh_chunk.specs.Chunks.{chunked};
+ghost use Rattle.sh_grown.specs.ChunkShapes.{IsShaped};
 
 use crate::chunk_shapes::chunk_shape;
 use once_cell::race::{Note, OnceBox};
@@ -19,7 +21,11 @@ use std::alloc::Global;
 #[derive(Drop)]
 pub struct Growing {
     pub(crate) cells: Vec<OnceBox<Share<Chunked>>>,
+    // The shape of the first chunk.
+    first: Shape,
     passes: u32,
+    ghost few_shards: { first.shards ≤ 2 ^ chunked.shard_bits },
+    ghost few_pages: { segment_pages * first.segments ≤ 2 ^ chunked.page_bits },
     ghost some_pass: { 1 ≤ passes },
     ghost few_passes: { passes ≤ 64 },
     ghost some_chunk: { 1 ≤ length cells.items },
@@ -39,8 +45,31 @@ fn new_chunk(alloc: Global, shape: Shape) -> Result<Box<Share<Chunked>>, Refusal
     }
 }
 
+// Whether a heap that was found has the shape that is wanted.
+fn is_shaped(found: &Shape, wanted: &Shape) -> bool
+    ensures { IsTrue result ↔ IsShaped found.now wanted.now }
+{
+    let shards = found.shards() == wanted.shards();
+    let segments = found.segments() == wanted.segments();
+    let passes = found.passes() == wanted.passes();
+    shards && segments && passes
+}
+
+// The share, if its heap has this shape. No clause of a cell says what it has before a load finds that, so the shape of
+// a chunk is looked at when it is found.
+pub(crate) fn of_shape(share: &Share<Chunked>, shape: Shape) -> Option<&Share<Chunked>>
+    ensures same { IfSome result (λ s. s.now ≡ share.now) }
+    ensures shape { IfSome result (λ s. IsShaped s.now.shape shape) }
+{
+    if is_shaped(share.pool().shape(), &shape) {
+        Some(share)
+    } else {
+        None
+    }
+}
+
 impl Growing {
-    ghost use Rattle.sh_grown.specs.Growing.{OpensAhead, OpensGrowing, OpensGrowingFor, WhyUnopened};
+    ghost use Rattle.sh_grown.specs.Growing.{OpensAhead, OpensGrowing, OpensGrowingFor, WhyUnopened, shape_in};
 
     /// A growing heap of at most `chunks` chunks, from 1 to 256, with this many passes, from 1 to 64. The first chunk
     /// is opened. Refused as `BadShape` exactly if a number is outside its limits, and as `Memory` if memory is
@@ -55,8 +84,9 @@ impl Growing {
         if passes < 1 || 64 < passes || chunks < 1 || CHUNKS < chunks {
             return Err(Refusal::BadShape);
         }
-        let first = new_chunk(alloc, chunk_shape(0, passes))?;
-        Growing::of_first(alloc, first, passes, chunks)
+        let shape = chunk_shape(0, passes);
+        let first = new_chunk(alloc, shape)?;
+        Growing::of_first(alloc, first, shape, passes, chunks)
     }
 
     /// The same with another first chunk: the least one in which each of `owners` owners has a shard with room for
@@ -66,6 +96,7 @@ impl Growing {
     /// ```text
     /// let growing = Growing::open_for(alloc, 4, 10_000, 1, 64, 256)?;   // 10,000 values for each of 4 owners
     /// ```
+    #[tactic(auto, using(crate::proofs::Shapes::roomy_alike))]
     pub fn open_for(
         alloc: Global,
         owners: u32,
@@ -81,22 +112,24 @@ impl Growing {
         }
         let shape = Shape::with_room::<Chunked>(owners, values, words, passes)?;
         let first = new_chunk(alloc, shape)?;
-        Growing::of_first(alloc, first, passes, chunks)
+        Growing::of_first(alloc, first, shape, passes, chunks)
     }
 
-    // A growing heap that may have this many chunks, of which the first one is open.
+    // A growing heap that may have this many chunks, of which the first one is open and has this shape.
     fn of_first(
         alloc: Global,
         first: Box<Share<Chunked>>,
+        shape: Shape,
         passes: u32,
         chunks: usize,
     ) -> Result<Growing, Refusal>
+        requires fits { Fits chunked shape }
         requires some_pass { 1 ≤ passes }
         requires few_passes { passes ≤ 64 }
         requires some_chunk { 1 ≤ chunks }
         requires few_chunks { chunks ≤ 256 }
-        ensures { MatchResult result (λ growing. (growing.passes ≡ passes) × (length growing.cells.items ≡ chunks))
-            (λ why. why ≡ Memory) }
+        ensures { MatchResult result (λ growing. (growing.passes ≡ passes) × (length growing.cells.items ≡ chunks)
+            × (growing.first ≡ shape)) (λ why. why ≡ Memory) }
     {
         let mut cells = Vec::new(alloc);
         if cells.push(OnceBox::with_value(first)).is_err() {
@@ -107,7 +140,11 @@ impl Growing {
                 return Err(Refusal::Memory);
             }
         }
-        Ok(Growing { cells, passes })
+        Ok(Growing {
+            cells,
+            first: shape,
+            passes,
+        })
     }
 
     /// How many chunks it may have, from 1 to 256.
@@ -157,6 +194,19 @@ impl Growing {
         }
     }
 
+    // The shape of the chunk of this number: the first one has its own, each other one that of its number.
+    pub(crate) fn shape_in(&self, chunk: usize) -> Shape
+        requires { chunk < length self.now.cells.items }
+        ensures shape { result ≡ shape_in self.now chunk }
+        ensures fits { Fits chunked result }
+    {
+        if chunk == 0 {
+            self.first
+        } else {
+            chunk_shape(chunk as u8, self.passes)
+        }
+    }
+
     // A note of what is known of this chunk's cell: nothing yet. `None` if the heap may not have the chunk.
     pub(crate) fn note(&self, chunk: usize) -> Option<Note<Share<Chunked>>>
         ensures { IfSome result (λ note. (note.known ≡ None)
@@ -166,6 +216,7 @@ impl Growing {
     }
 
     // The chunk of this number, if one load finds it open. It is the one that the note knows, if it knows any.
+    #[tactic(auto, using(crate::proofs::Shapes::shaped_alike))]
     pub(crate) fn seen<'a>(
         &'a self,
         chunk: usize,
@@ -174,12 +225,17 @@ impl Growing {
         requires { IfSome (slice_get self.now.cells.items chunk) (λ c. note.old.cell ≡ cell_name c) }
         ensures cell { note.new.cell ≡ note.old.cell }
         ensures value { IfSome result (λ s. (note.new.known ≡ Some s.now) × Agrees note.old.known s.now) }
+        ensures shape { IfSome result (λ s. IsShaped s.now.shape (shape_in self.now chunk)) }
     {
-        self.cells.get(chunk)?.get_as(note)
+        let found = self.cells.get(chunk)?.get_as(note)?;
+        let share = of_shape(found, self.shape_in(chunk))?;
+        Some(share)
     }
 
     // The chunk of this number, which is opened if it is not open yet. If two threads open it at once, one of them
-    // frees its own heap and uses the other's. Refused as `Memory`, and as `BadKey` if the heap may not have the chunk.
+    // frees its own heap and uses the other's. Refused as `Memory`, and as `BadKey` if the heap may not have the chunk
+    // or if that has another shape, which no call brings about.
+    #[tactic(auto, using(crate::proofs::Shapes::shaped_alike))]
     pub(crate) fn opened<'a>(
         &'a self,
         alloc: Global,
@@ -190,14 +246,23 @@ impl Growing {
         ensures cell { note.new.cell ≡ note.old.cell }
         ensures value { MatchResult result (λ s. (note.new.known ≡ Some s.now) × Agrees note.old.known s.now)
             WhyUnopened }
+        ensures shape { IfOk result (λ s. IsShaped s.now.shape (shape_in self.now chunk)) }
     {
         let Some(cell) = self.cells.get(chunk as usize) else {
             return Err(Refusal::BadKey);
         };
-        if let Some(share) = cell.get_as(note) {
+        let shape = self.shape_in(chunk as usize);
+        if let Some(found) = cell.get_as(note) {
+            let Some(share) = of_shape(found, shape) else {
+                return Err(Refusal::BadKey);
+            };
             return Ok(share);
         }
-        let opened = new_chunk(alloc, chunk_shape(chunk, self.passes))?;
-        Ok(cell.get_or_init_as(move || opened, note))
+        let opened = new_chunk(alloc, shape)?;
+        let first = cell.get_or_init_as(move || opened, note);
+        let Some(share) = of_shape(first, shape) else {
+            return Err(Refusal::BadKey);
+        };
+        Ok(share)
     }
 }

@@ -1,8 +1,9 @@
 //! Shares of a growing heap: it lives as long as one of them.
-ghost use Rattle.std.specs.Prelude.{◌≡◌, ◌≤◌, IfSome, MatchResult, None, Some, length, slice_get};
+ghost use Rattle.std.specs.Prelude.{◌≡◌, ◌≤◌, IfOk, IfSome, MatchResult, None, Some, length, slice_get};
 ghost use Rattle.once_cell.specs.Once.{cell_name, Agrees};
 ghost use Rattle.sh_value.specs.declared.refusal.Refusal.TheVariants.{Memory};
-ghost use Rattle.sh_grown.specs.Growing.{OpensGrowing, OpensGrowingFor, WhyUnopened};
+ghost use Rattle.sh_grown.specs.ChunkShapes.{IsShaped};
+ghost use Rattle.sh_grown.specs.Growing.{OpensGrowing, OpensGrowingFor, WhyUnopened, shape_in};
 
 use crate::growing::Growing;
 use once_cell::race::Note;
@@ -112,6 +113,7 @@ impl GrowingShare {
         requires { IfSome (slice_get self.now.cells.items chunk) (λ c. note.old.cell ≡ cell_name c) }
         ensures cell { note.new.cell ≡ note.old.cell }
         ensures value { IfSome result (λ s. (note.new.known ≡ Some s.now) × Agrees note.old.known s.now) }
+        ensures shape { IfSome result (λ s. IsShaped s.now.shape (shape_in self.now chunk)) }
     {
         self.heap().seen(chunk, note)
     }
@@ -126,6 +128,7 @@ impl GrowingShare {
         ensures cell { note.new.cell ≡ note.old.cell }
         ensures value { MatchResult result (λ s. (note.new.known ≡ Some s.now) × Agrees note.old.known s.now)
             WhyUnopened }
+        ensures shape { IfOk result (λ s. IsShaped s.now.shape (shape_in self.now chunk)) }
     {
         self.heap().opened(alloc, chunk, note)
     }

@@ -1,7 +1,7 @@
 //! Worked calls on the chunks of a growing heap.
 //!
 //! No clause says that a chunk which is open is found, or that the first one which is not open is opened.
-use sh_grown::GrowingShare;
+use sh_grown::{Growing, GrowingShare};
 use sh_value::{Refusal, Value};
 use std::fmt::Debug;
 use std::process::Abort;
@@ -9,6 +9,22 @@ use std::process::Abort;
 // Asserts that what was found is what is wanted. Each assertion that is written out is proved anew.
 fn agree<T: PartialEq + Debug + Drop>(rt: &impl Abort, found: T, wanted: T) {
     assert_eq!(rt; found, wanted);
+}
+
+// The shards of a chunk that is open, and the segments of each.
+fn size_of(growing: &Growing, number: usize) -> Option<(u32, u32)> {
+    let chunk = growing.chunk(number)?;
+    Some((chunk.shape().shards(), chunk.shape().segments()))
+}
+
+// 384 slots a segment: 500 values take two of them. The later chunks have the shapes of their numbers.
+#[test]
+fn the_first_chunk_alone_has_the_shape_that_is_asked_for(rt: HostRuntime) {
+    let growing = GrowingShare::open_for(rt.alloc(), 3, 500, 1, 2, 3).expect(&rt, "a heap");
+    agree(&rt, growing.heap().open_ahead(rt.alloc()), Ok(1));
+    agree(&rt, size_of(growing.heap(), 0), Some((3, 2)));
+    agree(&rt, size_of(growing.heap(), 1), Some((1, 1)));
+    agree(&rt, size_of(growing.heap(), 2), None);
 }
 
 // Chunks 1 and 2 have one shard each, and the heap may have no more.

@@ -9,7 +9,7 @@ pub returns-clause-does : goal.returns-clause-does
 returns-clause-does c =
     inl (chunk_does (SideDoes chunked (λ v a w. FetchIntoDoes chunked (key_within c.args.key) v c.args.value.now a
     c.fetch_into_at.new.value w))
-    c.args.self.now.growing.cells.items c.args.self.now.number c.chunk_of-chunk.result (chunk_of c.args.key)
+    c.args.self.now.growing c.args.self.now.number c.chunk_of-chunk.result (chunk_of c.args.key)
     c.args.self.now.met.items c.meet.new.self.met.items _ _ c.fetch_into_at.new.place _ c.fetch_into_at.result
     c.chunk_of-chunk.ensures.is c.in_ok-meet.ensures.there.0 c.in_ok-meet.ensures.met
     c.index_mut.ensures.value c.fetch_into_at.ensures refl)

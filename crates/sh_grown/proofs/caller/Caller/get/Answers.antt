@@ -8,7 +8,7 @@ use Rattle.sh_grown.proofs.caller.Caller.get.Goals as goal
 pub returns-clause-does : goal.returns-clause-does
 returns-clause-does c =
     inl (chunk_does (SideDoes chunked (GetsIn c.args.key))
-    c.args.self.now.growing.cells.items c.args.self.now.number c.chunk_of-chunk.result (chunk_of c.args.key)
+    c.args.self.now.growing c.args.self.now.number c.chunk_of-chunk.result (chunk_of c.args.key)
     c.args.self.now.met.items c.meet.new.self.met.items _ _ c.get_at.new.place _ c.get_at.result
     c.chunk_of-chunk.ensures.is c.in_ok-meet.ensures.there.0 c.in_ok-meet.ensures.met
     c.index_mut.ensures.value c.get_at.ensures.does refl)
