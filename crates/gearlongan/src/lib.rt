@@ -190,7 +190,7 @@ pub use sh_core::Accounts;
 pub use sh_gather::{
     PageAccounts, Totals, Whole, all_accounts, gather, join, next_key, total, whole,
 };
-pub use sh_grown::{Caller, Chunk, Growing, GrowingShare, GrownGuard, NotTold};
+pub use sh_grown::{Caller, Chunk, Growing, GrowingShare, GrownGuard, GrownTotals, NotTold};
 pub use sh_key::{Deep, KeyLayout, Tagged, Tiny, Wide};
 pub use sh_pass::{Guard, Heap, NextKey, Pass, Receipt, Seats, remove_then_get};
 pub use sh_plain::{Lookup, Store};

@@ -4,4 +4,5 @@ pub mod Keeping
 pub mod Places
 pub mod Refusals
 pub mod Shapes
+pub mod Sums
 pub mod Wholes

@@ -5,4 +5,5 @@ pub mod Inserts
 pub mod Keeping
 pub mod Refusals
 pub mod Shares
+pub mod Sums
 pub mod Wholes

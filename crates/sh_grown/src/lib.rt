@@ -15,6 +15,7 @@ mod inserting;
 mod leaving;
 pub mod met;
 pub mod share;
+pub mod totals;
 
 pub use caller::Caller;
 pub use chunk::Chunk;
@@ -23,3 +24,4 @@ pub use growing::Growing;
 pub use guard::GrownGuard;
 pub use sh_whole::NotTold;
 pub use share::GrowingShare;
+pub use totals::GrownTotals;

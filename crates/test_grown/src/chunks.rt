@@ -1,7 +1,7 @@
 //! Worked calls on the chunks of a growing heap.
 //!
 //! No clause says that a chunk which is open is found, or that the first one which is not open is opened.
-use sh_grown::{Growing, GrowingShare};
+use sh_grown::{Growing, GrowingShare, NotTold};
 use sh_value::{Refusal, Value};
 use std::fmt::Debug;
 use std::process::Abort;
@@ -62,4 +62,21 @@ fn a_shard_with_an_owner_is_refused(rt: HostRuntime) {
     agree(&rt, other.insert(rt.alloc(), &one).is_ok(), true);
     agree(&rt, other.end().is_ok(), true);
     agree(&rt, caller.insert(rt.alloc(), &one).is_ok(), true);
+}
+
+// 768 values fill the 16 pages of chunk 0. Chunk 1 has 8 pages, of which the first one has the last value.
+#[test]
+fn totals_are_summed_over_the_chunks(rt: HostRuntime) {
+    let growing = GrowingShare::open(rt.alloc(), 2, 3).expect(&rt, "a heap");
+    let mut caller = growing.claim(rt.alloc()).expect(&rt, "a caller");
+    let one = Value::from(1);
+    for _ in 0..769 {
+        agree(&rt, caller.insert(rt.alloc(), &one).is_ok(), true);
+    }
+    agree(&rt, growing.heap().totals().err(), Some(NotTold::Away));
+    agree(&rt, caller.end().is_ok(), true);
+    agree(&rt, growing.heap().gather(rt.alloc()), Ok(()));
+    let sums = growing.heap().totals().expect(&rt, "the totals");
+    agree(&rt, (sums.chunks, sums.live, sums.marked), (2, 769, 0));
+    agree(&rt, (sums.used_pages, sums.blank_pages), (17, 7));
 }
