@@ -1,12 +1,21 @@
--- Why a chunk is not gathered.
+-- Why a chunk is not gathered, and one chunk more that is.
+use Rattle.std.proofs.Common.{◌≡◌, ℕ, suc, ◌+◌, ◌⊎◌, arith, subst}
 use Rattle.std.specs.Prelude.{Err}
 use Rattle.sh_table.specs.Seats.{Heap}
 use Rattle.sh_whole.specs.Homes.{GathersPool}
 use Rattle.sh_whole.specs.declared.refusal.NotTold.{NotTold}
 use Rattle.sh_whole.specs.declared.refusal.NotTold.TheVariants as untold
-use Rattle.sh_grown.specs.Wholes.{WhyUngathered}
+use Rattle.sh_grown.specs.declared.growing.Growing.{Growing}
+use Rattle.sh_grown.specs.Wholes.{GathersBelow, GathersChunk, WhyUngathered}
 
 pub ungathered : (heap : Heap) (why : NotTold) → GathersPool heap (Err why) → WhyUngathered why
 ungathered heap untold.Away h = tt
 ungathered heap untold.Memory h = tt
 ungathered heap untold.NoPage h = absurd h
+
+-- one chunk more was looked for
+pub gathers_more : (growing : Growing) (k before count : ℕ) → GathersBelow growing k before
+    → ((count ≡ before) ⊎ GathersChunk growing k before count) → GathersBelow growing (k + 1) count
+gathers_more growing k before count below here =
+    let is : suc k ≡ k + 1 = omega arith in
+    subst (λ (z : ℕ). GathersBelow growing z count) is (before, below, here)

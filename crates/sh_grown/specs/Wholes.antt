@@ -1,5 +1,5 @@
 -- Growing heaps as wholes.
-use Rattle.std.specs.Prelude.{◌≡◌, ℕ, ◌<◌, IfSome, Result, Ok, Err, length, slice_get}
+use Rattle.std.specs.Prelude.{◌≡◌, ℕ, zero, suc, ◌+◌, ◌<◌, ◌⊎◌, IfSome, Result, Ok, Err, length, slice_get}
 use Rattle.once_cell.specs.Once.{cell_name}
 use Rattle.sh_table.specs.Seats.{Heap}
 use Rattle.sh_value.specs.declared.refusal.Refusal.{Refusal}
@@ -7,6 +7,7 @@ use Rattle.sh_value.specs.declared.refusal.Refusal.TheVariants as refusal
 use Rattle.sh_grown.specs.ChunkShapes.{IsShaped}
 use Rattle.sh_grown.specs.Growing.{shape_in}
 use Rattle.sh_grown.specs.declared.growing.Growing.{Growing}
+use Rattle.sh_whole.specs.Homes.{GathersPool}
 use Rattle.sh_whole.specs.declared.refusal.NotTold.{NotTold}
 use Rattle.sh_whole.specs.declared.refusal.NotTold.TheVariants as untold
 
@@ -28,6 +29,20 @@ OpensNext growing (Ok chunk) = IsChunkOf growing chunk
 OpensNext growing (Err refusal.Full) = Unit {0}
 OpensNext growing (Err refusal.Memory) = Unit {0}
 OpensNext growing (Err _) = ⊥
+
+-- the chunk of this number was found open, its passes were joined, and it is counted
+pub record GathersChunk (growing : Growing) (number before count : ℕ) : Type 0 where
+  pub chunk : SeenChunk
+  pub own : chunk.number ≡ number
+  pub of : IsChunkOf growing chunk
+  pub gathers : GathersPool chunk.heap (Ok tt)
+  pub more : count ≡ before + 1
+
+-- so were this many of the chunks below k, and the others were not found open
+abbrev pub GathersBelow : Growing → ℕ → (count : ℕ) → Type 0
+GathersBelow growing zero count = count ≡ 0
+GathersBelow growing (suc k) count =
+    (before : ℕ) × GathersBelow growing k before × ((count ≡ before) ⊎ GathersChunk growing k before count)
 
 -- why not every chunk was gathered: a pass of one is missing, or memory was refused
 abbrev pub WhyUngathered : NotTold → Type 0

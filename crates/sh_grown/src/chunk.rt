@@ -1,8 +1,8 @@
 //! The chunks of a growing heap as wholes: their passes are joined, and their pages counted.
-ghost use Rattle.std.specs.Prelude.{◌≡◌, IfErr, IfSome};
+ghost use Rattle.std.specs.Prelude.{◌≡◌, IfErr, IfOk, IfSome, length};
 ghost use Rattle.sh_chunk.specs.Chunks.{chunked};
 ghost use Rattle.sh_whole.specs.Homes.{GathersPool, TellsAccounts, TellsTotals};
-ghost use Rattle.sh_grown.specs.Wholes.{IsChunkOf, OpensNext, WhyUngathered};
+ghost use Rattle.sh_grown.specs.Wholes.{GathersBelow, IsChunkOf, OpensNext, WhyUngathered};
 
 use crate::growing::{Growing, of_shape};
 use once_cell::race::Note;
@@ -151,15 +151,32 @@ impl Growing {
     /// gathered, and the same call gathers the others.
     ///
     /// The joined pass is the last one of each chunk, so that one caller can be claimed from then on, with that number.
-    #[tactic(auto, using(crate::proofs::Wholes::ungathered))]
     pub fn gather(&self, alloc: Global) -> Result<(), NotTold>
         ensures { IfErr result WhyUngathered }
     {
-        for number in 0..self.chunks_allowed() {
-            if let Some(chunk) = self.chunk(number) {
-                chunk.gather(alloc)?;
-            }
-        }
+        self.gather_chunks(alloc)?;
         Ok(())
+    }
+
+    /// The same, and returns how many chunks were gathered. Each was looked for once, and all that were found open are
+    /// gathered.
+    ///
+    /// ```text
+    /// let gathered = growing.gather_chunks(alloc)?;    // as many as growing.chunks() returns, if no thread opens one
+    /// ```
+    #[tactic(auto, using(crate::proofs::Wholes::ungathered))]
+    pub fn gather_chunks(&self, alloc: Global) -> Result<usize, NotTold>
+        ensures gathers { IfOk result (GathersBelow self.now (length self.now.cells.items)) }
+        ensures err { IfErr result WhyUngathered }
+    {
+        let mut gathered = 0;
+        for number in 0..self.chunks_allowed() {
+            let Some(chunk) = self.chunk(number) else {
+                continue;
+            };
+            chunk.gather(alloc)?;
+            gathered += 1;
+        }
+        Ok(gathered)
     }
 }

@@ -75,7 +75,7 @@ fn totals_are_summed_over_the_chunks(rt: HostRuntime) {
     }
     agree(&rt, growing.heap().totals().err(), Some(NotTold::Away));
     agree(&rt, caller.end().is_ok(), true);
-    agree(&rt, growing.heap().gather(rt.alloc()), Ok(()));
+    agree(&rt, growing.heap().gather_chunks(rt.alloc()), Ok(2));
     let sums = growing.heap().totals().expect(&rt, "the totals");
     agree(&rt, (sums.chunks, sums.live, sums.marked), (2, 769, 0));
     agree(&rt, (sums.used_pages, sums.blank_pages), (17, 7));
