@@ -39,3 +39,17 @@ fn a_caller_reads_by_its_hold_what_another_one_removed(rt: HostRuntime) {
     agree(&rt, other.release(hold), Ok(()));
     agree(&rt, one.fetch(key), Err(Refusal::Gone));
 }
+
+// Chunk 0 has a value, and chunk 1 is opened ahead.
+#[test]
+fn chunks_are_opened_gathered_and_counted(rt: HostRuntime) {
+    let growing = GrowingShare::open(rt.alloc(), 2, 3).expect(&rt, "a heap");
+    let mut caller = growing.claim(rt.alloc()).expect(&rt, "a caller");
+    let _key = key_of(&rt, rt.alloc(), &mut caller, 7);
+    agree(&rt, caller.end().is_ok(), true);
+    let chunk = growing.heap().open_next(rt.alloc()).expect(&rt, "a chunk");
+    agree(&rt, chunk.number(), 1);
+    agree(&rt, growing.heap().gather_chunks(rt.alloc()), Ok(2));
+    let sums = growing.heap().totals().expect(&rt, "the totals");
+    agree(&rt, (sums.chunks, sums.live), (2, 1));
+}
