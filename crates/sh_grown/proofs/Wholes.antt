@@ -1,4 +1,4 @@
--- Why a chunk is not gathered, and one chunk more that is.
+-- Why a chunk is not gathered, and one chunk more that is counted.
 use Rattle.std.proofs.Common.{◌≡◌, ℕ, suc, ◌+◌, ◌⊎◌, arith, subst}
 use Rattle.std.specs.Prelude.{Err}
 use Rattle.sh_table.specs.Seats.{Heap}
@@ -6,7 +6,7 @@ use Rattle.sh_whole.specs.Homes.{GathersPool}
 use Rattle.sh_whole.specs.declared.refusal.NotTold.{NotTold}
 use Rattle.sh_whole.specs.declared.refusal.NotTold.TheVariants as untold
 use Rattle.sh_grown.specs.declared.growing.Growing.{Growing}
-use Rattle.sh_grown.specs.Wholes.{GathersBelow, GathersChunk, WhyUngathered}
+use Rattle.sh_grown.specs.Wholes.{CountsBelow, CountsOpen, SeenChunk, WhyUngathered}
 
 pub ungathered : (heap : Heap) (why : NotTold) → GathersPool heap (Err why) → WhyUngathered why
 ungathered heap untold.Away h = tt
@@ -14,8 +14,9 @@ ungathered heap untold.Memory h = tt
 ungathered heap untold.NoPage h = absurd h
 
 -- one chunk more was looked for
-pub gathers_more : (growing : Growing) (k before count : ℕ) → GathersBelow growing k before
-    → ((count ≡ before) ⊎ GathersChunk growing k before count) → GathersBelow growing (k + 1) count
-gathers_more growing k before count below here =
+pub counts_more : (growing : Growing) (IsSo : SeenChunk → Type 0) (k before count : ℕ)
+    → CountsBelow growing IsSo k before → ((count ≡ before) ⊎ CountsOpen growing IsSo k before count)
+    → CountsBelow growing IsSo (k + 1) count
+counts_more growing IsSo k before count below here =
     let is : suc k ≡ k + 1 = omega arith in
-    subst (λ (z : ℕ). GathersBelow growing z count) is (before, below, here)
+    subst (λ (z : ℕ). CountsBelow growing IsSo z count) is (before, below, here)

@@ -30,19 +30,27 @@ OpensNext growing (Err refusal.Full) = Unit {0}
 OpensNext growing (Err refusal.Memory) = Unit {0}
 OpensNext growing (Err _) = ⊥
 
--- the chunk of this number was found open, its passes were joined, and it is counted
-pub record GathersChunk (growing : Growing) (number before count : ℕ) : Type 0 where
+-- the chunk of this number was found open, this holds of it, and it is counted
+pub record CountsOpen (growing : Growing) (IsSo : SeenChunk → Type 0) (number before count : ℕ) : Type 0 where
   pub chunk : SeenChunk
   pub own : chunk.number ≡ number
   pub of : IsChunkOf growing chunk
-  pub gathers : GathersPool chunk.heap (Ok tt)
+  pub so : IsSo chunk
   pub more : count ≡ before + 1
 
 -- so were this many of the chunks below k, and the others were not found open
-abbrev pub GathersBelow : Growing → ℕ → (count : ℕ) → Type 0
-GathersBelow growing zero count = count ≡ 0
-GathersBelow growing (suc k) count =
-    (before : ℕ) × GathersBelow growing k before × ((count ≡ before) ⊎ GathersChunk growing k before count)
+abbrev pub CountsBelow : Growing → (SeenChunk → Type 0) → ℕ → (count : ℕ) → Type 0
+CountsBelow growing IsSo zero count = count ≡ 0
+CountsBelow growing IsSo (suc k) count =
+    (before : ℕ) × CountsBelow growing IsSo k before × ((count ≡ before) ⊎ CountsOpen growing IsSo k before count)
+
+-- its passes were joined
+abbrev pub IsGathered : SeenChunk → Type 0
+IsGathered chunk = GathersPool chunk.heap (Ok tt)
+
+-- nothing more is said of it
+abbrev pub IsAny : SeenChunk → Type 0
+IsAny chunk = Unit {0}
 
 -- why not every chunk was gathered: a pass of one is missing, or memory was refused
 abbrev pub WhyUngathered : NotTold → Type 0

@@ -1,8 +1,8 @@
 //! The chunks of a growing heap as wholes: their passes are joined, and their pages counted.
-ghost use Rattle.std.specs.Prelude.{◌≡◌, IfErr, IfOk, IfSome, length};
+ghost use Rattle.std.specs.Prelude.{◌≡◌, ◌≤◌, IfErr, IfOk, IfSome, length};
 ghost use Rattle.sh_chunk.specs.Chunks.{chunked};
 ghost use Rattle.sh_whole.specs.Homes.{GathersPool, TellsAccounts, TellsTotals};
-ghost use Rattle.sh_grown.specs.Wholes.{GathersBelow, IsChunkOf, OpensNext, WhyUngathered};
+ghost use Rattle.sh_grown.specs.Wholes.{CountsBelow, IsAny, IsChunkOf, IsGathered, OpensNext, WhyUngathered};
 
 use crate::growing::{Growing, of_shape};
 use once_cell::race::Note;
@@ -105,6 +105,21 @@ impl Growing {
         })
     }
 
+    /// How many chunks are open: each is looked for once.
+    pub fn chunks(&self) -> usize
+        ensures counts { CountsBelow self.now IsAny (length self.now.cells.items) result }
+        ensures few { result ≤ length self.now.cells.items }
+    {
+        let mut found = 0;
+        for number in 0..self.chunks_allowed() {
+            let Some(_chunk) = self.chunk(number) else {
+                continue;
+            };
+            found += 1;
+        }
+        found
+    }
+
     /// Opens the first chunk that is not open, outside an insert, and returns it: it is open then, for good. Otherwise
     /// it is `open_ahead`, which returns the number alone.
     ///
@@ -166,7 +181,7 @@ impl Growing {
     /// ```
     #[tactic(auto, using(crate::proofs::Wholes::ungathered))]
     pub fn gather_chunks(&self, alloc: Global) -> Result<usize, NotTold>
-        ensures gathers { IfOk result (GathersBelow self.now (length self.now.cells.items)) }
+        ensures gathers { IfOk result (CountsBelow self.now IsGathered (length self.now.cells.items)) }
         ensures err { IfErr result WhyUngathered }
     {
         let mut gathered = 0;

@@ -165,14 +165,6 @@ impl Growing {
         self.passes
     }
 
-    /// How many chunks are open: each cell is looked at once.
-    pub fn chunks(&self) -> usize {
-        self.cells
-            .iter()
-            .filter(|cell| cell.get().is_some())
-            .count()
-    }
-
     /// Opens the first chunk that is not open, outside an insert, and returns its number. A later insert then finds it
     /// open. So another thread than those that insert can wait for the memory: all words of a chunk are written as it
     /// opens. `open_next` returns the chunk itself.

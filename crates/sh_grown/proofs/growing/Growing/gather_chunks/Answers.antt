@@ -1,32 +1,32 @@
 use Rattle.std.proofs.Common.{◌≡◌, ◌+◌, ℕ, arith, inl, inr, length, refl, subst}
-use Rattle.sh_grown.specs.Wholes.{GathersBelow}
-use Rattle.sh_grown.proofs.Wholes.{gathers_more}
+use Rattle.sh_grown.specs.Wholes.{CountsBelow, IsGathered}
+use Rattle.sh_grown.proofs.Wholes.{counts_more}
 use Rattle.sh_grown.proofs.growing.Growing.gather_chunks.Goals as goal
 
 pub loop-number-preserved-in_default : goal.loop-number-preserved-in_default
 loop-number-preserved-in_default c =
     let i = c.loop-number.invariant in
     let few = i.few in
-    let gathered = c.loop-number.gathered in
+    let count = c.loop-number.gathered in
     record {
       end = i.end;
       few = omega (arith, few);
-      below = gathers_more c.args.self.now c.loop-number.number gathered gathered i.below (inl refl);
+      below = counts_more c.args.self.now IsGathered c.loop-number.number count count i.below (inl refl);
     }
 
 pub loop-number-preserved : goal.loop-number-preserved
 loop-number-preserved c =
     let i = c.loop-number.invariant in
     let few = i.few in
-    let gathered = c.loop-number.gathered in
+    let count = c.loop-number.gathered in
     record {
       end = i.end;
       few = omega (arith, few);
-      below = gathers_more c.args.self.now c.loop-number.number gathered (gathered + 1) i.below (inr (record {
+      below = counts_more c.args.self.now IsGathered c.loop-number.number count (count + 1) i.below (inr (record {
         chunk = c.in-Some.chunk;
         own = c.in-Some.ensures.number;
         of = c.in-Some.ensures.of;
-        gathers = c.in_ok-gather.ensures;
+        so = c.in_ok-gather.ensures;
         more = refl;
       }));
     }
@@ -37,4 +37,4 @@ returns-clause-gathers c =
     let end = i.end in
     let past = c.loop-number-test.false in
     let all : c.loop-number.number ≡ length c.args.self.now.cells.items = omega (arith, end, past) in
-    subst (λ (k : ℕ). GathersBelow c.args.self.now k c.loop-number.gathered) all i.below
+    subst (λ (k : ℕ). CountsBelow c.args.self.now IsGathered k c.loop-number.gathered) all i.below

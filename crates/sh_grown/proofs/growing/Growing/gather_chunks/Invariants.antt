@@ -1,10 +1,10 @@
 use Rattle.std.proofs.Common.{◌≡◌, ◌≤◌, length}
-use Rattle.sh_grown.specs.Wholes.{GathersBelow}
+use Rattle.sh_grown.specs.Wholes.{CountsBelow, IsGathered}
 use Rattle.sh_grown.proofs.growing.Growing.gather_chunks.Given as goal
 
 abbrev pub invariant-loop-number : goal.invariant-loop-number
 invariant-loop-number l = record {
   end : l.number-end ≡ length l.self.cells.items;
   few : l.gathered ≤ l.number;
-  below : GathersBelow l.self l.number l.gathered;
+  below : CountsBelow l.self IsGathered l.number l.gathered;
 }
