@@ -107,7 +107,26 @@ impl Caller {
 
     // Has a member in this chunk, if the chunk is open. Refused as `BadKey` if there is no such chunk or one load finds
     // it not open, and as `Taken` if its pass is not in the chunk's pool.
+    #[inline(always)]
     pub(crate) fn meet(&mut self, chunk: usize) -> Result<(), Refusal>
+        ensures met { MatchResult result
+            (λ _. Meets self.old.growing self.old.number chunk self.old.met.items self.new.met.items)
+            (λ why. WhyUnmet why × (get_or self.old.met.items chunk None ≡ None)
+            × (self.new.met.items ≡ self.old.met.items)) }
+        ensures there { OnOk result ((chunk < length self.new.met.items)
+            × IsSome (get_or self.new.met.items chunk None)) }
+        ensures stays { Stays self.old self.new }
+    {
+        if self.has_met(chunk) {
+            return Ok(());
+        }
+        self.meet_late(chunk)
+    }
+
+    // The same, apart from it, since a chunk is seldom met: what a meeting makes takes a kilobyte of stack.
+    #[cold]
+    #[inline(never)]
+    fn meet_late(&mut self, chunk: usize) -> Result<(), Refusal>
         ensures met { MatchResult result
             (λ _. Meets self.old.growing self.old.number chunk self.old.met.items self.new.met.items)
             (λ why. WhyUnmet why × (get_or self.old.met.items chunk None ≡ None)
