@@ -124,6 +124,7 @@ impl Caller {
     }
 
     // The same in the chunk of its last insert, after a collect there.
+    #[inline(never)]
     #[tactic(auto, using(crate::proofs::Keeping::tries_then))]
     fn try_collected(&mut self, value: &Value) -> Result<Option<u64>, Refusal>
         ensures tries { TriesInsert value.now self.old.met.items result self.new.met.items }
@@ -136,6 +137,7 @@ impl Caller {
     }
 
     // The same in the first chunk in which it owns a shard with room.
+    #[inline(never)]
     fn try_own(&mut self, value: &Value) -> Result<Option<u64>, Refusal>
         ensures tries { TriesInsert value.now self.old.met.items result self.new.met.items }
         ensures stays { Stays self.old self.new }
@@ -150,6 +152,8 @@ impl Caller {
     }
 
     // Stores a value in the first chunk that has room for it. A chunk that is not open is opened.
+    #[cold]
+    #[inline(never)]
     fn insert_in_any(&mut self, alloc: Global, value: &Value) -> Result<u64, Refusal>
         ensures inserts { Inserts (length self.old.growing.cells.items) value.now self.old.met.items result
             self.new.met.items }
@@ -244,6 +248,8 @@ impl Caller {
 
     // Has a member in this chunk, which is opened if it is not. Refused as `Memory`, and as `Taken` if its pass is not
     // in the chunk's pool.
+    #[cold]
+    #[inline(never)]
     fn meet_opened(&mut self, alloc: Global, chunk: u8) -> Result<(), Refusal>
         ensures met { OnOk result (HasMet self.new.met.items chunk) }
         ensures err { IfErr result WhyWithout }
