@@ -3,6 +3,7 @@ ghost use Rattle.std.specs.Prelude.{◌≡◌, ℕ, ◌<◌, IfErr, IfOk, IfSome
 ghost use Rattle.std.specs.Prelude.{length};
 ghost use Rattle.sh_value.specs.declared.refusal.Refusal.TheVariants.{Memory};
 ghost use Rattle.sh_grown.specs.Callers.{IsClaimed, IsNewcomer, Meets, Stays, WhyUnmet, WhyWithout};
+ghost use Rattle.sh_grown.specs.Keeping.{KeepsMembers};
 
 use crate::growing::Growing;
 use crate::met::{Met, meet, meet_first};
@@ -21,6 +22,10 @@ pub struct Caller {
     pub(crate) number: usize,
     // The chunk in which its last insert found room: the next one looks there first.
     pub(crate) front: u8,
+    // The chunk in which its last walk over shards found room, and the shard there behind the one that had it: the next
+    // walk begins there.
+    pub(crate) walked: u8,
+    pub(crate) next: usize,
     // Its member in each chunk that it has met.
     pub(crate) met: Vec<Option<Met>>,
 }
@@ -66,6 +71,8 @@ impl GrowingShare {
             growing,
             number,
             front: 0,
+            walked: 0,
+            next: number,
             met,
         })
     }
@@ -115,6 +122,7 @@ impl Caller {
             × (self.new.met.items ≡ self.old.met.items)) }
         ensures there { OnOk result ((chunk < length self.new.met.items)
             × IsSome (get_or self.new.met.items chunk None)) }
+        ensures keeps { KeepsMembers self.old.met.items self.new.met.items }
         ensures stays { Stays self.old self.new }
     {
         if self.has_met(chunk) {
@@ -133,6 +141,7 @@ impl Caller {
             × (self.new.met.items ≡ self.old.met.items)) }
         ensures there { OnOk result ((chunk < length self.new.met.items)
             × IsSome (get_or self.new.met.items chunk None)) }
+        ensures keeps { KeepsMembers self.old.met.items self.new.met.items }
         ensures stays { Stays self.old self.new }
     {
         let Some(place) = self.met.get_mut(chunk) else {

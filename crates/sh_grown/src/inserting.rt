@@ -27,9 +27,10 @@ impl Caller {
     /// Stores a value under a new key, and returns the key.
     ///
     /// It tries the chunk of its last insert, and then each chunk in which it owns a shard. Then it collects in the
-    /// chunk of its last insert, and tries that again. At last it tries each shard of each chunk, from the first chunk
-    /// on. For that it leaves the shard that it owns in a chunk. It opens a chunk that is not open yet, so a new chunk
-    /// comes last.
+    /// chunk of its last insert, and tries that again. Then it walks over shards, from behind the one in which its last
+    /// walk found room: round that chunk, and over each later one that is open. At last it walks over each chunk, from
+    /// the first one on, and opens a chunk that is not open yet: so a new chunk comes last. A walk leaves the shard
+    /// that the caller owns in a chunk.
     ///
     /// Refused as `Full` only if the heap may have no more chunks, and each shard was refused in this call. It had no
     /// room, or a step met another owner, or another caller's free kept the caller in another shard. Refused as
@@ -42,7 +43,7 @@ impl Caller {
             self.new.met.items }
         ensures stays { Stays self.old self.new }
     {
-        let found = self.try_met(value)?;
+        let found = self.try_open(alloc, value)?;
         match found {
             Some(key) => Ok(key),
             None => self.insert_in_any(alloc, value),
@@ -151,6 +152,43 @@ impl Caller {
         Ok(None)
     }
 
+    // The same in the shards that it owns, and then in the others of the chunks that are open, from that of its last
+    // walk on.
+    #[tactic(auto, using(crate::proofs::Keeping::tries_then))]
+    fn try_open(&mut self, alloc: Global, value: &Value) -> Result<Option<u64>, Refusal>
+        ensures tries { TriesInsert value.now self.old.met.items result self.new.met.items }
+        ensures stays { Stays self.old self.new }
+    {
+        let own = self.try_met(value)?;
+        if own.is_some() {
+            return Ok(own);
+        }
+        self.try_later(alloc, value)
+    }
+
+    // The same in the first shard with room that it can own, of the chunks from that of its last walk on, up to the
+    // first one that is not open.
+    #[cold]
+    #[inline(never)]
+    #[tactic(auto, using(crate::proofs::Keeping::keeps_then, crate::proofs::Keeping::tries_then))]
+    fn try_later(&mut self, alloc: Global, value: &Value) -> Result<Option<u64>, Refusal>
+        ensures tries { TriesInsert value.now self.old.met.items result self.new.met.items }
+        ensures stays { Stays self.old self.new }
+    {
+        let walked = self.walked as usize;
+        for number in walked..self.growing.chunks_allowed() {
+            let chunk = number as u8;
+            let Ok(()) = self.meet(chunk as usize) else {
+                return Ok(None);
+            };
+            let found = self.try_shards(alloc, chunk, value)?;
+            if found.is_some() {
+                return Ok(found);
+            }
+        }
+        Ok(None)
+    }
+
     // Stores a value in the first chunk that has room for it. A chunk that is not open is opened.
     #[cold]
     #[inline(never)]
@@ -169,8 +207,8 @@ impl Caller {
         Err(Refusal::Full)
     }
 
-    // Stores a value in the first shard of a chunk that it can own and that has room. It begins at the shard of its own
-    // number.
+    // Stores a value in the first shard of a chunk that it can own and that has room. Its next walk begins behind that
+    // shard.
     #[tactic(auto, using(crate::proofs::Full::has_met_then))]
     fn try_shards(
         &mut self,
@@ -184,7 +222,7 @@ impl Caller {
         ensures stays { Stays self.old self.new }
     {
         let shards = self.shards_in(chunk);
-        let first = self.first_shard(shards);
+        let first = self.first_shard(chunk, shards);
         if let Some(found) = self.try_range(alloc, chunk, first, shards, value)? {
             return Ok(Some(found));
         }
@@ -208,6 +246,8 @@ impl Caller {
     {
         for shard in from..to {
             if let Some(found) = self.try_shard(alloc, chunk, shard, value)? {
+                self.walked = chunk;
+                self.next = shard + 1;
                 return Ok(Some(found));
             }
         }
@@ -286,11 +326,16 @@ impl Caller {
         }
     }
 
-    // Which of this many shards it tries first: that of its own number.
-    fn first_shard(&self, shards: usize) -> usize {
+    // Which of this many shards of a chunk it tries first. In the chunk of its last walk that is the one behind the
+    // shard with room, and elsewhere that of its own number.
+    fn first_shard(&self, chunk: u8, shards: usize) -> usize {
         if shards == 0 {
             return 0;
         }
-        self.number % shards
+        if chunk == self.walked {
+            self.next % shards
+        } else {
+            self.number % shards
+        }
     }
 }

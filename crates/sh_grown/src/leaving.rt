@@ -46,6 +46,8 @@ impl Caller {
             growing: _,
             number: _,
             front: _,
+            walked: _,
+            next: _,
             met,
         } = self;
         go_home_each(met);

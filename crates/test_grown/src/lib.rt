@@ -1,5 +1,5 @@
-//! Tests of growing heaps: the shapes of chunks, many values over several chunks, full heaps, refused memory, and
-//! threads that open one chunk.
+//! Tests of growing heaps: the shapes of chunks, many values over several chunks, and full heaps. Others are of the
+//! order in which an insert tries shards, of refused memory, and of threads that open one chunk.
 #![tactic(auto)]
 
 #[cfg(test)]
@@ -8,3 +8,5 @@ mod chunks;
 mod growing;
 #[cfg(test)]
 mod shapes;
+#[cfg(test)]
+mod walks;
