@@ -1,5 +1,6 @@
 //! What a caller has in a chunk that it has met, and the calls of its member there.
 ghost use Rattle.std.specs.Prelude.{◌≡◌, ℕ, ◌<◌, ◌⊎◌, IfErr, IfOk, IfSome, IsSome, List, OnErr, OnOk, Some, length};
+ghost use Rattle.std.specs.Prelude.{MatchOption};
 ghost use Rattle.sh_value.specs.declared.refusal.Refusal.TheVariants.{Memory, Waiting};
 ghost use Rattle.sh_chunk.specs.Chunks.{chunked, chunk_of, key_within};
 ghost use Rattle.sh_pass.specs.Passes.{IsAtRest, ReadDoes, ReadIntoDoes, RemoveDoes, ReleaseDoes};
@@ -284,9 +285,9 @@ pub(crate) fn collect_at(place: &mut Option<Met>) -> Result<(), Refusal>
     }
 }
 
-// How many shards the chunk has.
+// How many shards the chunk has; 0 if the caller has not met it.
 pub(crate) fn shards_at(place: &Option<Met>) -> u32
-    ensures { IfSome place.now (λ met. result ≡ met.shards) }
+    ensures { MatchOption place.now (result ≡ 0) (λ met. result ≡ met.shards) }
 {
     match place {
         Some(met) => met.shards,
