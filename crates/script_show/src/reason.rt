@@ -1,4 +1,6 @@
 //! Why an event is skipped, in plain words.
+ghost use Rattle.std.specs.Prelude.{◌≡◌};
+ghost use Rattle.script_show.specs.Reasons.{reason_text};
 
 /// The condition of an event that does not hold of its pass.
 #[derive(Clone, Copy, Debug, PartialEq, Eq)]
@@ -67,7 +69,9 @@ pub enum Reason {
 
 impl Reason {
     /// The reason as a trace writes it, after `skipped: `.
-    pub fn text(&self) -> &'static str {
+    pub fn text(&self) -> &'static str
+        ensures { result.now ≡ reason_text self.now }
+    {
         match self {
             Reason::OtherTag => "the key has not the tag of the header",
             Reason::NoKey => "the key names no slot of this heap",

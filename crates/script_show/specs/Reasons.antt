@@ -1,0 +1,36 @@
+-- Why an event is skipped, in words.
+use Rattle.std.specs.Prelude.{ℕ, List, codes}
+use Rattle.script_show.specs.declared.reason.Reason.{Reason}
+use Rattle.script_show.specs.declared.reason.Reason.TheVariants as reason
+
+abbrev pub reason_text : Reason → List ℕ
+reason_text reason.OtherTag = codes "the key has not the tag of the header"
+reason_text reason.NoKey = codes "the key names no slot of this heap"
+reason_text reason.NoPage = codes "the heap has no such page"
+reason_text reason.NoSlot = codes "the heap has no such slot"
+reason_text reason.NoShard = codes "the heap has no such shard"
+reason_text reason.NoClass = codes "there is no such class"
+reason_text reason.Busy = codes "the pass has begun something else, which it has to end first"
+reason_text reason.NothingBegun = codes "the pass has begun nothing that goes on with this"
+reason_text reason.HoldsFull = codes "the pass has 16 holds already"
+reason_text reason.NotHeld = codes "the pass has no hold on this key"
+reason_text reason.ClassUnread = codes "the pass has not read the class of this key"
+reason_text reason.LengthUnread = codes "the pass has not read the length of this key's value"
+reason_text reason.PastEnd = codes "the value has no such word"
+reason_text reason.NotOwner = codes "the pass does not own the shard"
+reason_text reason.OwnsNone = codes "the pass owns no shard"
+reason_text reason.OwnsOne = codes "the pass owns a shard already"
+reason_text reason.ClassNotNoted = codes "the pass has not noted the class of the page"
+reason_text reason.Blank = codes "the page has no class"
+reason_text reason.NotAllOwn = codes "not all slots of the page are the pass's own"
+reason_text reason.NotOwn = codes "the slot is not the pass's own"
+reason_text reason.TooLong = codes "the value is longer than a slot of the page"
+reason_text reason.CursorLeft = codes "the pass has yet to follow the chain of a page"
+reason_text reason.NoCursor = codes "the pass has no chain of the page to follow"
+reason_text reason.Armed = codes "the pass has armed the page already"
+reason_text reason.BellCursorLeft = codes "the pass has yet to follow the chain of the bell"
+reason_text reason.NoBellCursor = codes "the pass has no chain of the bell to follow"
+reason_text reason.SlotsLeft = codes "a slot of the shard is still the pass's own"
+reason_text reason.ArmedLeft = codes "the pass has armed a page, and was not told of a ring for it"
+reason_text reason.NoWordLeft = codes "all words of the value are stored"
+reason_text reason.WordsLeft = codes "words of the value are not stored yet"
