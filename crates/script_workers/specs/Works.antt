@@ -1,5 +1,5 @@
 -- What is true of a worker.
-use Rattle.std.specs.Prelude.{◌≡◌, ℕ, ◌==◌, cond, List, [], ◌∷◌, length, Option}
+use Rattle.std.specs.Prelude.{◌≡◌, ℕ, ◌==◌, cond, Bool, List, [], ◌∷◌, length, Option}
 use Rattle.sh_script.specs.declared.calls.Call.{Call}
 use Rattle.sh_script.specs.declared.calls.CallLine.{CallLine}
 use Rattle.script_calls.specs.Parts.{RunTerms, PassPart, SeenPass, new_pass}
@@ -9,6 +9,10 @@ use Rattle.script_calls.specs.Named.{HeardOfNumber}
 use Rattle.script_workers.specs.declared.worker.Made.{Made}
 use Rattle.sh_table.specs.declared.view.Order.{Order}
 use Rattle.sh_table.specs.Seats.{Heap}
+
+-- the line is one of the pass's own
+abbrev pub is_line_of : ℕ → CallLine → Bool
+is_line_of p l = l.pass == p
 
 -- the calls of a pass's own lines, in order
 abbrev pub own_calls : ℕ → List CallLine → List Call

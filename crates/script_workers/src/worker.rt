@@ -1,5 +1,6 @@
 //! Workers: each makes the calls of one pass, in the order of the script.
 ghost use Rattle.std.specs.Prelude.{◌≡◌, ◌≤◌, length, [], None, IfSome, MatchOption, true};
+ghost use Rattle.std.specs.List.{list_any};
 ghost use Rattle.std.specs.Vec.{vec_capacity};
 ghost use Rattle.script_output.specs.Keys.{HasTagRoom};
 ghost use Rattle.script_calls.specs.Parts.{new_part, new_pass};
@@ -7,7 +8,7 @@ ghost use Rattle.script_calls.specs.Calls.{binds, name_used, number_told};
 ghost use Rattle.script_calls.specs.Named.{tells_number};
 ghost use Rattle.script_calls.specs.Receipts.{receipt_seen};
 ghost use Rattle.script_workers.specs.Boards.{MayHearName};
-ghost use Rattle.script_workers.specs.Works.{own_calls, IsWork};
+ghost use Rattle.script_workers.specs.Works.{own_calls, is_line_of, IsWork};
 
 use crate::board::{Binding, Board};
 use crate::gate::Gate;
@@ -168,8 +169,11 @@ impl<S: Side, B: Room> Worker<S, B> {
     }
 
     /// Whether a line is its own.
-    pub fn has_calls(&self, lines: &[CallLine]) -> bool {
-        lines.iter().any(|line| line.pass as usize == self.number)
+    pub fn has_calls(&self, lines: &[CallLine]) -> bool
+        ensures { result ≡ list_any (is_line_of self.now) lines.now }
+    {
+        let number = self.number;
+        lines.iter().any(|line| line.pass as usize == number)
     }
 
     /// Its number.
