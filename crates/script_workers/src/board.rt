@@ -1,5 +1,5 @@
 //! The board of names, on which workers wait for one another.
-ghost use Rattle.std.specs.Prelude.{◌≡◌, MatchOption, true};
+ghost use Rattle.std.specs.Prelude.{◌≡◌, IfOk, MatchOption, length, true};
 ghost use Rattle.script_calls.specs.Named.{tells_number};
 ghost use Rattle.script_calls.specs.Receipts.{seen_of_receipt};
 ghost use Rattle.script_workers.specs.Boards.{IsBinding, HeardName};
@@ -129,10 +129,12 @@ pub struct Board<B: Room> {
 
 impl<B: Room> Board<B> {
     /// A board of this many names, none of which is bound.
-    pub fn new(alloc: Global, count: usize) -> Result<Board<B>, AllocError> {
+    pub fn new(alloc: Global, count: usize) -> Result<Board<B>, AllocError>
+        ensures { IfOk result (λ board. length board.bound.items ≡ count) }
+    {
         let mut names = Vec::with_capacity(alloc, count)?;
         let mut bound = Vec::with_capacity(alloc, count)?;
-        for _ in 0..count {
+        for _name in 0..count {
             names.push(Name::Open)?;
             bound.push(Condvar::new())?;
         }
