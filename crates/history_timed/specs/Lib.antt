@@ -4,3 +4,4 @@ pub mod Orders
 pub mod Clashes
 pub mod Placing
 pub mod Verdicts
+pub mod Courses

@@ -2,8 +2,14 @@
 //!
 //! The insert is as late as it may be: at the first end of a call that found the key. A get is as early as it may be,
 //! and a release as late. The removal is as early as it may be: after each use of the value. So if keys are never
-//! crowded, and some order is legal and keeps to the times, this one is and does. Nothing of this is proved: each order
+//! crowded, and some order is legal and keeps to the times, this one is and does. No contract says that: each order
 //! that is tried is judged.
+ghost use Rattle.std.specs.Prelude.{◌≡◌, ◌&&◌};
+ghost use Rattle.history_timed.specs.Times.{is_ended};
+ghost use Rattle.history_timed.specs.Calls.{uses, finds};
+ghost use Rattle.history_timed.specs.Courses.{change_of, comes_first, preferred, no_calls, insert_with, removal_with};
+ghost use Rattle.history_timed.specs.Courses.{end_with, use_with, taken_in, is_change, insert_moment, removal_moment};
+
 use crate::call::Call;
 use std::alloc::{AllocError, Global};
 use std::collections::HashMap;
@@ -17,7 +23,9 @@ struct Change {
 }
 
 impl Change {
-    fn of(call: &Call) -> Change {
+    fn of(call: &Call) -> Change
+        ensures { result ≡ change_of call.now }
+    {
         Change {
             line: call.line,
             begin: call.times.begin(),
@@ -25,13 +33,72 @@ impl Change {
         }
     }
 
+    // Whether it ended; or neither did, and the other began no earlier.
+    fn comes_first(&self, other: &Change) -> bool
+        ensures { result ≡ comes_first self.now other.now }
+    {
+        self.is_ended || (!other.is_ended && self.begin <= other.begin)
+    }
+
     // Of two calls the one that ended, or that began first if none did.
-    fn preferred(self, other: Option<Change>) -> Change {
-        match other {
-            Some(other) if other.is_ended => other,
-            Some(other) if !self.is_ended && other.begin <= self.begin => other,
-            _ => self,
+    fn preferred(self, before: Option<Change>) -> Change
+        ensures { result ≡ preferred self before }
+    {
+        let Some(before) = before else {
+            return self;
+        };
+        if before.comes_first(&self) {
+            before
+        } else {
+            self
         }
+    }
+}
+
+// The insert of the key, with one call more.
+fn insert_with(insert: Option<Change>, key: u64, call: &Call) -> Option<Change>
+    ensures { result ≡ insert_with key call.now insert }
+{
+    if call.said.inserts(key) {
+        Some(Change::of(call).preferred(insert))
+    } else {
+        insert
+    }
+}
+
+// The removal of the key, with one call more.
+fn removal_with(removal: Option<Change>, key: u64, call: &Call) -> Option<Change>
+    ensures { result ≡ removal_with key call.now removal }
+{
+    if call.said.removes(key) {
+        Some(Change::of(call).preferred(removal))
+    } else {
+        removal
+    }
+}
+
+// The first end of the calls that found the key, with one call more.
+fn end_with(first: u64, key: u64, call: &Call) -> u64
+    ensures { result ≡ end_with (finds key call.now.said) call.now.times.end first }
+{
+    let Some(end) = call.times.end() else {
+        return first;
+    };
+    if call.said.finds(key) {
+        first.min(end)
+    } else {
+        first
+    }
+}
+
+// The last begin of the calls that used the key's value and ended, with one call more.
+fn use_with(last: u64, key: u64, call: &Call) -> u64
+    ensures { result ≡ use_with (is_ended call.now.times && uses key call.now.said) call.now.times.begin last }
+{
+    if call.times.is_ended() && call.said.uses(key) {
+        last.max(call.times.begin())
+    } else {
+        last
     }
 }
 
@@ -46,7 +113,9 @@ pub struct Course {
 
 impl Course {
     /// The course of a key without a call.
-    pub fn new() -> Course {
+    pub fn new() -> Course
+        ensures { result ≡ no_calls }
+    {
         Course {
             insert: None,
             removal: None,
@@ -56,41 +125,40 @@ impl Course {
     }
 
     /// Takes in a call on this key. Of calls that never ended only an insert and a removal count.
-    pub fn take_in(&mut self, key: u64, call: &Call) {
-        if call.said.inserts(key) {
-            self.insert = Some(Change::of(call).preferred(self.insert));
-        }
-        if call.said.removes(key) {
-            self.removal = Some(Change::of(call).preferred(self.removal));
-        }
-        let Some(end) = call.times.end() else {
-            return;
-        };
-        if call.said.finds(key) {
-            self.first_end = self.first_end.min(end);
-        }
-        if call.said.uses(key) {
-            self.last_use = self.last_use.max(call.times.begin());
-        }
+    pub fn take_in(&mut self, key: u64, call: &Call)
+        ensures { self.new ≡ taken_in key call.now self.old }
+    {
+        self.insert = insert_with(self.insert, key, call);
+        self.removal = removal_with(self.removal, key, call);
+        self.first_end = end_with(self.first_end, key, call);
+        self.last_use = use_with(self.last_use, key, call);
     }
 
     /// Whether a call that never ended is the insert or the removal of the key.
-    pub fn is_change(&self, line: u64) -> bool {
-        match (self.insert, self.removal) {
-            (Some(insert), Some(removal)) => line == insert.line || line == removal.line,
-            (Some(insert), None) => line == insert.line,
-            (None, _) => false,
+    pub fn is_change(&self, line: u64) -> bool
+        ensures { result ≡ is_change line self.now.insert self.now.removal }
+    {
+        let Some(insert) = self.insert else {
+            return false;
+        };
+        match self.removal {
+            Some(removal) => line == insert.line || line == removal.line,
+            None => line == insert.line,
         }
     }
 
     /// When the key was inserted.
-    pub fn inserted(&self) -> Option<u64> {
+    pub fn inserted(&self) -> Option<u64>
+        ensures { result ≡ insert_moment self.now }
+    {
         let insert = self.insert?;
         Some(insert.begin.max(self.first_end))
     }
 
     /// When it was removed.
-    pub fn removed(&self) -> Option<u64> {
+    pub fn removed(&self) -> Option<u64>
+        ensures { result ≡ removal_moment self.now }
+    {
         let removal = self.removal?;
         let begun = removal.begin.max(self.last_use);
         Some(begun.max(self.inserted().unwrap_or(0)))
