@@ -1,2 +1,3 @@
 pub mod Sessions
 pub mod Reasons
+pub mod Views
