@@ -1,3 +1,4 @@
 pub mod Sessions
 pub mod Reasons
 pub mod Views
+pub mod Remarks

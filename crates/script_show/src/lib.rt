@@ -3,8 +3,8 @@
 //!
 //! `Session` is a world between two lines, and `watch` reads a script line by line and writes its trace, so it can be
 //! used at a terminal too. It is proved that a line does the event that it says (`does` of `Session::line`), and that
-//! it is written as mode steps writes it. It is proved too that a reason is given exactly for what is skipped.
-//! Everything more that a trace says is only tested.
+//! it is written as mode steps writes it. It is proved too that a reason is given exactly for what is skipped, and
+//! which remark follows the line (`remark_text`). Everything more that a trace says is only tested.
 #![tactic(auto)]
 
 mod class_named;
