@@ -1,11 +1,10 @@
 //! The text and the exit status of a fault.
-ghost use Rattle.std.specs.Prelude.{◌≡◌};
-ghost use Rattle.script_program.specs.Faults.{status_of};
+ghost use Rattle.std.specs.Prelude.{◌≡◌, ◌≤◌, length};
+ghost use Rattle.script_program.specs.Faults.{status_of, cause_name, script_line, fault_line};
 
 use arrayvec::ArrayString;
-use sh_script::Fault;
-use std::fmt;
-use std::fmt::Write;
+use itoa::Buffer;
+use sh_script::{Cause, Fault};
 
 /// As many bytes as the longest fault line has, and a newline: `shardheap: fault 14 Script line`, a number of 20
 /// digits, and `Command` or `Unbound`.
@@ -22,19 +21,58 @@ pub fn status(fault: Fault) -> u8
     }
 }
 
-/// A fault as one line of the standard error, without its newline: `shardheap: fault 14 Script line 3 Unbound`.
-#[derive(Clone, Copy, Debug)]
-pub struct FaultLine(pub Fault);
-
-impl fmt::Display for FaultLine {
-    fn fmt<W: fmt::Write>(&self, f: &mut fmt::Formatter<W>) -> fmt::Result {
-        write!(f, "shardheap: {}", self.0)
+// The name of a cause.
+fn cause_name(cause: Cause) -> &'static str
+    ensures name { result.now ≡ cause_name cause }
+    ensures short { length result.now ≤ 7 }
+{
+    match cause {
+        Cause::Size => "Size",
+        Cause::Cut => "Cut",
+        Cause::Byte => "Byte",
+        Cause::Header => "Header",
+        Cause::Number => "Number",
+        Cause::Pass => "Pass",
+        Cause::Count => "Count",
+        Cause::Command => "Command",
+        Cause::Name => "Name",
+        Cause::Bound => "Bound",
+        Cause::Unbound => "Unbound",
     }
 }
 
-/// The line on the standard error that names a fault, with its newline.
-pub fn fault_line(fault: Fault) -> ArrayString<LINE_MAX> {
+fn line_of(text: &str) -> ArrayString<LINE_MAX>
+    requires { length text.now ≤ 64 }
+    ensures { result.bytes ≡ text.now }
+{
     let mut line = ArrayString::new();
-    let _ = writeln!(line, "{}", FaultLine(fault));
+    line.push_str(text);
     line
+}
+
+// The line on the script's line of this number.
+fn script_line(number: u64, cause: Cause) -> ArrayString<LINE_MAX>
+    ensures { result.bytes ≡ script_line number cause }
+{
+    let mut line = ArrayString::new();
+    let mut buffer = Buffer::new();
+    line.push_str("shardheap: fault 14 Script line ");
+    line.push_str(buffer.format(number));
+    line.push_str(" ");
+    line.push_str(cause_name(cause));
+    line.push_str("\n");
+    line
+}
+
+/// The line on the standard error that names a fault, with its newline: `shardheap: fault 14 Script line 3 Unbound`.
+pub fn fault_line(fault: Fault) -> ArrayString<LINE_MAX>
+    ensures { result.bytes ≡ fault_line fault }
+{
+    match fault {
+        Fault::Memory => line_of("shardheap: fault 8 Memory\n"),
+        Fault::Waiting => line_of("shardheap: fault 11 Waiting\n"),
+        Fault::BadShape => line_of("shardheap: fault 12 BadShape\n"),
+        Fault::Script(number, cause) => script_line(number, cause),
+        Fault::Io => line_of("shardheap: fault 15 Io\n"),
+    }
 }

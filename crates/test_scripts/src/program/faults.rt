@@ -1,43 +1,40 @@
 //! The line of each fault, which is written in one write, and the exit status that follows it.
 use super::{agree, has_text};
-use script_program::faults::{FaultLine, fault_line, status};
+use script_program::faults::{fault_line, status};
 use script_program::program::report;
 use sh_script::{Cause, Fault};
 use std::alloc::Global;
 use std::io;
 use std::io::Write;
 use std::process::Abort;
-use std::test::Fail;
 
 #[test]
-fn fault_lines(rt: HostRuntime) -> Result<(), Fail> {
+fn fault_lines(rt: HostRuntime) {
     let table = [
         (
             Fault::Script(2, Cause::Cut),
-            "shardheap: fault 14 Script line 2 Cut",
+            "shardheap: fault 14 Script line 2 Cut\n",
             2,
         ),
         (
             Fault::Script(2, Cause::Unbound),
-            "shardheap: fault 14 Script line 2 Unbound",
+            "shardheap: fault 14 Script line 2 Unbound\n",
             2,
         ),
         (
             Fault::Script(1, Cause::Header),
-            "shardheap: fault 14 Script line 1 Header",
+            "shardheap: fault 14 Script line 1 Header\n",
             2,
         ),
-        (Fault::BadShape, "shardheap: fault 12 BadShape", 2),
-        (Fault::Memory, "shardheap: fault 8 Memory", 3),
-        (Fault::Waiting, "shardheap: fault 11 Waiting", 3),
-        (Fault::Io, "shardheap: fault 15 Io", 3),
+        (Fault::BadShape, "shardheap: fault 12 BadShape\n", 2),
+        (Fault::Memory, "shardheap: fault 8 Memory\n", 3),
+        (Fault::Waiting, "shardheap: fault 11 Waiting\n", 3),
+        (Fault::Io, "shardheap: fault 15 Io\n", 3),
     ];
     for (fault, line, ends_with) in table {
-        let text = format!(in rt.alloc(); "{}", FaultLine(fault))?;
-        agree(&rt, text.as_str(), line, line);
+        has_text(&rt, fault_line(fault).as_str().as_bytes(), line);
         agree(&rt, status(fault), ends_with, line);
     }
-    Ok(())
 }
 
 // Asserts that the fault is reported by this line, and ends a run with this status.
