@@ -2,3 +2,5 @@ pub mod Sessions
 pub mod Reasons
 pub mod Views
 pub mod Remarks
+pub mod HandTexts
+pub mod PassTexts

@@ -1,27 +1,60 @@
-//! The text on a pass: what it owns, what it has begun, and what it holds.
+//! The text on what a pass has begun.
+ghost use Rattle.std.specs.Prelude.{◌≡◌, ◌++◌, OnOk, string_bytes};
+ghost use Rattle.script_show.specs.HandTexts.{page_name, slot_name, after_tie, after_fill, filled_text, hand_text};
+
 use crate::lane::push_target;
 use crate::view::View;
-use sh_history::Entry;
 use sh_slots::{Hand, SlotRef};
-use sh_step::Part;
 use std::alloc::AllocError;
 use std::fmt::Write;
 
 // Writes the name of a slot.
-fn push_slot(out: &mut String, view: &View<'_>, slot_ref: SlotRef) -> Result<(), AllocError> {
+fn push_slot(out: &mut String, view: &View<'_>, slot_ref: SlotRef) -> Result<(), AllocError>
+    ensures { OnOk result (string_bytes out.new ≡ string_bytes out.old ++ slot_name view.now slot_ref) }
+{
     let (shard, page) = (view.shard_of(slot_ref.page), view.local_of(slot_ref.page));
     let slot = slot_ref.slot;
     write!(out, "slot {shard}.{page}.{slot}")
 }
 
 // Writes the name of a page.
-fn push_page_name(out: &mut String, view: &View<'_>, page: u64) -> Result<(), AllocError> {
+fn push_page_name(out: &mut String, view: &View<'_>, page: u64) -> Result<(), AllocError>
+    ensures { OnOk result (string_bytes out.new ≡ string_bytes out.old ++ page_name view.now page) }
+{
     let (shard, page) = (view.shard_of(page), view.local_of(page));
     write!(out, "page {shard}.{page}")
 }
 
-// Writes what a pass has begun, with the event that continues it.
-fn push_hand(out: &mut String, view: &View<'_>, hand: &Hand) -> Result<(), AllocError> {
+// The end of the text on a put slot, which the pass ties next.
+fn after_tie(rings: bool) -> &'static str
+    ensures { result.now ≡ after_tie rings }
+{
+    if rings {
+        ", next Tie and then Ring"
+    } else {
+        ", next Tie"
+    }
+}
+
+// The event after so many words of a value were stored.
+fn after_fill(done: u64, words: u64) -> &'static str
+    ensures { result.now ≡ after_fill done words }
+{
+    if done < words { "Fill" } else { "Publish" }
+}
+
+// Writes how many words of a value were stored.
+fn push_filled(out: &mut String, done: u64, words: u64) -> Result<(), AllocError>
+    ensures { OnOk result (string_bytes out.new ≡ string_bytes out.old ++ filled_text done words) }
+{
+    let next = after_fill(done, words);
+    write!(out, " with {done} of {words} words, next {next}")
+}
+
+/// Writes what a pass has begun, with the event that continues it.
+pub fn push_hand(out: &mut String, view: &View<'_>, hand: &Hand) -> Result<(), AllocError>
+    ensures { OnOk result (string_bytes out.new ≡ string_bytes out.old ++ hand_text view.now hand.now) }
+{
     match hand {
         Hand::Idle => out.push_str("idle"),
         Hand::Removing(key) => {
@@ -34,6 +67,7 @@ fn push_hand(out: &mut String, view: &View<'_>, hand: &Hand) -> Result<(), Alloc
             out.push_str(", next Drop")
         }
         Hand::Finishing(slot_ref, generation) => {
+            let generation = *generation;
             write!(out, "ends generation {generation} of ")?;
             push_slot(out, view, *slot_ref)?;
             out.push_str(", next Finish")
@@ -47,11 +81,7 @@ fn push_hand(out: &mut String, view: &View<'_>, hand: &Hand) -> Result<(), Alloc
             out.push_str("ties ")?;
             push_slot(out, view, *slot_ref)?;
             push_target(out, "slot", *link)?;
-            out.push_str(if *rings {
-                ", next Tie and then Ring"
-            } else {
-                ", next Tie"
-            })
+            out.push_str(after_tie(*rings))
         }
         Hand::Ringing(page) => {
             out.push_str("rings for ")?;
@@ -67,106 +97,7 @@ fn push_hand(out: &mut String, view: &View<'_>, hand: &Hand) -> Result<(), Alloc
         Hand::Filling(slot_ref, value, done) => {
             out.push_str("fills ")?;
             push_slot(out, view, *slot_ref)?;
-            let words = value.words().len() as u64;
-            let next = if *done < words { "Fill" } else { "Publish" };
-            write!(out, " with {done} of {words} words, next {next}")
+            push_filled(out, *done, value.words().len() as u64)
         }
     }
-}
-
-// The key of a get by this pass.
-fn key_got(entry: &Entry, pass: u32) -> Option<u64> {
-    match entry {
-        Entry::Got(by, key, _) if *by == pass => Some(*key),
-        _ => None,
-    }
-}
-
-fn is_release(entry: &Entry, pass: u32, key: u64) -> bool {
-    match entry {
-        Entry::Released(by, released) => *by == pass && *released == key,
-        _ => false,
-    }
-}
-
-// The number of holds that the pass has on the key.
-fn holds_on(view: &View<'_>, pass: u32, key: u64) -> usize {
-    let got = view
-        .log
-        .iter()
-        .filter(|entry| key_got(entry, pass) == Some(key))
-        .count();
-    let released = view
-        .log
-        .iter()
-        .filter(|entry| is_release(entry, pass, key))
-        .count();
-    got.saturating_sub(released)
-}
-
-// Whether this entry is the first get of the key by the pass.
-fn is_first_got(view: &View<'_>, pass: u32, key: u64, at: usize) -> bool {
-    view.log
-        .iter()
-        .position(|entry| key_got(entry, pass) == Some(key))
-        == Some(at)
-}
-
-// Writes the key once for each hold of the pass on it.
-fn push_hold(
-    out: &mut String,
-    view: &View<'_>,
-    pass: u32,
-    part: &Part,
-    key: u64,
-) -> Result<(), AllocError> {
-    if !part.has_hold(key) {
-        return Ok(());
-    }
-    let (times, key) = (holds_on(view, pass, key), view.key(key));
-    match times {
-        1 => write!(out, "; holds {key}"),
-        _ => write!(out, "; holds {key} {times} times"),
-    }
-}
-
-// Writes the keys that the pass holds, in the order of its first gets.
-fn push_holds(out: &mut String, view: &View<'_>, pass: u32, part: &Part) -> Result<(), AllocError> {
-    let mut at = 0;
-    for entry in view.log {
-        if let Some(key) = key_got(entry, pass) {
-            if is_first_got(view, pass, key, at) {
-                push_hold(out, view, pass, part, key)?;
-            }
-        }
-        at = at.saturating_add(1);
-    }
-    Ok(())
-}
-
-// Whether there is something to write about a pass.
-fn is_busy(part: &Part) -> bool {
-    !part.is_idle() || part.owned().is_some() || part.hold_count() > 0
-}
-
-fn push_pass(out: &mut String, view: &View<'_>, pass: u32, part: &Part) -> Result<(), AllocError> {
-    write!(out, "  pass {pass}: ")?;
-    push_hand(out, view, part.hand())?;
-    if let Some(shard) = part.owned() {
-        write!(out, "; owns shard {shard}")?;
-    }
-    push_holds(out, view, pass, part)?;
-    out.push_str("\n")
-}
-
-/// Writes a line for each pass that has begun something, owns a shard or holds a key.
-pub fn push_passes(out: &mut String, view: &View<'_>) -> Result<(), AllocError> {
-    let mut pass: u32 = 0;
-    for part in view.parts {
-        if is_busy(part) {
-            push_pass(out, view, pass, part)?;
-        }
-        pass = pass.saturating_add(1);
-    }
-    Ok(())
 }

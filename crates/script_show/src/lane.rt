@@ -1,4 +1,8 @@
 //! A stack or a chain, link by link.
+ghost use Rattle.std.specs.Prelude.{◌≡◌, ◌++◌, OnOk, string_bytes};
+ghost use Rattle.sh_stack.specs.Stack.{link_of};
+ghost use Rattle.script_show.specs.HandTexts.{target_text};
+
 use crate::view::View;
 use sh_shape::Place;
 use sh_slots::{Hand, SlotRef};
@@ -64,7 +68,9 @@ pub fn page_owed(view: &View<'_>, page: u64) -> Option<Owed> {
 }
 
 /// Writes the target of a link, of slots or of pages.
-pub fn push_target(out: &mut String, what: &str, link: u64) -> Result<(), AllocError> {
+pub fn push_target(out: &mut String, what: &str, link: u64) -> Result<(), AllocError>
+    ensures { OnOk result (string_bytes out.new ≡ string_bytes out.old ++ target_text what.now (link_of link)) }
+{
     match Link::of(link) {
         Link::Unwritten => out.push_str(" to nothing"),
         Link::End => out.push_str(" to the end"),

@@ -11,6 +11,7 @@ mod class_named;
 mod hand_text;
 mod lane;
 mod page_text;
+mod pass_text;
 mod reason;
 mod remark;
 mod session;

@@ -1,6 +1,6 @@
 //! What a trace says of an event.
-use crate::hand_text::push_passes;
 use crate::page_text::push_page;
+use crate::pass_text::push_passes;
 use crate::shard_text::push_shard;
 use crate::touched::Touched;
 use crate::view::View;
