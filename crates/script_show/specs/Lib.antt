@@ -4,3 +4,4 @@ pub mod Views
 pub mod Remarks
 pub mod HandTexts
 pub mod PassTexts
+pub mod OwedLinks

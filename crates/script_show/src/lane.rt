@@ -2,6 +2,7 @@
 ghost use Rattle.std.specs.Prelude.{◌≡◌, ◌++◌, OnOk, string_bytes};
 ghost use Rattle.sh_stack.specs.Stack.{link_of};
 ghost use Rattle.script_show.specs.HandTexts.{target_text};
+ghost use Rattle.script_show.specs.OwedLinks.{link_for_slot, link_for_page, owed_from, slot_owed, page_owed};
 
 use crate::view::View;
 use sh_shape::Place;
@@ -28,43 +29,71 @@ pub struct Owed {
 }
 
 // The link that the pass owes to a slot.
-fn slot_link_owed(part: &Part, slot_ref: SlotRef) -> Option<u64> {
+fn link_for_slot(part: &Part, slot_ref: SlotRef) -> Option<u64>
+    ensures { result ≡ link_for_slot slot_ref part.now.hand }
+{
     match part.hand() {
-        Hand::Tying(put, link, _) if slot_ref.is_same(put) => Some(*link),
+        Hand::Tying(put, link, _) => {
+            if slot_ref.is_same(put) {
+                Some(*link)
+            } else {
+                None
+            }
+        }
         _ => None,
     }
 }
 
 // The link that the pass owes to a page.
-fn page_link_owed(part: &Part, page: u64) -> Option<u64> {
+fn link_for_page(part: &Part, page: u64) -> Option<u64>
+    ensures { result ≡ link_for_page page part.now.hand }
+{
     match part.hand() {
-        Hand::RingTying(put, link) if *put == page => Some(*link),
+        Hand::RingTying(put, link) => {
+            if *put == page {
+                Some(*link)
+            } else {
+                None
+            }
+        }
         _ => None,
     }
 }
 
-/// The link of a slot that is not written yet, with the pass that owes it.
-pub fn slot_owed(view: &View<'_>, slot_ref: SlotRef) -> Option<Owed> {
-    let mut pass = 0;
-    for part in view.parts {
-        if let Some(link) = slot_link_owed(part, slot_ref) {
+fn slot_owed_by(parts: &[Part], slot_ref: SlotRef) -> Option<Owed>
+    ensures { result ≡ owed_from (link_for_slot slot_ref) 0 parts.now }
+{
+    for (pass, part) in parts.iter().enumerate() {
+        if let Some(link) = link_for_slot(part, slot_ref) {
             return Some(Owed { pass, link });
         }
-        pass = pass.saturating_add(1);
     }
     None
 }
 
-/// The link of a page that is not written yet, with the pass that owes it.
-pub fn page_owed(view: &View<'_>, page: u64) -> Option<Owed> {
-    let mut pass = 0;
-    for part in view.parts {
-        if let Some(link) = page_link_owed(part, page) {
+fn page_owed_by(parts: &[Part], page: u64) -> Option<Owed>
+    ensures { result ≡ owed_from (link_for_page page) 0 parts.now }
+{
+    for (pass, part) in parts.iter().enumerate() {
+        if let Some(link) = link_for_page(part, page) {
             return Some(Owed { pass, link });
         }
-        pass = pass.saturating_add(1);
     }
     None
+}
+
+/// The link of a slot that is not written yet, with the pass that owes it.
+pub fn slot_owed(view: &View<'_>, slot_ref: SlotRef) -> Option<Owed>
+    ensures { result ≡ slot_owed view.now slot_ref }
+{
+    slot_owed_by(view.parts, slot_ref)
+}
+
+/// The link of a page that is not written yet, with the pass that owes it.
+pub fn page_owed(view: &View<'_>, page: u64) -> Option<Owed>
+    ensures { result ≡ page_owed view.now page }
+{
+    page_owed_by(view.parts, page)
 }
 
 /// Writes the target of a link, of slots or of pages.
