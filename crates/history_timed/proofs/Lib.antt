@@ -5,3 +5,4 @@ pub mod CountLemmas
 pub mod RefusalLemmas
 pub mod OrderLemmas
 pub mod JudgingLemmas
+pub mod CourseLemmas

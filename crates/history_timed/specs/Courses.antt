@@ -1,11 +1,13 @@
 -- When a key was inserted and removed, by the times of the calls on it.
-use Rattle.std.specs.Prelude.{ℕ, ◌-◌, ◌^◌, ◌==◌, ◌&&◌, ◌||◌, not, nat_le, min, max, Bool, false}
-use Rattle.std.specs.Prelude.{Option, Some, None, unwrap_or, if◌then◌else◌}
+use Rattle.std.specs.Prelude.{ℕ, ◌-◌, ◌^◌, ◌==◌, ◌&&◌, ◌||◌, not, nat_eq, nat_le, min, max, Bool, false}
+use Rattle.std.specs.Prelude.{List, [], ◌∷◌, Option, Some, None, unwrap_or, if◌then◌else◌}
+use Rattle.std.specs.HashMap.{get}
 use Rattle.history_timed.specs.declared.call.Call.{Call}
 use Rattle.history_timed.specs.declared.course.Change.{Change}
 use Rattle.history_timed.specs.declared.course.Course.{Course}
+use Rattle.history_timed.specs.declared.course.Courses.{Courses}
 use Rattle.history_timed.specs.Times.{is_ended}
-use Rattle.history_timed.specs.Calls.{inserts, uses, removes, finds}
+use Rattle.history_timed.specs.Calls.{key_said, inserts, uses, removes, finds}
 
 -- ---- of several calls that inserted a key, or removed it, one counts
 
@@ -74,3 +76,21 @@ removal_from (Some removal) last_use inserted = Some (max (max removal.begin las
 
 abbrev pub removal_moment : Course → Option ℕ
 removal_moment course = removal_from course.removal course.last_use (insert_moment course)
+
+-- ---- the courses of all keys
+
+-- a call changes the course of its own key alone
+abbrev pub course_with : ℕ → Call → Course → Course
+course_with key call course = if nat_eq (key_said call.said) key then taken_in key call course else course
+
+abbrev pub course_from : ℕ → Course → List Call → Course
+course_from key course [] = course
+course_from key course (call ∷ calls) = course_from key (course_with key call course) calls
+
+-- the course of a key by these calls
+abbrev pub course_by : List Call → ℕ → Course
+course_by calls key = course_from key no_calls calls
+
+-- the course that is kept of a key
+abbrev pub course_in : Courses → ℕ → Course
+course_in courses key = unwrap_or (get nat_eq courses.by_key key) no_calls

@@ -4,11 +4,12 @@
 //! and a release as late. The removal is as early as it may be: after each use of the value. So if keys are never
 //! crowded, and some order is legal and keeps to the times, this one is and does. No contract says that: each order
 //! that is tried is judged.
-ghost use Rattle.std.specs.Prelude.{◌≡◌, ◌&&◌};
+ghost use Rattle.std.specs.Prelude.{◌≡◌, ◌&&◌, ℕ, IfOk, OnOk, OnErr};
 ghost use Rattle.history_timed.specs.Times.{is_ended};
 ghost use Rattle.history_timed.specs.Calls.{uses, finds};
 ghost use Rattle.history_timed.specs.Courses.{change_of, comes_first, preferred, no_calls, insert_with, removal_with};
 ghost use Rattle.history_timed.specs.Courses.{end_with, use_with, taken_in, is_change, insert_moment, removal_moment};
+ghost use Rattle.history_timed.specs.Courses.{course_with, course_by, course_in};
 
 use crate::call::Call;
 use std::alloc::{AllocError, Global};
@@ -173,25 +174,35 @@ pub struct Courses {
 
 impl Courses {
     /// The courses by these calls. Refused if memory is.
-    pub fn new(alloc: Global, calls: &[Call]) -> Result<Courses, AllocError> {
-        let mut by_key = HashMap::new(alloc);
+    pub fn new(alloc: Global, calls: &[Call]) -> Result<Courses, AllocError>
+        ensures { IfOk result (λ courses. (key : ℕ) → course_in courses key ≡ course_by calls.now key) }
+    {
+        let mut courses = Courses {
+            by_key: HashMap::new(alloc),
+        };
         for call in calls {
-            let key = call.said.key();
-            let mut course = match by_key.get(&key) {
-                Some(course) => *course,
-                None => Course::new(),
-            };
-            course.take_in(key, call);
-            by_key.insert(key, course)?;
+            courses.take_in(call)?;
         }
-        Ok(Courses { by_key })
+        Ok(courses)
+    }
+
+    // Takes in a call, on the course of its key. If memory is refused, nothing changes.
+    fn take_in(&mut self, call: &Call) -> Result<(), AllocError>
+        ensures ok { OnOk result ((key : ℕ) → course_in self.new key
+            ≡ course_with key call.now (course_in self.old key)) }
+        ensures err { OnErr result ((key : ℕ) → course_in self.new key ≡ course_in self.old key) }
+    {
+        let key = call.said.key();
+        let mut course = self.of(key);
+        course.take_in(key, call);
+        self.by_key.insert(key, course)?;
+        Ok(())
     }
 
     /// The course of a key.
-    pub fn of(&self, key: u64) -> Course {
-        match self.by_key.get(&key) {
-            Some(course) => *course,
-            None => Course::new(),
-        }
+    pub fn of(&self, key: u64) -> Course
+        ensures { result ≡ course_in self.now key }
+    {
+        self.by_key.get(&key).copied().unwrap_or(Course::new())
     }
 }
