@@ -18,3 +18,4 @@ mod Complete
 mod FoundLists
 mod FoundTests
 mod Seeing
+mod CountedLines

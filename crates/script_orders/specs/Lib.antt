@@ -7,3 +7,4 @@ pub mod Marks
 pub mod Counts
 pub mod Walks
 pub mod Printed
+pub mod Texts

@@ -26,5 +26,5 @@ pub use event::Events;
 pub use fault::{Cause, Fault};
 pub use header::{Header, Layout};
 pub use numbers::Numbers;
-pub use reader::{LINE_BYTES_MAX, SCRIPT_BYTES_MAX};
+pub use reader::{LINE_BYTES_MAX, SCRIPT_BYTES_MAX, split_line};
 pub use script::{parse_calls, parse_events};

@@ -113,7 +113,7 @@ fn end<B: Drop>(read: Read<B>, number: u64, rest: &[u8]) -> Result<(Header, B), 
 
 #[tactic(auto, using(crate::proofs::Pieces::pieces_none, crate::proofs::Pieces::pieces_some))]
 /// The first line and the text after its newline, if there is a newline.
-fn split_line(text: &[u8]) -> Option<(&[u8], &[u8])>
+pub fn split_line(text: &[u8]) -> Option<(&[u8], &[u8])>
     ensures none { IfNone result (pieces_of text.now ≡ text.now ∷ []) }
     ensures some { IfSome result (λ p. pieces_of text.now ≡ p.0.now ∷ pieces_of p.1.now) }
     ensures shorter { IfSome result (λ p. length p.1.now < length text.now) }
