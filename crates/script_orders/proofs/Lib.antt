@@ -19,3 +19,4 @@ mod FoundLists
 mod FoundTests
 mod Seeing
 mod CountedLines
+mod SaidLines

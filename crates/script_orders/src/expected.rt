@@ -14,7 +14,7 @@ pub struct Difference<'t> {
 }
 
 // Whether a line counts: it is not empty, and no comment.
-fn is_counted(line: &[u8]) -> bool
+pub(crate) fn is_counted(line: &[u8]) -> bool
     ensures { result ≡ is_counted line.now }
 {
     !line.is_empty() && line[0] != b';'
