@@ -5,3 +5,4 @@ pub mod Remarks
 pub mod HandTexts
 pub mod PassTexts
 pub mod OwedLinks
+pub mod Whys

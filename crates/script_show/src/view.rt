@@ -41,7 +41,7 @@ fn has_place(shape: &Shape, place: Place) -> bool
 }
 
 // Whether the pass with this part owns the shard.
-fn owns(part: &Part, shard: u64) -> bool
+pub fn owns(part: &Part, shard: u64) -> bool
     ensures { result ≡ owns shard part.now }
 {
     match part.owned() {
