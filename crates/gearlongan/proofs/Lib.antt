@@ -1,1 +1,2 @@
 pub mod Giving
+pub use Rattle.sh_readers.proofs.Hearing

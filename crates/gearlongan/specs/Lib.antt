@@ -1,3 +1,6 @@
 pub mod Tasks
 pub mod Passes
 pub mod Receipts
+pub use Rattle.sh_value.specs.declared.hold.Hold
+pub use Rattle.sh_value.specs.declared.refusal.Refusal
+pub use Rattle.sh_key.specs.Layout

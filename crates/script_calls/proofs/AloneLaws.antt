@@ -7,9 +7,9 @@ use Rattle.std.proofs.lemmas.List.Elements.{Contains-append_left, Contains-appen
 use Rattle.std.proofs.lemmas.Option.{none-some}
 use mathlib.Core.Logic.{dite}
 use native.Mathlib.Decide.{ℕ_discrete}
-use Rattle.sh_history.specs.declared.entry.Entry.{Entry}
-use Rattle.sh_history.specs.declared.log.LogEntry.{LogEntry}
-use Rattle.sh_history.specs.Log.{Agrees}
+use Rattle.sh_pass.specs.Entry.{Entry}
+use Rattle.sh_pass.specs.LogEntry.{LogEntry}
+use Rattle.sh_pass.specs.Log.{Agrees}
 use Rattle.sh_script.specs.declared.calls.CallLine.{CallLine}
 use Rattle.script_output.specs.declared.answer.Answer.{Answer}
 use Rattle.script_output.specs.Keys.{HasTagRoom}
@@ -38,12 +38,12 @@ use Rattle.script_calls.proofs.OrderLemmas.{times_append, times_length, times_he
 use Rattle.script_calls.proofs.GrowLemmas.{grows}
 use Rattle.script_calls.proofs.InTurn.{begins_alone, answered_more, steps}
 use Rattle.script_calls.proofs.StepLaws.{lines_more, last_more, no_steps}
-use Rattle.sh_table.specs.declared.view.Heard.{Heard}
-use Rattle.sh_table.specs.declared.view.Order.{Order}
-use Rattle.sh_table.specs.Seats.{Heap}
-use Rattle.sh_table.specs.Tales.{by, HasFirst, Before}
-use Rattle.sh_table.specs.Views.{Each, heard_in}
-use Rattle.sh_table.proofs.Zips.{zip_length}
+use Rattle.sh_pass.specs.Heard.{Heard}
+use Rattle.sh_pass.specs.Order.{Order}
+use Rattle.sh_pass.specs.Seats.{Heap}
+use Rattle.sh_pass.specs.Tales.{by, HasFirst, Before}
+use Rattle.sh_pass.specs.Views.{Each, heard_in}
+use Rattle.sh_pass.proofs.Zips.{zip_length}
 
 -- ---- elements of lists
 

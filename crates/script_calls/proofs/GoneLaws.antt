@@ -11,18 +11,18 @@ use native.Mathlib.Decide.{ℕ_discrete}
 use Rattle.sh_value.specs.declared.hold.Hold.{Hold}
 use Rattle.sh_value.specs.declared.refusal.Refusal.{Refusal}
 use Rattle.sh_value.specs.declared.refusal.Refusal.TheVariants as refusal
-use Rattle.sh_history.specs.declared.entry.Entry.{Entry}
-use Rattle.sh_history.specs.declared.entry.Entry.TheVariants.{Insert, Gone}
-use Rattle.sh_history.specs.declared.log.LogEntry.{LogEntry}
-use Rattle.sh_history.specs.declared.log.LogEntry.TheVariants.{Known}
-use Rattle.sh_history.specs.History.{value_of, Allowed, Legal}
-use Rattle.sh_history.specs.Laws.{HasRemoval}
-use Rattle.sh_history.specs.Log.{Agrees, pass_of, entries_of}
-use Rattle.sh_history.proofs.Laws.{legal_after_parts}
-use Rattle.sh_history.proofs.LogLaws.{value_of_insert}
-use Rattle.sh_history.proofs.Standing.{splits_at, has_removal}
-use Rattle.sh_table.specs.Tales.{by}
-use Rattle.sh_table.proofs.Zips.{by_append}
+use Rattle.sh_pass.specs.Entry.{Entry}
+use Rattle.sh_pass.specs.Entry.TheVariants.{Insert, Gone}
+use Rattle.sh_pass.specs.LogEntry.{LogEntry}
+use Rattle.sh_pass.specs.LogEntry.TheVariants.{Known}
+use Rattle.sh_pass.specs.History.{value_of, Allowed, Legal}
+use Rattle.sh_pass.specs.HistoryLaws.{HasRemoval}
+use Rattle.sh_pass.specs.Log.{Agrees, pass_of, entries_of}
+use Rattle.sh_pass.proofs.HistoryLaws.{legal_after_parts}
+use Rattle.sh_pass.proofs.LogLaws.{value_of_insert}
+use Rattle.sh_pass.proofs.Standing.{splits_at, has_removal}
+use Rattle.sh_pass.specs.Tales.{by}
+use Rattle.sh_pass.proofs.Zips.{by_append}
 use Rattle.sh_script.specs.declared.calls.Reference.TheVariants as reference
 use Rattle.sh_script.specs.declared.calls.Call.{Call}
 use Rattle.sh_script.specs.declared.calls.Call.TheVariants as call

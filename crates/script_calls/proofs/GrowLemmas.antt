@@ -5,10 +5,10 @@ use Rattle.std.proofs.Common.{Option, Some, None, Result, Ok, Err, length-append
 use Rattle.sh_value.specs.declared.hold.Hold.{Hold}
 use Rattle.sh_value.specs.declared.refusal.Refusal.{Refusal}
 use Rattle.sh_value.specs.declared.refusal.Refusal.TheVariants as refusal
-use Rattle.sh_history.specs.declared.entry.Entry.{Entry}
-use Rattle.sh_history.specs.declared.log.LogEntry.{LogEntry}
-use Rattle.sh_history.specs.declared.log.LogEntry.TheVariants.{Known}
-use Rattle.sh_history.specs.Log.{filled}
+use Rattle.sh_pass.specs.Entry.{Entry}
+use Rattle.sh_pass.specs.LogEntry.{LogEntry}
+use Rattle.sh_pass.specs.LogEntry.TheVariants.{Known}
+use Rattle.sh_pass.specs.Log.{filled}
 use Rattle.std.specs.Prelude.{ok_or}
 use Rattle.sh_script.specs.declared.calls.Reference.{Reference}
 use Rattle.sh_script.specs.declared.calls.Reference.TheVariants as reference

@@ -7,13 +7,13 @@ use Rattle.std.proofs.lemmas.List.Elements.{Contains-append_left, Contains-appen
 use Rattle.std.proofs.lemmas.Option.{none-some, same_Some}
 use mathlib.Core.Logic.{dite}
 use native.Mathlib.Decide.{ℕ_discrete}
-use Rattle.sh_history.specs.declared.entry.Entry.{Entry}
-use Rattle.sh_history.specs.History.{Legal}
-use Rattle.sh_table.specs.declared.view.Order.{Order}
-use Rattle.sh_table.specs.Seats.{Heap}
-use Rattle.sh_table.specs.Tales.{by, HasFirst, Before}
-use Rattle.sh_table.specs.Views.{heard_in}
-use Rattle.sh_table.proofs.Hearing.{heard_before}
+use Rattle.sh_pass.specs.Entry.{Entry}
+use Rattle.sh_pass.specs.History.{Legal}
+use Rattle.sh_pass.specs.Order.{Order}
+use Rattle.sh_pass.specs.Seats.{Heap}
+use Rattle.sh_pass.specs.Tales.{by, HasFirst, Before}
+use Rattle.sh_pass.specs.Views.{heard_in}
+use Rattle.sh_pass.proofs.Hearing.{heard_before}
 use Rattle.sh_pass.specs.Passes.{Caller}
 use Rattle.script_calls.specs.OwnParts.{own_part}
 use Rattle.script_calls.specs.Parts.{RunTerms, SeenPass}

@@ -32,8 +32,8 @@ use Rattle.script_calls.proofs.HeardAll.{met_of_heard}
 use Rattle.script_calls.proofs.NameLaws.{named_by}
 use Rattle.script_calls.proofs.LineLemmas.{one_more, part_here, part_there}
 use Rattle.script_calls.proofs.Newcomers.{newcomers_length, newcomers_get, length_map}
-use Rattle.sh_table.specs.Seats.{Heap}
-use Rattle.sh_table.specs.Tales.{HasFirst}
+use Rattle.sh_pass.specs.Seats.{Heap}
+use Rattle.sh_pass.specs.Tales.{HasFirst}
 use Rattle.sh_pass.specs.Passes.{Caller}
 
 -- ---- one more line

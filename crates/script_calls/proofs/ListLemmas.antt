@@ -6,8 +6,8 @@ use Rattle.std.proofs.lemmas.List.{map-append}
 use Rattle.std.proofs.lemmas.List.Elements.{Contains-append_left, Contains-append_right, Contains-push}
 use mathlib.Core.Logic.{dite}
 use native.Mathlib.Decide.{ℕ_discrete}
-use Rattle.sh_history.proofs.Standing.{splits_at}
-use Rattle.sh_table.specs.Views.{Each}
+use Rattle.sh_pass.proofs.Standing.{splits_at}
+use Rattle.sh_pass.specs.Views.{Each}
 use Rattle.std.proofs.lemmas.Option.{none-some, same_Some}
 use Rattle.script_calls.specs.Parts.{passes_below}
 

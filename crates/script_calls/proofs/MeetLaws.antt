@@ -4,9 +4,9 @@ use Rattle.std.proofs.Common.{refl, ap, ◌∙◌, subst, arith, append_assoc, a
 use Rattle.std.specs.Prelude.{Err, nat_lt, not}
 use Rattle.std.specs.List.{Contains}
 use Rattle.std.proofs.lemmas.List.Elements.{Contains-append_left, Contains-append_right, Contains-append_cases}
-use Rattle.sh_history.specs.History.{Legal}
-use Rattle.sh_history.specs.Log.{entries_of}
-use Rattle.sh_table.specs.declared.view.Order.{Order}
+use Rattle.sh_pass.specs.History.{Legal}
+use Rattle.sh_pass.specs.Log.{entries_of}
+use Rattle.sh_pass.specs.Order.{Order}
 use Rattle.sh_value.specs.declared.refusal.Refusal.TheVariants as refusal
 use Rattle.sh_member.specs.Sides.{SeenSide, SideLeaves}
 use Rattle.std.specs.Option.{option_map}
@@ -17,7 +17,7 @@ use Rattle.script_calls.specs.Meeting.{CarriesTale, MeetsCarrier, HasMet, SomeWa
 use Rattle.script_calls.specs.Meeting.{CarriesOrders, OwnsNone, orders_of}
 use Rattle.script_calls.proofs.ListLemmas.{map_more}
 use Rattle.script_calls.proofs.Newcomers.{get_middle}
-use Rattle.sh_table.specs.Seats.{Heap}
+use Rattle.sh_pass.specs.Seats.{Heap}
 
 tales_more : (ss : List SeenPass) (s : SeenPass) → tales_told (ss ++ s ∷ []) ≡ tales_told ss ++ tale_told s
 tales_more [] s = append-nil (tale_told s)

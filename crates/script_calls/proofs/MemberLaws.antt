@@ -5,10 +5,10 @@ use Rattle.std.proofs.lemmas.Option.{none-some, same_Some}
 use Rattle.sh_value.specs.declared.hold.Hold.{Hold}
 use Rattle.sh_value.specs.declared.refusal.Refusal.{Refusal}
 use Rattle.sh_key.specs.Layout.{Layout, first_key, key_count}
-use Rattle.sh_table.specs.declared.view.View.{View}
-use Rattle.sh_table.specs.Tales.{ViewStands}
+use Rattle.sh_pass.specs.View.{View}
+use Rattle.sh_pass.specs.Tales.{ViewStands}
 use Rattle.sh_pass.specs.Passes.{Caller, GetDoes, ReadDoes, RemoveDoes, ReleaseDoes}
-use Rattle.sh_shard.specs.Shards.{value_class}
+use Rattle.sh_member.specs.Shards.{value_class}
 use Rattle.sh_member.specs.declared.member.Side.TheVariants.{Pass, Shard, Moving}
 use Rattle.sh_member.specs.Sides.{SeenSide, SideDoes, SideInserts, SideAdopts, SideLeaves, SideStands, SideHeeds}
 use Rattle.sh_member.specs.Sides.{IsOfHeap, IsReceiptBy, MayJoin, SideJoins, SideGivesPass}

@@ -7,17 +7,17 @@ use Rattle.std.proofs.lemmas.List.Elements.{Contains-append_left, Contains-appen
 use Rattle.std.proofs.lemmas.Option.{none-some, same_Some, get_or_from_slice_get}
 use mathlib.Core.Logic.{dite}
 use native.Mathlib.Decide.{ℕ_discrete}
-use Rattle.sh_history.specs.declared.entry.Entry.{Entry}
-use Rattle.sh_history.specs.declared.entry.Entry.TheVariants.{Insert}
-use Rattle.sh_history.specs.declared.log.LogEntry.{LogEntry}
-use Rattle.sh_history.specs.declared.log.LogEntry.TheVariants.{Known, Unread}
-use Rattle.sh_history.specs.Log.{Agrees, pass_of}
-use Rattle.sh_history.proofs.Standing.{splits_at}
-use Rattle.sh_table.specs.declared.view.Heard.{Heard}
-use Rattle.sh_table.specs.declared.view.Order.{Order}
-use Rattle.sh_table.specs.Seats.{Heap}
-use Rattle.sh_table.specs.Tales.{by, Before}
-use Rattle.sh_table.proofs.Zips.{zip_length}
+use Rattle.sh_pass.specs.Entry.{Entry}
+use Rattle.sh_pass.specs.Entry.TheVariants.{Insert}
+use Rattle.sh_pass.specs.LogEntry.{LogEntry}
+use Rattle.sh_pass.specs.LogEntry.TheVariants.{Known, Unread}
+use Rattle.sh_pass.specs.Log.{Agrees, pass_of}
+use Rattle.sh_pass.proofs.Standing.{splits_at}
+use Rattle.sh_pass.specs.Heard.{Heard}
+use Rattle.sh_pass.specs.Order.{Order}
+use Rattle.sh_pass.specs.Seats.{Heap}
+use Rattle.sh_pass.specs.Tales.{by, Before}
+use Rattle.sh_pass.proofs.Zips.{zip_length}
 use Rattle.sh_script.specs.declared.calls.CallLine.{CallLine}
 use Rattle.script_output.specs.declared.answer.Answer.{Answer}
 use Rattle.script_output.specs.Keys.{key_shown}

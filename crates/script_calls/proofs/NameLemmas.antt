@@ -11,12 +11,12 @@ use mathlib.Core.Logic.{dite}
 use native.Mathlib.Decide.{ℕ_discrete}
 use Rattle.sh_value.specs.declared.refusal.Refusal.{Refusal}
 use Rattle.sh_key.specs.Layout.{Layout, first_key, key_count}
-use Rattle.sh_history.specs.declared.entry.Entry.TheVariants.{Insert}
-use Rattle.sh_history.specs.declared.log.LogEntry.{LogEntry}
-use Rattle.sh_history.specs.declared.log.LogEntry.TheVariants.{Known}
-use Rattle.sh_table.specs.declared.view.Heard.{Heard}
-use Rattle.sh_table.specs.declared.view.Order.{Order}
-use Rattle.sh_table.specs.Views.{heard_in}
+use Rattle.sh_pass.specs.Entry.TheVariants.{Insert}
+use Rattle.sh_pass.specs.LogEntry.{LogEntry}
+use Rattle.sh_pass.specs.LogEntry.TheVariants.{Known}
+use Rattle.sh_pass.specs.Heard.{Heard}
+use Rattle.sh_pass.specs.Order.{Order}
+use Rattle.sh_pass.specs.Views.{heard_in}
 use Rattle.sh_script.specs.declared.calls.Call.{Call}
 use Rattle.sh_script.specs.declared.calls.Call.TheVariants as call
 use Rattle.sh_script.specs.declared.calls.CallLine.{CallLine}

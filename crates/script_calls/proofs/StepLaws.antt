@@ -6,9 +6,9 @@ use mathlib.Core.Logic.{dite}
 use native.Mathlib.Decide.{ℕ_discrete}
 use Rattle.sh_script.specs.declared.calls.CallLine.{CallLine}
 use Rattle.script_output.specs.declared.answer.Answer.{Answer}
-use Rattle.sh_table.specs.declared.view.Heard.{Heard}
-use Rattle.sh_table.specs.declared.view.Order.{Order}
-use Rattle.sh_table.specs.Seats.{Heap}
+use Rattle.sh_pass.specs.Heard.{Heard}
+use Rattle.sh_pass.specs.Order.{Order}
+use Rattle.sh_pass.specs.Seats.{Heap}
 use Rattle.sh_pass.specs.Passes.{Caller}
 use Rattle.sh_member.specs.Sides.{SideStands}
 use Rattle.script_calls.specs.OwnParts.{steps_of}

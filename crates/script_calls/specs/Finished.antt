@@ -2,14 +2,14 @@
 use Rattle.std.specs.Prelude.{◌≡◌, ℕ, ◌<◌, nat_lt, not, Bool, true, List, [], ◌∷◌, ◌⊎◌, Option, Some, None, IfSome}
 use Rattle.std.specs.Prelude.{IfNone, Err}
 use Rattle.sh_value.specs.declared.refusal.Refusal.TheVariants as refusal
-use Rattle.sh_history.specs.declared.entry.Entry.{Entry}
-use Rattle.sh_history.specs.History.{Legal}
-use Rattle.sh_history.specs.Log.{entries_of}
+use Rattle.sh_pass.specs.Entry.{Entry}
+use Rattle.sh_pass.specs.History.{Legal}
+use Rattle.sh_pass.specs.Log.{entries_of}
 use Rattle.sh_script.specs.declared.calls.CallLine.{CallLine}
 use Rattle.script_output.specs.declared.answer.Answer.{Answer}
-use Rattle.sh_table.specs.Seats.{Heap}
-use Rattle.sh_table.specs.Tales.{HasFirst, Before}
-use Rattle.sh_table.specs.Views.{Each}
+use Rattle.sh_pass.specs.Seats.{Heap}
+use Rattle.sh_pass.specs.Tales.{HasFirst, Before}
+use Rattle.sh_pass.specs.Views.{Each}
 use Rattle.sh_member.specs.Sides.{SeenSide, SideLeaves}
 use Rattle.script_calls.specs.Parts.{SeenPass, PassPart, RunTerms, HasAllLogs, no_terms, new_passes, tale_told}
 use Rattle.script_calls.specs.Receipts.{MayHeed, part_heard}

@@ -2,14 +2,14 @@
 use Rattle.std.specs.Prelude.{◌≡◌, ℕ, ◌==◌, Bool, true, false, cond, List, [], ◌∷◌, ◌++◌, take, length, slice_get}
 use Rattle.std.specs.Prelude.{Option, Some, None}
 use Rattle.std.specs.List.{Contains, list_any}
-use Rattle.sh_history.specs.declared.entry.Entry.{Entry}
-use Rattle.sh_history.specs.declared.entry.Entry.TheVariants.{Insert}
-use Rattle.sh_history.specs.declared.log.LogEntry.{LogEntry}
-use Rattle.sh_history.specs.declared.log.LogEntry.TheVariants.{Known}
-use Rattle.sh_history.specs.Log.{pass_of}
-use Rattle.sh_table.specs.declared.view.Heard.{Heard}
-use Rattle.sh_table.specs.declared.view.Order.{Order}
-use Rattle.sh_table.specs.Tales.{by}
+use Rattle.sh_pass.specs.Entry.{Entry}
+use Rattle.sh_pass.specs.Entry.TheVariants.{Insert}
+use Rattle.sh_pass.specs.LogEntry.{LogEntry}
+use Rattle.sh_pass.specs.LogEntry.TheVariants.{Known}
+use Rattle.sh_pass.specs.Log.{pass_of}
+use Rattle.sh_pass.specs.Heard.{Heard}
+use Rattle.sh_pass.specs.Order.{Order}
+use Rattle.sh_pass.specs.Tales.{by}
 use Rattle.sh_script.specs.declared.calls.CallLine.{CallLine}
 use Rattle.script_output.specs.declared.answer.Answer.{Answer}
 use Rattle.script_output.specs.Keys.{key_shown}

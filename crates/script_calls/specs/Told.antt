@@ -1,14 +1,14 @@
 -- What a run on the running heap writes.
 use Rattle.std.specs.Prelude.{◌≡◌, ℕ, Bool, true, List, map, take, length, slice_get, Option, Some}
 use Rattle.sh_value.specs.declared.refusal.Refusal.TheVariants as refusal
-use Rattle.sh_history.specs.declared.entry.Entry.TheVariants.{Gone}
-use Rattle.sh_history.specs.Laws.{HasRemoval}
+use Rattle.sh_pass.specs.Entry.TheVariants.{Gone}
+use Rattle.sh_pass.specs.HistoryLaws.{HasRemoval}
 use Rattle.sh_script.specs.declared.calls.CallLine.{CallLine}
 use Rattle.script_output.specs.declared.answer.Answer.{Answer}
 use Rattle.script_output.specs.declared.answer.Answer.TheVariants as answer
 use Rattle.script_output.specs.Keys.{key_shown}
 use Rattle.script_output.specs.Replies.{replies_text}
-use Rattle.sh_table.specs.Seats.{Heap}
+use Rattle.sh_pass.specs.Seats.{Heap}
 use Rattle.script_calls.specs.Parts.{RunTerms, PassPart, PassTold, HasWholeTale, passes_below}
 use Rattle.script_calls.specs.InOrder.{IsInOrder, adding_passes, times}
 use Rattle.script_calls.specs.Named.{NamesComeFirst, FollowsInsert, numbers_told}

@@ -1,6 +1,6 @@
 //! Passes that meet.
 ghost use Rattle.std.specs.Prelude.{◌≡◌, ◌⊎◌, [], Option, None, Err, IfSome, IfNone, map, option_map, true, false};
-ghost use Rattle.sh_table.specs.Seats.{Heap};
+ghost use Rattle.sh_pass.specs.Seats.{Heap};
 ghost use Rattle.std.specs.List.{All};
 ghost use Rattle.sh_member.specs.Sides.{SideLeaves};
 ghost use Rattle.script_calls.specs.OwnParts.{EndsWith, own_part};

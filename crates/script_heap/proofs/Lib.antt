@@ -6,3 +6,7 @@ pub mod FirstSteps
 pub mod LoneAdopt
 pub mod FoundWords
 pub mod OwnerLaws
+pub use Rattle.script_calls.proofs.GrowLemmas
+pub use Rattle.script_calls.proofs.LineLemmas
+pub use Rattle.script_calls.proofs.NameLemmas
+pub use Rattle.script_calls.proofs.PlacedKeys

@@ -1,6 +1,6 @@
 -- A binding that a pass heeds, and one that it leaves.
 use Rattle.std.proofs.Common.{◌≡◌, ℕ, true, length, Option, None, sym, refl, ap, ◌∙◌, subst, inl, inr, ⊎_elim}
-use Rattle.sh_table.specs.Seats.{Heap}
+use Rattle.sh_pass.specs.Seats.{Heap}
 use Rattle.sh_pass.specs.Passes.{Caller}
 use Rattle.script_calls.specs.Parts.{SeenPass}
 use Rattle.script_calls.specs.Meeting.{KeepsOrders}

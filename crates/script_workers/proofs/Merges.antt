@@ -24,7 +24,7 @@ use Rattle.script_workers.specs.declared.worker.Made.{Made}
 use Rattle.script_workers.specs.Works.{own_calls, CallMade, CallsMade, IsWork}
 use Rattle.script_workers.specs.Gathers.{HaveEnded}
 use Rattle.script_workers.specs.Merges.{MergedSoFar, AllAnswered}
-use Rattle.sh_table.specs.Seats.{Heap}
+use Rattle.sh_pass.specs.Seats.{Heap}
 
 -- ---- lists
 

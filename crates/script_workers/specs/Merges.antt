@@ -10,7 +10,7 @@ use Rattle.script_calls.specs.Meeting.{orders_of}
 use Rattle.script_calls.specs.Named.{NamesWereHeard}
 use Rattle.script_workers.specs.declared.worker.Made.{Made}
 use Rattle.script_workers.specs.Works.{IsWork}
-use Rattle.sh_table.specs.Seats.{Heap}
+use Rattle.sh_pass.specs.Seats.{Heap}
 
 -- The first i lines have answers, and the calls of the other lines are left. By these calls, these are the passes.
 pub record MergedSoFar (heap : Option Heap) (terms : RunTerms) (tag : Option ℕ) (lines : List CallLine) (i : ℕ)

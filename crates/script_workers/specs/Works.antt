@@ -7,8 +7,8 @@ use Rattle.script_calls.specs.Calls.{CallAnswers}
 use Rattle.script_calls.specs.Receipts.{MayHeed}
 use Rattle.script_calls.specs.Named.{HeardOfNumber}
 use Rattle.script_workers.specs.declared.worker.Made.{Made}
-use Rattle.sh_table.specs.declared.view.Order.{Order}
-use Rattle.sh_table.specs.Seats.{Heap}
+use Rattle.sh_pass.specs.Order.{Order}
+use Rattle.sh_pass.specs.Seats.{Heap}
 
 -- the line is one of the pass's own
 abbrev pub is_line_of : ℕ → CallLine → Bool

@@ -1,7 +1,7 @@
 -- Why a chunk is not gathered, and one chunk more that is counted.
 use Rattle.std.proofs.Common.{◌≡◌, ℕ, suc, ◌+◌, ◌⊎◌, arith, subst}
 use Rattle.std.specs.Prelude.{Err}
-use Rattle.sh_table.specs.Seats.{Heap}
+use Rattle.sh_pass.specs.Seats.{Heap}
 use Rattle.sh_whole.specs.Homes.{GathersPool}
 use Rattle.sh_whole.specs.declared.refusal.NotTold.{NotTold}
 use Rattle.sh_whole.specs.declared.refusal.NotTold.TheVariants as untold

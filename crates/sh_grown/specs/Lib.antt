@@ -7,3 +7,4 @@ pub mod Refusals
 pub mod Shares
 pub mod Sums
 pub mod Wholes
+pub use Rattle.sh_chunk.specs.Chunks

@@ -1,9 +1,9 @@
 -- How a shard of a chunk is refused to a caller.
 use Rattle.std.specs.Prelude.{◌≡◌, ℕ, ◌<◌, ◌≤◌, ◌⊎◌, List, Option, Some, None, get_or}
 use Rattle.sh_value.specs.declared.refusal.Refusal.TheVariants as refusal
-use Rattle.sh_shard.specs.Leaving.{Waiting}
-use Rattle.sh_shard.specs.Pages.{AdoptRefused}
-use Rattle.sh_shard.specs.Shards.{NoRoom, value_class}
+use Rattle.sh_member.specs.Leaving.{Waiting}
+use Rattle.sh_member.specs.Pages.{AdoptRefused}
+use Rattle.sh_member.specs.Shards.{NoRoom, value_class}
 use Rattle.sh_member.specs.declared.member.Side.TheVariants.{Pass, Shard, Moving}
 use Rattle.sh_member.specs.Sides.{SeenSide}
 use Rattle.sh_grown.specs.declared.met.Met.{Met}

@@ -1,7 +1,7 @@
 -- Growing heaps as wholes.
 use Rattle.std.specs.Prelude.{◌≡◌, ℕ, zero, suc, ◌+◌, ◌<◌, ◌⊎◌, IfSome, Result, Ok, Err, length, slice_get}
 use Rattle.once_cell.specs.Once.{cell_name}
-use Rattle.sh_table.specs.Seats.{Heap}
+use Rattle.sh_pass.specs.Seats.{Heap}
 use Rattle.sh_value.specs.declared.refusal.Refusal.{Refusal}
 use Rattle.sh_value.specs.declared.refusal.Refusal.TheVariants as refusal
 use Rattle.sh_grown.specs.ChunkShapes.{IsShaped}

@@ -3,7 +3,7 @@
 ghost use Rattle.std.specs.Prelude.{◌≡◌, ◌<◌, IfOk, IsSome, MatchBool, None, get_or, length};
 ghost use Rattle.sh_chunk.specs.Chunks.{chunked, chunk_of, key_within};
 ghost use Rattle.sh_pass.specs.Passes.{ReadDoes, ReadIntoDoes, RemoveDoes, ReleaseDoes};
-ghost use Rattle.sh_readers.specs.Readers.{FetchDoes, FetchIntoDoes, TakeIntoDoes};
+ghost use Rattle.sh_member.specs.Readers.{FetchDoes, FetchIntoDoes, TakeIntoDoes};
 ghost use Rattle.sh_member.specs.Sides.{SideDoes};
 ghost use Rattle.sh_grown.specs.Callers.{GrownDoes, HeldDoes, GetsIn, Stays};
 

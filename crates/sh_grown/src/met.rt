@@ -4,7 +4,7 @@ ghost use Rattle.std.specs.Prelude.{MatchOption};
 ghost use Rattle.sh_value.specs.declared.refusal.Refusal.TheVariants.{Memory, Waiting};
 ghost use Rattle.sh_chunk.specs.Chunks.{chunked, chunk_of, key_within};
 ghost use Rattle.sh_pass.specs.Passes.{IsAtRest, ReadDoes, ReadIntoDoes, RemoveDoes, ReleaseDoes};
-ghost use Rattle.sh_readers.specs.Readers.{FetchDoes, FetchIntoDoes, TakeIntoDoes};
+ghost use Rattle.sh_member.specs.Readers.{FetchDoes, FetchIntoDoes, TakeIntoDoes};
 ghost use Rattle.sh_member.specs.Sides.{SideAdopts, SideDoes, SideCollects};
 ghost use Rattle.sh_member.specs.SideBounds.{InsertTakes};
 ghost use Rattle.sh_grown.specs.Callers.{IsPooled, MetDoes, MetTakes, GetsIn};

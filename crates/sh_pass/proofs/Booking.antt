@@ -1,8 +1,8 @@
 -- What the book of a pass gains by each of its calls.
 use Rattle.std.proofs.Common.{◌≡◌, ℕ, ◌<◌, ◌==◌, true, false, List, refl, ap, sym, subst, arith, eq-eqb}
 use Rattle.std.specs.Prelude.{Result, Ok, Err}
-use Rattle.sh_history.specs.declared.log.LogEntry.TheVariants.{Unread}
-use Rattle.sh_history.specs.Log.{logged_holds_by}
+use Rattle.sh_table.specs.LogEntry.TheVariants.{Unread}
+use Rattle.sh_table.specs.Log.{logged_holds_by}
 use Rattle.sh_key.specs.Layout.{Layout}
 use Rattle.sh_plain.specs.Store.{GetLeaves, ReadLeaves, RemoveLeaves, ReleaseLeaves}
 use Rattle.sh_value.specs.declared.hold.Hold.{Hold}

@@ -2,7 +2,7 @@
 use Rattle.std.proofs.Common.{◌≡◌, ℕ, zero, suc, ◌+◌, ◌*◌, ◌/◌, ◌%◌, ◌<◌, ◌==◌, ◌&&◌, Bool, true, false, Option, Some}
 use Rattle.std.proofs.Common.{None, List, ◌∷◌, refl, ap, ◌∙◌, sym, subst, arith, mod-lt}
 use Rattle.std.proofs.lemmas.Bool.{false≢true}
-use Rattle.sh_history.specs.declared.log.LogEntry.{LogEntry}
+use Rattle.sh_table.specs.LogEntry.{LogEntry}
 use Rattle.sh_key.specs.Layout.{Layout}
 use Rattle.sh_shape.specs.Shape.{Numbers}
 use Rattle.sh_slots.specs.declared.hand.Hand.TheVariants.{Idle}

@@ -4,8 +4,8 @@ use Rattle.std.proofs.Common.{◌≡◌, ℕ, zero, suc, ◌+◌, ◌≤◌, app
 use Rattle.std.proofs.Common.{◌∷◌, length, refl, ap, ◌∙◌, arith, ne_eqb}
 use Rattle.std.proofs.lemmas.List.{length-append}
 use Rattle.std.proofs.lemmas.Bool.{and_from}
-use Rattle.sh_history.specs.declared.entry.Entry.TheVariants as entry
-use Rattle.sh_history.specs.declared.log.LogEntry.TheVariants.{Known}
+use Rattle.sh_table.specs.Entry.TheVariants as entry
+use Rattle.sh_table.specs.LogEntry.TheVariants.{Known}
 use Rattle.sh_key.specs.Layout.{Layout}
 use Rattle.sh_slots.specs.declared.hand.Hand.TheVariants.{Idle, Filling, Ringing}
 use Rattle.sh_slots.specs.declared.hand.SlotRef.{SlotRef}

@@ -6,3 +6,5 @@ pub mod Held
 pub mod Following
 pub mod Leaves
 pub mod NewKey
+pub use Rattle.sh_history.proofs.LogLaws
+pub use Rattle.sh_history.proofs.Standing

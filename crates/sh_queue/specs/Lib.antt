@@ -1,3 +1,5 @@
 pub mod Numbers
 pub mod Chain
 pub mod Queues
+pub use Rattle.sh_lists.specs.Numbers as ListNumbers
+pub use Rattle.sh_lists.specs.Lists

@@ -4,19 +4,19 @@ use Rattle.std.proofs.Common.{◌++◌, length, refl, ap, sym, ◌∙◌, subst,
 use Rattle.std.proofs.Common.{slice_get, eqb-true}
 use Rattle.std.proofs.lemmas.Bool.{cases_eq, false≢true}
 use Rattle.std.proofs.lemmas.Option.{slice_get_within}
-use Rattle.sh_key.specs.Layout.{Layout, IsLayout}
-use Rattle.sh_shape.specs.Shape.{Numbers, IsShape, Fits}
-use Rattle.sh_slots.specs.declared.hand.Hand.TheVariants.{Idle}
-use Rattle.sh_slots.specs.declared.hand.SlotRef.{SlotRef}
-use Rattle.sh_slots.specs.Slots.{slot_refs}
-use Rattle.sh_step.specs.declared.action.Event.{Event}
-use Rattle.sh_step.specs.declared.body.Body.{Body}
-use Rattle.sh_step.specs.declared.footstep.Footstep.{Footstep}
-use Rattle.sh_step.specs.Collections.{total, has, noted}
-use Rattle.sh_step.specs.Footsteps.{takes, bell_takes, met, bell_met, puts, arms}
-use Rattle.sh_step.specs.Plans.{Plan, plan_of, home}
-use Rattle.sh_step.specs.Rows.{own}
-use Rattle.sh_step.proofs.PartTests.{owns_is}
+use Rattle.sh_core.specs.Layout.{Layout, IsLayout}
+use Rattle.sh_core.specs.Shape.{Numbers, IsShape, Fits}
+use Rattle.sh_core.specs.Hand.TheVariants.{Idle}
+use Rattle.sh_core.specs.SlotRef.{SlotRef}
+use Rattle.sh_core.specs.Slots.{slot_refs}
+use Rattle.sh_core.specs.Event.{Event}
+use Rattle.sh_core.specs.Body.{Body}
+use Rattle.sh_core.specs.Footstep.{Footstep}
+use Rattle.sh_core.specs.Collections.{total, has, noted}
+use Rattle.sh_core.specs.Footsteps.{takes, bell_takes, met, bell_met, puts, arms}
+use Rattle.sh_core.specs.Plans.{Plan, plan_of, home}
+use Rattle.sh_core.specs.Rows.{own}
+use Rattle.sh_core.proofs.PartTests.{owns_is}
 use Rattle.sh_core.specs.Lists.{PutLists, lists_of, accounts, times, slots_under}
 use Rattle.sh_core.specs.Quiet.{Quiet, NothingQueued}
 use Rattle.sh_core.specs.Refines.{Refines}
@@ -25,14 +25,14 @@ use Rattle.sh_core.specs.Worlds.{World, run}
 use Rattle.sh_core.proofs.Clauses.RunTheorem.{theorem}
 use Rattle.sh_core.proofs.Quiet.{quiet_loses_nothing}
 use Rattle.sh_core.proofs.Sums.ListCounts.{has_some}
-use Rattle.sh_table.specs.declared.view.Own.{Own}
-use Rattle.sh_table.specs.declared.view.Told.{Told}
-use Rattle.sh_table.specs.declared.view.View.{View}
-use Rattle.sh_table.specs.Reached.{HasOwn}
-use Rattle.sh_table.specs.Views.{Each, names_told}
-use Rattle.sh_pass.specs.Growing.{SameTale}
-use Rattle.sh_pass.specs.Owners.{SeenBell, heap_page, own_body, seen_bell}
-use Rattle.sh_pass.specs.Passes.{Caller}
+use Rattle.sh_shard.specs.Own.{Own}
+use Rattle.sh_shard.specs.Told.{Told}
+use Rattle.sh_shard.specs.View.{View}
+use Rattle.sh_shard.specs.Reached.{HasOwn}
+use Rattle.sh_shard.specs.Views.{Each, names_told}
+use Rattle.sh_shard.specs.Growing.{SameTale}
+use Rattle.sh_shard.specs.Owners.{SeenBell, heap_page, own_body, seen_bell}
+use Rattle.sh_shard.specs.Passes.{Caller}
 use Rattle.sh_shard.specs.Pages.{shard_page}
 use Rattle.sh_gather.specs.Histories.{LeadsHere}
 use Rattle.sh_quiet.specs.Quiescence.{CollectedIsEmpty, FullIsExact, LastOnesAreQuiet, IsLastOne}

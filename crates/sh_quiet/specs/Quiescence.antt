@@ -1,24 +1,24 @@
 -- What an owner finds if no pass has begun anything, and it alone goes on.
 use Rattle.std.specs.Prelude.{◌≡◌, ℕ, ◌+◌, ◌<◌, true, List, ◌++◌, Some, None}
-use Rattle.sh_key.specs.Layout.{Layout, IsLayout}
-use Rattle.sh_shape.specs.Classes.{slots}
-use Rattle.sh_shape.specs.Shape.{IsShape, Fits}
-use Rattle.sh_slots.specs.declared.hand.Hand.TheVariants.{Idle}
-use Rattle.sh_slots.specs.declared.hand.SlotRef.{SlotRef}
-use Rattle.sh_step.specs.declared.action.Event.{Event}
-use Rattle.sh_step.specs.Plans.{plan_of}
-use Rattle.sh_step.specs.Rows.{own}
+use Rattle.sh_core.specs.Layout.{Layout, IsLayout}
+use Rattle.sh_core.specs.Classes.{slots}
+use Rattle.sh_core.specs.Shape.{IsShape, Fits}
+use Rattle.sh_core.specs.Hand.TheVariants.{Idle}
+use Rattle.sh_core.specs.SlotRef.{SlotRef}
+use Rattle.sh_core.specs.Event.{Event}
+use Rattle.sh_core.specs.Plans.{plan_of}
+use Rattle.sh_core.specs.Rows.{own}
 use Rattle.sh_core.specs.Lists.{PutLists, lists_of, state_of}
 use Rattle.sh_core.specs.Quiet.{Quiet, NothingQueued}
 use Rattle.sh_core.specs.Refines.{live, marked, retired}
 use Rattle.sh_core.specs.Stacks.{slot_ref}
 use Rattle.sh_core.specs.Worlds.{World, run}
-use Rattle.sh_table.specs.declared.view.View.{View}
-use Rattle.sh_table.specs.Views.{Each}
-use Rattle.sh_table.specs.Whole.{IsWhole}
-use Rattle.sh_pass.specs.Growing.{SameTale}
-use Rattle.sh_pass.specs.Owners.{NonePut, heap_page, own_body, seen_page}
-use Rattle.sh_pass.specs.Passes.{Caller}
+use Rattle.sh_shard.specs.View.{View}
+use Rattle.sh_shard.specs.Views.{Each}
+use Rattle.sh_shard.specs.Whole.{IsWhole}
+use Rattle.sh_shard.specs.Growing.{SameTale}
+use Rattle.sh_shard.specs.Owners.{NonePut, heap_page, own_body, seen_page}
+use Rattle.sh_shard.specs.Passes.{Caller}
 use Rattle.sh_shard.specs.Pages.{Paged, page_at, shard_page}
 use Rattle.sh_shard.specs.Leaving.{Waiting}
 use Rattle.sh_shard.specs.Shards.{Sharded, HoldsShard, NoRoom}

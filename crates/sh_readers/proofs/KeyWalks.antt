@@ -3,14 +3,14 @@ use Rattle.std.proofs.Common.{◌≡◌, ℕ, ◌+◌, ◌-◌, ◌*◌, ◌/◌
 use Rattle.std.proofs.Common.{List, [], ◌∷◌, ◌++◌, map, length, refl, sym, ◌∙◌, ap, subst, arith, append_assoc}
 use Rattle.std.specs.Prelude.{◌==◌, Ok}
 use Rattle.std.proofs.lemmas.List.{map-append, length-append}
-use Rattle.sh_history.specs.declared.entry.Entry.TheVariants as entry
-use Rattle.sh_history.specs.declared.log.LogEntry.{LogEntry}
-use Rattle.sh_history.specs.declared.log.LogEntry.TheVariants.{Known, Unread}
+use Rattle.sh_table.specs.Entry.TheVariants as entry
+use Rattle.sh_table.specs.LogEntry.{LogEntry}
+use Rattle.sh_table.specs.LogEntry.TheVariants.{Known, Unread}
 use Rattle.sh_key.specs.Layout.{Layout}
-use Rattle.sh_shape.specs.Shape.{Numbers}
-use Rattle.sh_shape.specs.Places.{page_number}
-use Rattle.sh_step.specs.Collections.{without}
-use Rattle.sh_step.specs.Plans.{plan_of}
+use Rattle.sh_table.specs.Shape.{Numbers}
+use Rattle.sh_table.specs.Places.{page_number}
+use Rattle.sh_table.specs.Collections.{without}
+use Rattle.sh_table.specs.Plans.{plan_of}
 use Rattle.sh_value.specs.declared.hold.Hold.{Hold}
 use Rattle.sh_pass.specs.Owners.{IsKeyOfSlot}
 use Rattle.sh_pass.specs.Passes.{Caller, holds, GetDoes, ReleaseDoes}

@@ -1,9 +1,9 @@
 -- The keys of a shard, one after the other, as its owner finds them.
 use Rattle.std.specs.Prelude.{◌≡◌, ℕ, ◌+◌, ◌-◌, ◌*◌, ◌<◌, ◌≤◌, ◌⊎◌, List, [], ◌∷◌, ◌++◌, map, length, Bool, true, false}
 use Rattle.std.specs.Prelude.{Option, Some, None, Result, Ok, Err}
-use Rattle.sh_history.specs.declared.entry.Entry.TheVariants as entry
-use Rattle.sh_history.specs.declared.log.LogEntry.{LogEntry}
-use Rattle.sh_history.specs.declared.log.LogEntry.TheVariants.{Known, Unread}
+use Rattle.sh_table.specs.Entry.TheVariants as entry
+use Rattle.sh_table.specs.LogEntry.{LogEntry}
+use Rattle.sh_table.specs.LogEntry.TheVariants.{Known, Unread}
 use Rattle.sh_key.specs.Layout.{Layout}
 use Rattle.sh_value.specs.declared.refusal.Refusal.{Refusal}
 use Rattle.sh_value.specs.declared.refusal.Refusal.TheVariants as refusal

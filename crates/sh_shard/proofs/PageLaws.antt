@@ -6,8 +6,8 @@ use Rattle.std.proofs.lemmas.Bool.Decides.{nat_tests}
 use Rattle.std.proofs.Math.Bool.{and-true, and-false}
 use Rattle.std.proofs.lemmas.Bool.{cond_both}
 use Rattle.sh_bell.specs.Bell.{is_armed, top_of}
-use Rattle.sh_lists.specs.Lists.{Lists, refilled}
-use Rattle.sh_lists.specs.Numbers.{Misses, upward}
+use Rattle.sh_queue.specs.Lists.{Lists, refilled}
+use Rattle.sh_queue.specs.ListNumbers.{Misses, upward}
 use Rattle.sh_queue.specs.Numbers.{has_number}
 use Rattle.sh_queue.proofs.Numbers.{has_number-append, has_number-from_Misses}
 use Rattle.sh_shape.specs.Classes.{slots}

@@ -5,8 +5,8 @@ use Rattle.std.proofs.lemmas.Bool.Decides.{nat_tests}
 use Rattle.std.proofs.lemmas.Bool.{cond_both}
 use Rattle.sh_bell.specs.Bell.{is_armed}
 use Rattle.sh_key.specs.Layout.{Layout}
-use Rattle.sh_history.specs.declared.entry.Entry.TheVariants as entry
-use Rattle.sh_history.specs.declared.log.LogEntry.TheVariants.{Known}
+use Rattle.sh_pass.specs.Entry.TheVariants as entry
+use Rattle.sh_pass.specs.LogEntry.TheVariants.{Known}
 use Rattle.sh_slots.specs.declared.hand.Hand.TheVariants.{Idle}
 use Rattle.sh_stack.specs.Stack.{link_item}
 use Rattle.sh_pass.specs.Passes.{Caller}

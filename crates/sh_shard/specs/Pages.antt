@@ -1,8 +1,8 @@
 -- What a contract sees of the pages of an owner's shard, and what work on them does.
 use Rattle.std.specs.Prelude.{◌≡◌, ◌≢◌, ℕ, zero, suc, ◌+◌, ◌-◌, ◌<◌, ◌≤◌, ◌==◌, ◌⊎◌, Bool, true, false, List, []}
 use Rattle.std.specs.Prelude.{◌∷◌, ◌++◌, length, Option, Some, None, MatchOption, IfSome, Result, Ok, Err}
-use Rattle.sh_history.specs.declared.entry.Entry.TheVariants as entry
-use Rattle.sh_history.specs.declared.log.LogEntry.TheVariants.{Known}
+use Rattle.sh_pass.specs.Entry.TheVariants as entry
+use Rattle.sh_pass.specs.LogEntry.TheVariants.{Known}
 use Rattle.sh_key.specs.Layout.{Layout}
 use Rattle.sh_shape.specs.Classes.{slots}
 use Rattle.sh_shape.specs.Places.{pages_of, slot_places}
@@ -10,7 +10,7 @@ use Rattle.sh_slots.specs.declared.hand.Hand.TheVariants.{Idle}
 use Rattle.sh_step.specs.Collections.{if1}
 use Rattle.sh_step.specs.Footsteps.{owner_met}
 use Rattle.sh_step.specs.declared.action.PageName.{PageName}
-use Rattle.sh_table.specs.Tales.{ViewStands}
+use Rattle.sh_pass.specs.Tales.{ViewStands}
 use Rattle.sh_value.specs.declared.refusal.Refusal.{Refusal}
 use Rattle.sh_value.specs.declared.refusal.Refusal.TheVariants as refusal
 use Rattle.sh_pass.specs.Growing.{SameTale}

@@ -5,7 +5,7 @@ use Rattle.std.specs.Prelude.{ℕ, zero, suc, ◌+◌, ◌-◌, ◌*◌, ◌/◌
 use Rattle.std.specs.Prelude.{◌||◌, cond, List, [], ◌∷◌, ◌++◌, length, replicate, get_or, slice_get, slice_set, Option}
 use Rattle.std.specs.Prelude.{Some, None, is_none}
 use Rattle.sh_key.specs.Layout.{Layout, packed}
-use Rattle.sh_lists.specs.Numbers.{upward}
+use Rattle.sh_queue.specs.ListNumbers.{upward}
 use Rattle.sh_queue.specs.Numbers.{has_number}
 use Rattle.sh_queue.specs.Queues.{PageQueues, class_queue, at_front, at_back, among_full, one_more_segment, none_opened}
 use Rattle.sh_queue.specs.Queues.{next_filed}

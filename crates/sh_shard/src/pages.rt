@@ -2,7 +2,7 @@
 ghost use Rattle.std.specs.Prelude.{◌≡◌, ℕ, ◌+◌, ◌^◌, ◌<◌, ◌≤◌, Option, None, Some, MatchOption};
 ghost use Rattle.std.specs.Prelude.{IfOk, MatchBool, MatchResult, true, false};
 ghost use Rattle.sh_slots.specs.declared.hand.Hand.TheVariants.{Idle};
-ghost use Rattle.sh_table.specs.Tales.{ViewStands};
+ghost use Rattle.sh_pass.specs.Tales.{ViewStands};
 ghost use Rattle.sh_pass.specs.Owners.{HasNothing, own_body, seen_page};
 ghost use Rattle.sh_shard.specs.Pages.{page_at, AdoptsPages, AdoptsShard, CursorStands, HoldsPages, NothingMine};
 ghost use Rattle.sh_shard.specs.Pages.{ShardLeft, WhollyMine, NoneWhollyMine, BlankHasNothing, seen_class};

@@ -19,3 +19,4 @@ pub mod FootstepLaws
 pub mod OperationLaws
 pub mod EndLaws
 pub mod DecidingLaws
+pub use Rattle.sh_word.proofs.Words

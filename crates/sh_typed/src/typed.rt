@@ -1,8 +1,8 @@
 //! Records of one type in a store.
 ghost use Rattle.std.specs.Prelude.{◌≡◌, ◌∷◌, ℕ, List};
 ghost use Rattle.std.specs.List.{Contains};
-ghost use Rattle.sh_history.specs.declared.entry.Entry.TheVariants.{Insert};
-ghost use Rattle.sh_history.specs.declared.log.LogEntry.TheVariants.{Known};
+ghost use Rattle.sh_plain.specs.Entry.TheVariants.{Insert};
+ghost use Rattle.sh_plain.specs.LogEntry.TheVariants.{Known};
 ghost use Rattle.sh_plain.specs.Store.{IsBook, InsertLeaves, RemoveLeaves, ReleaseLeaves};
 ghost use Rattle.sh_typed.specs.Typed.{FetchesRecord, GivesBack, RecordLeaves, record_in};
 

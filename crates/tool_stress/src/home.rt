@@ -7,7 +7,7 @@ use std::marker::{Brand, PhantomData};
 /// Names the heap of a round. Each round chooses its heap, and every item with this type parameter is of that heap.
 pub trait Home {
     ghost use Rattle.std.specs.Prelude.{Option};
-    ghost use Rattle.sh_table.specs.Seats.{Heap};
+    ghost use Rattle.sh_pass.specs.Seats.{Heap};
 
     ghost heap: { Option Heap };
 }

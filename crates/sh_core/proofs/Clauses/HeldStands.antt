@@ -1,7 +1,7 @@
 -- The value of a held key is in its slot, and what may be read of it is within the slot.
 use Rattle.std.proofs.Common.{◌≡◌, ℕ, ◌+◌, ◌-◌, ◌*◌, ◌<◌, ◌||◌, true, sym, refl, subst, arith}
 use Rattle.sh_slots.specs.declared.hand.SlotRef.{SlotRef}
-use Rattle.sh_word.specs.Fields.{Fields, fields_of}
+use Rattle.sh_step.specs.Fields.{Fields, fields_of}
 use Rattle.sh_step.specs.Plans.{Plan}
 use Rattle.sh_shape.specs.Classes.{width}
 use Rattle.sh_shape.proofs.ClassLaws.{slot_words_fit_page}

@@ -5,7 +5,7 @@ use Rattle.std.specs.Prelude.{not, nat_lt}
 use Rattle.std.proofs.lemmas.Bool.Decides.{nat_tests}
 use Rattle.sh_slots.specs.declared.hand.SlotRef.{SlotRef}
 use Rattle.sh_slots.specs.declared.hand.KeyRef.{KeyRef}
-use Rattle.sh_word.specs.Fields.{Fields, fields_of}
+use Rattle.sh_step.specs.Fields.{Fields, fields_of}
 use Rattle.sh_step.specs.Plans.{Plan, home, Lawful, over_heap}
 use Rattle.sh_slots.specs.Slots.{slot_ref_of, slot_refs}
 use Rattle.sh_step.specs.Collections.{total, if1}

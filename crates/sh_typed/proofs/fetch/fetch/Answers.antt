@@ -1,5 +1,5 @@
 use Rattle.std.proofs.Common.{◌<◌}
-use Rattle.sh_history.specs.Log.{logged_holds_by}
+use Rattle.sh_plain.specs.Log.{logged_holds_by}
 use Rattle.sh_typed.proofs.Fetched.{read_not_refused, fetched}
 use Rattle.sh_typed.proofs.fetch.fetch.Goals as goal
 

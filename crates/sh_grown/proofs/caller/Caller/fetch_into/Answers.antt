@@ -1,5 +1,5 @@
 use Rattle.std.proofs.Common.{inl, refl}
-use Rattle.sh_readers.specs.Readers.{FetchIntoDoes}
+use Rattle.sh_member.specs.Readers.{FetchIntoDoes}
 use Rattle.sh_chunk.specs.Chunks.{chunked, chunk_of, key_within}
 use Rattle.sh_member.specs.Sides.{SideDoes}
 use Rattle.sh_grown.proofs.Places.{chunk_does}

@@ -1,6 +1,6 @@
 use Rattle.std.proofs.Common.{length, refl, ap, ◌∙◌, sym, arith}
 use Rattle.std.proofs.lemmas.List.{length-set}
-use Rattle.sh_table.specs.Seats.{Heap}
+use Rattle.sh_pass.specs.Seats.{Heap}
 use Rattle.sh_shard.proofs.Beginning.{reading_more, state_of}
 use Rattle.sh_shard.proofs.pages.Pages.begin.Goals as goal
 

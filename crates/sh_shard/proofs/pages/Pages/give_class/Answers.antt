@@ -1,6 +1,6 @@
 use Rattle.std.proofs.Common.{◌<◌, [], length, refl, ap, ◌∙◌, sym, subst}
 use Rattle.std.proofs.lemmas.List.{length-set}
-use Rattle.sh_lists.specs.Numbers.{upward}
+use Rattle.sh_queue.specs.ListNumbers.{upward}
 use Rattle.sh_shape.specs.Classes.{slots}
 use Rattle.sh_states.specs.declared.states.PageState.{PageState}
 use Rattle.sh_states.specs.States.{state_at}
