@@ -208,35 +208,33 @@ HEAPS = [
     ),
     Broken(
         "unwritten_link_is_the_end",
-        "sh_shard/src/collecting.rt",
+        "sh_shard/src/pages/stack.rt",
         "        if found == 0 {\n            return false;\n        }\n",
         "        if found == 0 && !BROKEN {\n            return false;\n        }\n",
     ),
     # An owner's calls.
     Broken(
         "armed_page_is_told_to_rest",
-        "sh_shard/src/leaving.rt",
+        "sh_shard/src/pages/leaving.rt",
         "            return false;\n        }\n        !self.is_armed(page)\n",
         "            return false;\n        }\n"
         "        if BROKEN { self.is_armed(page) } else { !self.is_armed(page) }\n",
     ),
     Broken(
         "full_is_answered_without_a_search",
-        "sh_shard/src/search.rt",
+        "sh_shard/src/shard/search.rt",
         "        for _turn in 0..opened {\n",
         "        let turns = if BROKEN { 0 } else { opened };\n        for _turn in 0..turns {\n",
     ),
     Broken(
         "bell_is_taken_and_not_followed",
-        "sh_shard/src/ringing.rt",
-        "        for _turn in 0..count + 1 {\n"
-        "            let _known = self.queues.opened();\n            let Some(word)",
-        "        let turns = if BROKEN { 0 } else { count + 1 };\n        for _turn in 0..turns {\n"
-        "            let _known = self.queues.opened();\n            let Some(word)",
+        "sh_shard/src/shard/bell.rt",
+        "        for _turn in 0..count + 1 {\n            let Some(word)",
+        "        let turns = if BROKEN { 0 } else { count + 1 };\n        for _turn in 0..turns {\n            let Some(word)",
     ),
     Broken(
         "page_of_an_own_free_stays_full",
-        "sh_shard/src/shard.rt",
+        "sh_shard/src/shard/calls.rt",
         "        let (answer, gained) = self.pages.remove(key);\n",
         "        let (answer, gained) = self.pages.remove(key);\n"
         "        let gained = if BROKEN { None } else { gained };\n",
@@ -245,13 +243,13 @@ HEAPS = [
     # What other threads could have brought about, so that no contract refuses it.
     Broken(
         "a_written_link_is_taken_as_unwritten",
-        "sh_shard/src/collecting.rt",
+        "sh_shard/src/pages/stack.rt",
         "        if self.has_cursor(page) {\n            self.follow_on(page);\n",
         "        if self.has_cursor(page) && !BROKEN {\n            self.follow_on(page);\n",
     ),
     Broken(
         "an_armed_page_is_passed_over",
-        "sh_shard/src/using.rt",
+        "sh_shard/src/pages/insert.rt",
         "        self.collect(page);\n        if self.has_slot(page)",
         "        if BROKEN && self.is_armed(page) {\n            return false;\n        }\n"
         "        self.collect(page);\n        if self.has_slot(page)",

@@ -274,7 +274,8 @@ impl Caller {
         }
     }
 
-    // Owns this shard of a chunk that it has met, for which it leaves the one that it owned there. Refused as `move_to`.
+    // Owns this shard of a chunk that it has met, for which it leaves the one that it owned there. Refused as
+    // `move_to`.
     fn move_in(&mut self, alloc: Global, chunk: u8, shard: usize) -> Result<(), Refusal>
         requires { HasMet self.old.met.items chunk }
         ensures owns { OnOk result (OwnsThere shard (get_or self.new.met.items chunk None)) }

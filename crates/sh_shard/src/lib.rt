@@ -13,28 +13,12 @@
 //! ```
 //!
 //! `Pages` does the steps on the pages of a shard and keeps their lists; `Shard` keeps the queues over it.
+//! `src/pages` has a file for each kind of call with what it does to the pages. `src/shard` has a file of the same name
+//! with the call itself, which also keeps the queues.
 #![tactic(auto)]
 
-mod adopting;
-mod bell;
 mod borrowing;
-mod calls;
-mod collecting;
-mod counting;
-mod departing;
-mod hinting;
-mod insert;
-mod leaving;
 pub mod pages;
-mod prepare;
-mod receipts;
-mod remote_frees;
-mod returning;
-mod ringing;
-mod search;
 pub mod shard;
-mod standing;
-mod store;
-mod using;
 
 pub use borrowing::{Pages, Shard};

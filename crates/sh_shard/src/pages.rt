@@ -1,21 +1,24 @@
 //! The pages of an owner's shard. What is kept of each page is what the owner knows about it.
-ghost use Rattle.std.specs.Prelude.{◌≡◌, ℕ, ◌+◌, ◌^◌, ◌<◌, ◌≤◌, Option, None, Some, MatchOption};
-ghost use Rattle.std.specs.Prelude.{IfOk, MatchBool, MatchResult, true, false};
-ghost use Rattle.sh_slots.specs.declared.hand.Hand.TheVariants.{Idle};
-ghost use Rattle.sh_pass.specs.Tales.{ViewStands};
-ghost use Rattle.sh_pass.specs.Owners.{HasNothing, own_body, seen_page};
-ghost use Rattle.sh_shard.specs.Pages.{page_at, AdoptsPages, AdoptsShard, CursorStands, HoldsPages, NothingMine};
-ghost use Rattle.sh_shard.specs.Pages.{ShardLeft, WhollyMine, NoneWhollyMine, BlankHasNothing, seen_class};
-ghost use Rattle.sh_shard.specs.Steps.{StepsAtMost};
+ghost use Rattle.std.specs.Prelude.{◌≡◌, ℕ, ◌^◌, ◌<◌, ◌≤◌, None, Some, MatchOption, MatchBool, true};
+ghost use Rattle.sh_shard.specs.Pages.{page_at, CursorStands, NothingMine, WhollyMine, NoneWhollyMine, BlankHasNothing};
+ghost use Rattle.sh_shard.specs.Pages.{seen_class};
+
+mod adopting;
+mod bell;
+mod calls;
+mod collecting;
+mod counting;
+mod hinting;
+mod insert;
+mod leaving;
+mod receipts;
+mod stack;
+mod standing;
 
 use sh_key::KeyLayout;
 use sh_pass::KeepsHeap;
 use sh_pass::owner::Owner;
-use sh_pass::pass::Pass;
 use sh_states::PageStates;
-use sh_step::PageName;
-use sh_value::Refusal;
-use std::alloc::Global;
 use std::marker::Model;
 
 /// The pages of an owner's shard.
@@ -49,64 +52,6 @@ impl<L: KeyLayout, H: KeepsHeap<L>> Model for Pages<L, H> {
 }
 
 impl<L: KeyLayout, H: KeepsHeap<L>> Pages<L, H> {
-    /// Makes the pass the owner of the shard, and reads the class word of each page in ascending order. Refused, with
-    /// the pass, as `NoShard` if there is no such shard, and as `Taken` if it has an owner. Refused as `Memory` if
-    /// memory for the pages is refused: then the shard is left again.
-    #[tactic(auto, using(crate::proofs::Sides::free_then))]
-    pub(crate) fn adopt(
-        alloc: Global,
-        pass: Pass<L, H>,
-        shard: u64,
-    ) -> Result<Self, (Pass<L, H>, Refusal)>
-        ensures adopts { AdoptsPages shard pass result }
-        ensures holds { IfOk result (HoldsPages L.layout) }
-        ensures steps { MatchResult result (λ pages. StepsAtMost (pages.count + 1) pass pages.owner)
-            (λ r. StepsAtMost 2 pass r.0) }
-    {
-        let mut owner = Owner::of(pass);
-        if shard >= owner.shards() {
-            return Err((owner.into_pass(), Refusal::NoShard));
-        }
-        if owner.adopt(shard) != 0 {
-            return Err((owner.into_pass(), Refusal::Taken));
-        }
-        match Self::begin(alloc, owner, shard) {
-            Ok(pages) => Ok(pages),
-            Err(owner) => Err((owner.into_pass(), Refusal::Memory)),
-        }
-    }
-
-    // Reads the class word of each page of the adopted shard. If memory is refused, the shard is left.
-    fn begin(alloc: Global, owner: Owner<L, H>, shard: u64) -> Result<Self, Owner<L, H>>
-        requires idle { (own_body owner).hand ≡ Idle }
-        requires owned { (own_body owner).owned ≡ Some shard }
-        requires bell { (own_body owner).bell_cursor ≡ None }
-        requires pages { (q : ℕ) → HasNothing (seen_page owner q) }
-        requires stands { ViewStands L.layout owner.view }
-        ensures begins { MatchResult result (λ pages. AdoptsShard owner shard pages)
-            (λ back. ShardLeft owner back) }
-        ensures holds { IfOk result (HoldsPages L.layout) }
-        ensures steps { MatchResult result (λ pages. StepsAtMost pages.count owner pages.owner)
-            (λ back. StepsAtMost 1 owner back) }
-    {
-        let mut owner = owner;
-        let count = owner.pages();
-        let Ok(mut states) = PageStates::new(alloc, count) else {
-            owner.leave(shard);
-            return Err(owner);
-        };
-        for page in 0..count {
-            let class_word = owner.read_page(PageName { shard, page });
-            states.set_word(page, class_word);
-        }
-        Ok(Pages {
-            owner,
-            shard,
-            rings: None,
-            states,
-        })
-    }
-
     /// The number of pages of the shard.
     pub(crate) fn count(&self) -> u64
         ensures count { result ≡ self.now.count }

@@ -1,0 +1,30 @@
+// Receipts of the owner of the pages.
+ghost use Rattle.std.specs.Prelude.{◌≡◌};
+ghost use Rattle.sh_pass.specs.Receipts.{receipt_by};
+ghost use Rattle.sh_pass.specs.Remaining.{Remains};
+ghost use Rattle.sh_shard.specs.Pages.{HoldsPages, pages_heeded};
+
+use crate::pages::Pages;
+use sh_key::KeyLayout;
+use sh_pass::{KeepsHeap, Receipt};
+
+impl<L: KeyLayout, H: KeepsHeap<L>> Pages<L, H> {
+    // A receipt for all that was returned to the owner.
+    pub(crate) fn receipt(&mut self) -> Receipt
+        ensures same { self.new ≡ self.old }
+        ensures tells { result ≡ receipt_by self.old.owner }
+        ensures remains { Remains L.layout self.old.owner self.new.owner }
+    {
+        self.owner.receipt()
+    }
+
+    // All that the receipt covers happens before what is returned to the owner from now on.
+    pub(crate) fn heed(&mut self, receipt: Receipt)
+        requires { receipt.heap ≡ self.old.owner.heap }
+        ensures heeds { self.new ≡ pages_heeded self.old receipt }
+        ensures holds { HoldsPages L.layout self.new }
+        ensures remains { Remains L.layout self.old.owner self.new.owner }
+    {
+        self.owner.heed(receipt);
+    }
+}
