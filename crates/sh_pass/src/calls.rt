@@ -3,7 +3,7 @@
 ghost use Rattle.std.specs.Prelude.{◌≡◌, None};
 ghost use Rattle.sh_slots.specs.declared.hand.Hand.TheVariants.{Idle};
 ghost use Rattle.sh_table.specs.Seats.{IsSeat};
-ghost use Rattle.sh_pass.specs.Passes.{GetDoes, ReadIntoDoes, RemoveDoes, ReleaseDoes, HoldsKept, caller_of};
+ghost use Rattle.sh_pass.specs.Passes.{GetDoes, ReadDoes, ReadIntoDoes, RemoveDoes, ReleaseDoes, HoldsKept, caller_of};
 ghost use Rattle.sh_pass.specs.Owners.{CallLeaves};
 
 use crate::entering::{get_at, release_at, remove_at};
@@ -159,4 +159,26 @@ pub(crate) fn read_key<L: KeyLayout, K: Holding<L>>(
     let name = hold.place_in(table.shape());
     read_at(table, seat, key, name, value);
     Ok(())
+}
+
+/// The same into a value of its own, which is returned.
+#[inline(always)]
+pub(crate) fn read_value<L: KeyLayout, K: Holding<L>>(
+    table: &HeapTable<L>,
+    seat: &mut PassSeat,
+    held: &ArrayVec<u64, HOLDS_MAX>,
+    hold: &K,
+) -> Result<Value, Refusal>
+    requires seat { IsSeat L.layout table.now seat.old }
+    requires idle { seat.old.me.0.own.body.hand ≡ Idle }
+    requires kept { HoldsKept held.now.items seat.old.me.0.own.body.holds }
+    ensures seat { IsSeat L.layout table.now seat.new }
+    ensures kept { seat.new.me.0.own.body.holds ≡ seat.old.me.0.own.body.holds }
+    ensures does { ReadDoes (K.key_of hold.now) (caller_of seat.old) result (caller_of seat.new) }
+    ensures leaves { CallLeaves L.layout None (caller_of seat.old) (caller_of seat.new) }
+{
+    // (It begins with one word, as most values have: reading a value of one word into it is one store.)
+    let mut value = Value::from(0);
+    read_key(table, seat, held, hold, &mut value)?;
+    Ok(value)
 }

@@ -5,7 +5,7 @@ ghost use Rattle.sh_pass.specs.Passes.{GetDoes, ReadDoes, ReadIntoDoes, RemoveDo
 ghost use Rattle.sh_pass.specs.Owners.{CallLeaves, own_body};
 ghost use Rattle.sh_pass.specs.Remaining.{Remains};
 
-use crate::calls::{get_guard_of, get_key, read_key, release_key, remove_key};
+use crate::calls::{get_guard_of, get_key, read_key, read_value, release_key, remove_key};
 use crate::guard::Guard;
 use crate::keeping::KeepsHeap;
 use crate::owner::Owner;
@@ -110,10 +110,8 @@ impl<L: KeyLayout, H: KeepsHeap<L>> Owner<L, H> {
         ensures leaves { CallLeaves L.layout None self.old self.new }
         ensures remains { Remains L.layout self.old self.new }
     {
-        // (The initial value has one word, as most values have: reading a value of one word into it is one store.)
-        let mut value = Value::from(0);
-        self.read_into(hold, &mut value)?;
-        Ok(value)
+        let heap = self.heap.kept();
+        read_value(&heap.table, &mut self.seat, &self.held, &hold)
     }
 
     /// Reads the value of a key that the owner holds into a value of the caller's, replacing what that was, so that it

@@ -4,7 +4,7 @@ ghost use Rattle.sh_table.specs.Tales.{ViewStands};
 ghost use Rattle.sh_pass.specs.Remaining.{Remains};
 ghost use Rattle.sh_pass.specs.Passes.{GetDoes, ReadDoes, ReadIntoDoes, RemoveDoes, ReleaseDoes, IsAtRest};
 
-use crate::calls::{get_guard_of, get_key, read_key, release_key, remove_key};
+use crate::calls::{get_guard_of, get_key, read_key, read_value, release_key, remove_key};
 use crate::guard::Guard;
 use crate::heap::Heap;
 use crate::warming::{warm_key, warm_value_of};
@@ -128,15 +128,13 @@ impl<L: KeyLayout> PassState<L> {
     }
 
     /// The value of a key that the pass holds. Refused as `NotHeld` exactly if it has no hold on the key.
+    #[inline(always)]
     pub fn read(&mut self, heap: &Heap<L>, hold: Hold) -> Result<Value, Refusal>
         requires { self.old.heap ≡ heap.now }
         ensures does { ReadDoes hold.key self.old result self.new }
         ensures remains { Remains L.layout self.old self.new }
     {
-        // (The initial value has one word, as most values have: reading a value of one word into it is one store.)
-        let mut value = Value::from(0);
-        self.read_into(heap, hold, &mut value)?;
-        Ok(value)
+        read_value(&heap.table, &mut self.seat, &self.held, &hold)
     }
 
     /// Reads the value of a key that the pass holds into a value of the caller's, replacing what that was. Refused as
