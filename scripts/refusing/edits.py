@@ -24,7 +24,7 @@ class Function:
         owners = [it for it in OWNER.finditer(text, 0, self.start)] if self.indent else []
         # (the words of the head, as `Member`, `Side`: the prover's name of an impl is made of some of them)
         self.owners = set(re.findall(r"[A-Z]\w+", owners[-1][1])) if owners else set()
-        # (`impl Part`, `impl Pass<L, H>`: of an impl of a trait the prover makes another name)
+        # (`impl Part`, `impl PassOn<L, H>`: of an impl of a trait the prover makes another name)
         head = re.sub(r"<[^<>]*>", "", re.sub(r"<[^<>]*>", "", owners[-1][1])).split() if owners else []
         self.type = head[0].rstrip("{") if head and "for" not in head else None
         # (a trait and its impls have each function once, so a second one beside it would be another function)

@@ -5,7 +5,7 @@ ghost use Rattle.script_calls.specs.Running.{seen_of_caller, seen_of_member};
 use crate::side::Side;
 use sh_key::KeyLayout;
 use sh_member::Member;
-use sh_pass::pass::Pass;
+use sh_pass::pass::PassOn;
 use sh_pass::{KeepsHeap, Receipt};
 use sh_value::{Hold, Refusal, Value};
 use std::alloc::Global;
@@ -60,7 +60,7 @@ impl<L: KeyLayout, H: KeepsHeap<L>> Side for Member<L, H> {
 }
 
 /// The pass of a member that owns no shard.
-pub fn pass_of<L: KeyLayout, H: KeepsHeap<L>>(member: Member<L, H>) -> Pass<L, H>
+pub fn pass_of<L: KeyLayout, H: KeepsHeap<L>>(member: Member<L, H>) -> PassOn<L, H>
     requires { (seen_of_member L.layout member).part.shard ≡ None }
     ensures { seen_of_caller L.layout result ≡ seen_of_member L.layout member }
 {

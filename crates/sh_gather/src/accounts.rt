@@ -17,7 +17,7 @@ use crate::laws::core_refines;
 use sh_core::Accounts;
 use sh_key::KeyLayout;
 use sh_pass::KeepsHeap;
-use sh_pass::pass::Pass;
+use sh_pass::pass::PassOn;
 use sh_shape::{CLASS_COUNT, Place, SLOT_PLACES, slots};
 use sh_word::{Kind, State};
 
@@ -64,7 +64,7 @@ fn count_one(accounts: &mut Accounts, word: u64)
 
 // Counts the first `count` slots of a page, each by its state word.
 fn count_states<L: KeyLayout, H: KeepsHeap<L>>(
-    pass: &mut Pass<L, H>,
+    pass: &mut PassOn<L, H>,
     page: u64,
     class: Option<u32>,
     count: u32,
@@ -91,7 +91,7 @@ fn count_states<L: KeyLayout, H: KeepsHeap<L>>(
 
 // Walks the stack of a page, from its head word to the end, and counts its slots. Each slot of a page is on the stack
 // at most once, so there are at most as many links to follow as the page has places.
-fn walk<L: KeyLayout, H: KeepsHeap<L>>(pass: &mut Pass<L, H>, page: u64) -> u32
+fn walk<L: KeyLayout, H: KeepsHeap<L>>(pass: &mut PassOn<L, H>, page: u64) -> u32
     requires page { page < all_pages pass.old.heap.shape }
     requires gathered { IsGathered pass.old.view }
     ensures heap { pass.new.heap ≡ pass.old.heap }
@@ -115,7 +115,7 @@ fn walk<L: KeyLayout, H: KeepsHeap<L>>(pass: &mut Pass<L, H>, page: u64) -> u32
 
 // The accounts of a shard's page. `None` if the heap has no such page.
 pub(crate) fn accounts<L: KeyLayout, H: KeepsHeap<L>>(
-    pass: &mut Pass<L, H>,
+    pass: &mut PassOn<L, H>,
     shard: u32,
     page: u32,
 ) -> Option<Accounts>

@@ -3,4 +3,4 @@ use crate::view;
 use sh_pass::Heap;
 
 /// The heap, which it borrows, as the pass sees it that carries the tales of all passes.
-pub type Whole<'a, L> = view::Whole<L, &'a Heap<L>>;
+pub type Whole<'a, L> = view::WholeOn<L, &'a Heap<L>>;

@@ -6,15 +6,15 @@ ghost use Rattle.sh_table.specs.Whole.{IsWhole};
 ghost use Rattle.sh_pass.specs.Passes.{AreAll, AreOf};
 ghost use Rattle.sh_gather.specs.Gathering.{IsGatheredFrom, met_view};
 
-use crate::view::Whole;
+use crate::view::WholeOn;
 use sh_key::KeyLayout;
-use sh_pass::pass::Pass;
+use sh_pass::pass::PassOn;
 use sh_pass::{Heap, KeepsHeap, are_all, merge};
 
 /// Two passes of one heap meet: returns the first one, which now carries both tales. So one legal history has the
 /// entries of all passes that either names. All that the second carried happens before all later results of the first.
 /// The holds of the second stay in their slots for good.
-pub fn join<L: KeyLayout, H: KeepsHeap<L>>(one: Pass<L, H>, other: Pass<L, H>) -> Pass<L, H>
+pub fn join<L: KeyLayout, H: KeepsHeap<L>>(one: PassOn<L, H>, other: PassOn<L, H>) -> PassOn<L, H>
     requires { other.heap ≡ one.heap }
     ensures heap { result.heap ≡ one.heap }
     ensures tale { result.view ≡ joined_view one.view other.view }
@@ -24,13 +24,15 @@ pub fn join<L: KeyLayout, H: KeepsHeap<L>>(one: Pass<L, H>, other: Pass<L, H>) -
 }
 
 /// The heap as a whole, if the tales of all its passes are joined in this one; otherwise the pass comes back.
-pub fn whole<L: KeyLayout, H: KeepsHeap<L>>(pass: Pass<L, H>) -> Result<Whole<L, H>, Pass<L, H>>
+pub fn whole<L: KeyLayout, H: KeepsHeap<L>>(
+    pass: PassOn<L, H>,
+) -> Result<WholeOn<L, H>, PassOn<L, H>>
     ensures { MatchResult result
         (λ whole. (whole ≡ pass) × IsWhole pass.view)
         (λ back. (back ≡ pass) × ¬ IsWhole pass.view) }
 {
     if pass.is_whole() {
-        Ok(Whole { pass })
+        Ok(WholeOn { pass })
     } else {
         Err(pass)
     }
@@ -41,8 +43,8 @@ pub fn whole<L: KeyLayout, H: KeepsHeap<L>>(pass: Pass<L, H>) -> Result<Whole<L,
 /// for good.
 pub fn gather<L: KeyLayout, H: KeepsHeap<L>>(
     heap: &Heap<L>,
-    passes: Vec<Pass<L, H>>,
-) -> Result<Whole<L, H>, Vec<Pass<L, H>>>
+    passes: Vec<PassOn<L, H>>,
+) -> Result<WholeOn<L, H>, Vec<PassOn<L, H>>>
     requires { AreOf heap.now passes.items }
     ensures { MatchResult result
         (λ whole. (whole.heap ≡ heap.now) × IsWhole whole.view × AreAll heap.now passes.items
@@ -64,7 +66,7 @@ pub fn gather<L: KeyLayout, H: KeepsHeap<L>>(
 }
 
 // The first pass, which takes in the others, in order.
-fn met<L: KeyLayout, H: KeepsHeap<L>>(one: Pass<L, H>, others: Vec<Pass<L, H>>) -> Pass<L, H>
+fn met<L: KeyLayout, H: KeepsHeap<L>>(one: PassOn<L, H>, others: Vec<PassOn<L, H>>) -> PassOn<L, H>
     requires { AreOf one.heap others.items }
     ensures heap { result.heap ≡ one.heap }
     ensures tale { result.view ≡ met_view one.view others.items }

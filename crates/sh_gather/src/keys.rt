@@ -4,7 +4,7 @@ ghost use Rattle.sh_gather.specs.Gathering.{NotedMore};
 ghost use Rattle.sh_gather.specs.LiveKeys.{AreLiveAt, all_places};
 
 use crate::laws::core_refines;
-use crate::view::Whole;
+use crate::view::WholeOn;
 use sh_key::KeyLayout;
 use sh_pass::KeepsHeap;
 use sh_shape::{Place, SLOT_PLACES};
@@ -12,7 +12,7 @@ use sh_slots::KeyRef;
 use sh_step::operands::key_of_name;
 use sh_word::State;
 
-impl<L: KeyLayout, H: KeepsHeap<L>> Whole<L, H> {
+impl<L: KeyLayout, H: KeepsHeap<L>> WholeOn<L, H> {
     /// The live key whose slot is at this place, found by loading one word. A heap has 48 places for each page, in the
     /// order of its pages over the whole heap. Each live key is at one of them, and no two are at the same.
     ///

@@ -19,3 +19,4 @@ pub use next_keys::next_key;
 pub use pages::{PageAccounts, all_accounts, page_accounts};
 pub use sh_core::Accounts;
 pub use totals::{Totals, total};
+pub use view::WholeOn;

@@ -4,7 +4,7 @@ ghost use Rattle.sh_gather.specs.Gathering.{NotedMore};
 ghost use Rattle.sh_gather.specs.NextKeys.{IsNextKey};
 
 use crate::pages::page_count;
-use crate::view::Whole;
+use crate::view::WholeOn;
 use sh_key::KeyLayout;
 use sh_pass::{KeepsHeap, NextKey};
 use sh_shape::SLOT_PLACES;
@@ -20,7 +20,7 @@ use sh_shape::SLOT_PLACES;
 /// }
 /// ```
 pub fn next_key<L: KeyLayout, H: KeepsHeap<L>>(
-    whole: &mut Whole<L, H>,
+    whole: &mut WholeOn<L, H>,
     from: u64,
 ) -> Option<NextKey>
     ensures heap { whole.new.heap ≡ whole.old.heap }

@@ -4,7 +4,7 @@ ghost use Rattle.sh_shape.specs.Places.{all_pages};
 ghost use Rattle.sh_gather.specs.Gathering.{NotedMore};
 ghost use Rattle.sh_gather.specs.PageLists.{IsPage, AreFirst};
 
-use crate::view::Whole;
+use crate::view::WholeOn;
 use sh_core::Accounts;
 use sh_key::KeyLayout;
 use sh_pass::KeepsHeap;
@@ -32,7 +32,7 @@ pub fn page_count(shape: &Shape) -> u32
 /// The accounts of the page with this number over the heap: those of shard 0 come first, in their order, then those of
 /// shard 1, and so on.
 pub fn page_accounts<L: KeyLayout, H: KeepsHeap<L>>(
-    whole: &mut Whole<L, H>,
+    whole: &mut WholeOn<L, H>,
     number: u32,
 ) -> PageAccounts
     requires there { number < all_pages whole.old.heap.shape }
@@ -56,7 +56,7 @@ pub fn page_accounts<L: KeyLayout, H: KeepsHeap<L>>(
 /// there is no memory for the list.
 pub fn all_accounts<L: KeyLayout, H: KeepsHeap<L>>(
     alloc: Global,
-    whole: &mut Whole<L, H>,
+    whole: &mut WholeOn<L, H>,
 ) -> Result<Vec<PageAccounts>, AllocError>
     ensures heap { whole.new.heap ≡ whole.old.heap }
     ensures tale { NotedMore whole.old.view whole.new.view }

@@ -8,7 +8,7 @@ ghost use Rattle.sh_gather.specs.PageLists.{AreFirst};
 ghost use Rattle.sh_gather.specs.Sums.{AtMost, with_page, sums};
 
 use crate::pages::{PageAccounts, page_accounts, page_count};
-use crate::view::Whole;
+use crate::view::WholeOn;
 use sh_key::KeyLayout;
 use sh_pass::KeepsHeap;
 
@@ -66,7 +66,7 @@ impl Totals {
 }
 
 /// The sums over all pages of a heap of which all passes met. It takes no memory.
-pub fn total<L: KeyLayout, H: KeepsHeap<L>>(whole: &mut Whole<L, H>) -> Totals
+pub fn total<L: KeyLayout, H: KeepsHeap<L>>(whole: &mut WholeOn<L, H>) -> Totals
     ensures heap { whole.new.heap ≡ whole.old.heap }
     ensures tale { NotedMore whole.old.view whole.new.view }
     ensures are { (pages : List PageAccounts)

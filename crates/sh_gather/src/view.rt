@@ -10,17 +10,18 @@ use crate::accounts::accounts;
 use sh_core::Accounts;
 use sh_key::KeyLayout;
 use sh_pass::KeepsHeap;
-use sh_pass::pass::Pass;
+use sh_pass::pass::PassOn;
 use sh_shape::Shape;
 use std::marker::Model;
 
 /// The heap as seen by the pass that carries the tales of all passes. No other pass steps any more, so nothing changes.
+/// A `Whole` is one whose pass borrows the heap.
 #[derive(Drop)]
-pub struct Whole<L: KeyLayout, H: KeepsHeap<L>> {
-    pub(crate) pass: Pass<L, H>,
+pub struct WholeOn<L: KeyLayout, H: KeepsHeap<L>> {
+    pub(crate) pass: PassOn<L, H>,
 }
 
-impl<L: KeyLayout, H: KeepsHeap<L>> Model for Whole<L, H> {
+impl<L: KeyLayout, H: KeepsHeap<L>> Model for WholeOn<L, H> {
     ghost use Rattle.sh_table.specs.Whole.{IsWhole};
     ghost use Rattle.sh_pass.specs.Passes.{Caller};
 
@@ -31,7 +32,7 @@ impl<L: KeyLayout, H: KeepsHeap<L>> Model for Whole<L, H> {
     ghost invariant = { λ w. IsWhole w.pass.view };
 }
 
-impl<L: KeyLayout, H: KeepsHeap<L>> Whole<L, H> {
+impl<L: KeyLayout, H: KeepsHeap<L>> WholeOn<L, H> {
     /// The shape of the heap. The pass that carries the tales owns no shard, and all that it knows holds.
     pub fn shape(&self) -> &Shape
         ensures is { result.now ≡ self.now.heap.shape }
@@ -43,10 +44,10 @@ impl<L: KeyLayout, H: KeepsHeap<L>> Whole<L, H> {
 
     /// The pass that carries the tales, for further use. It is whole for good, since nobody else has a pass. What it
     /// noted holds until its next step.
-    pub fn into_pass(self) -> Pass<L, H>
+    pub fn into_pass(self) -> PassOn<L, H>
         ensures { result ≡ self }
     {
-        let Whole { pass } = self;
+        let WholeOn { pass } = self;
         pass
     }
 

@@ -16,7 +16,7 @@ use crate::guard::GrownGuard;
 use once_cell::race::Note;
 use sh_chunk::{Chunked, chunked_keys_fit};
 use sh_member::Member;
-use sh_pass::pass::Pass;
+use sh_pass::pass::PassOn;
 use sh_pool::{PoolSlot, Share, Taken, give_pass};
 use sh_value::{Hold, Refusal, Value};
 use std::alloc::Global;
@@ -72,7 +72,7 @@ fn met_by(kept: Share<Chunked>, note: Note<Share<Chunked>>, taken: Taken<Chunked
     ensures note { result.note ≡ note }
 {
     let Taken { state, pool_slot } = taken;
-    let pass = Pass::on(kept, state);
+    let pass = PassOn::on(kept, state);
     let shards = pass.shape().shards();
     Met {
         member: Member::of(pass),

@@ -10,12 +10,12 @@ use crate::member::{Member, Side};
 use sh_key::KeyLayout;
 use sh_pass::KeepsHeap;
 use sh_readers::Reader;
-use sh_shard::shard::Shard;
+use sh_shard::shard::ShardOn;
 use sh_value::{Hold, Refusal, Value};
 
 // The same by the owner of a shard, which stays the owner.
 fn fetch_by_owner<L: KeyLayout, H: KeepsHeap<L>>(
-    owner: &mut Shard<L, H>,
+    owner: &mut ShardOn<L, H>,
     key: u64,
     value: &mut Value,
 ) -> Result<(), Refusal>

@@ -4,17 +4,17 @@ ghost use Rattle.sh_member.specs.declared.member.Side.TheVariants as side;
 
 use sh_key::KeyLayout;
 use sh_pass::KeepsHeap;
-use sh_pass::pass::Pass;
-use sh_shard::shard::Shard;
+use sh_pass::pass::PassOn;
+use sh_shard::shard::ShardOn;
 use std::marker::Model;
 
 /// A pass, or the shard that it owns.
 #[derive(Drop)]
 pub enum Side<L: KeyLayout, H: KeepsHeap<L>> {
     /// It owns no shard.
-    Pass(Pass<L, H>),
+    Pass(PassOn<L, H>),
     /// It owns a shard.
-    Shard(Shard<L, H>),
+    Shard(ShardOn<L, H>),
     /// It is about to adopt or to leave. Between calls it never is.
     Moving,
 }
@@ -38,7 +38,7 @@ impl<L: KeyLayout, H: KeepsHeap<L>> Model for Member<L, H> {
 
 impl<L: KeyLayout, H: KeepsHeap<L>> Member<L, H> {
     /// The pass, which owns no shard.
-    pub fn of(pass: Pass<L, H>) -> Self
+    pub fn of(pass: PassOn<L, H>) -> Self
         ensures { result ≡ side.Pass pass }
     {
         Member {

@@ -6,8 +6,8 @@ ghost use Rattle.sh_member.specs.SideBounds.{AdoptTakes, LeaveTakes};
 use crate::member::{Member, Side};
 use sh_key::KeyLayout;
 use sh_pass::KeepsHeap;
-use sh_pass::pass::Pass;
-use sh_shard::shard::Shard;
+use sh_pass::pass::PassOn;
+use sh_shard::shard::ShardOn;
 use sh_value::Refusal;
 use std::alloc::Global;
 use std::mem::replace;
@@ -20,7 +20,7 @@ impl<L: KeyLayout, H: KeepsHeap<L>> Member<L, H> {
         ensures bounded { AdoptTakes self.old self.new }
     {
         match replace(&mut self.side, Side::Moving) {
-            Side::Pass(pass) => match Shard::adopt(alloc, pass, n) {
+            Side::Pass(pass) => match ShardOn::adopt(alloc, pass, n) {
                 Ok(shard) => {
                     self.side = Side::Shard(shard);
                     Ok(())
@@ -75,7 +75,7 @@ impl<L: KeyLayout, H: KeepsHeap<L>> Member<L, H> {
     }
 
     /// The pass, if it owns no shard; otherwise the member comes back.
-    pub fn into_pass(self) -> Result<Pass<L, H>, Self>
+    pub fn into_pass(self) -> Result<PassOn<L, H>, Self>
         ensures { SideGivesPass self result }
     {
         let Member { side } = self;

@@ -5,14 +5,14 @@ ghost use Rattle.sh_pass.specs.Busy.{Acts, Ends};
 
 use crate::by_hand::BusyState;
 use crate::keeping::KeepsHeap;
-use crate::pass::Pass;
+use crate::pass::PassOn;
 use crate::state::PassState;
 use sh_key::KeyLayout;
 use sh_slots::Hand;
 use sh_step::Action;
 use std::marker::{Model, PhantomData};
 
-/// A pass that does one step a call, so that it can stop between any two.
+/// A pass that does one step a call, so that it can stop between any two. A `Busy` is one that borrows its heap.
 ///
 /// A contract sees which heap it is of and what it knows, as of a `Pass`.
 ///
@@ -21,13 +21,13 @@ use std::marker::{Model, PhantomData};
 /// pass put and did not tie, and its leave is refused as `Waiting`. If the pass was to ring for a page, the owner never
 /// hears of that page. So continue its steps until `end` gives the pass back.
 #[derive(Drop)]
-pub struct Busy<L: KeyLayout, H: KeepsHeap<L>> {
+pub struct BusyOn<L: KeyLayout, H: KeepsHeap<L>> {
     heap: H,
     state: BusyState,
     layout: PhantomData<L>,
 }
 
-impl<L: KeyLayout, H: KeepsHeap<L>> Model for Busy<L, H> {
+impl<L: KeyLayout, H: KeepsHeap<L>> Model for BusyOn<L, H> {
     ghost use Rattle.sh_pass.specs.Passes.{Caller, caller_of};
     ghost use Rattle.sh_pass.specs.Busy.{IsBusy};
 
@@ -39,12 +39,12 @@ impl<L: KeyLayout, H: KeepsHeap<L>> Model for Busy<L, H> {
         IsBusy L.layout (H.heap b.heap) b.state.seat b.state.held.items b.state.named b.state.hand b.state.number };
 }
 
-impl<L: KeyLayout, H: KeepsHeap<L>> Pass<L, H> {
+impl<L: KeyLayout, H: KeepsHeap<L>> PassOn<L, H> {
     /// The pass, to be driven step by step.
-    pub fn begin(self) -> Busy<L, H>
+    pub fn begin(self) -> BusyOn<L, H>
         ensures { result ≡ self }
     {
-        let Pass { heap, state } = self;
+        let PassOn { heap, state } = self;
         let PassState {
             seat,
             held,
@@ -52,7 +52,7 @@ impl<L: KeyLayout, H: KeepsHeap<L>> Pass<L, H> {
             number,
             layout: _,
         } = state;
-        Busy {
+        BusyOn {
             heap,
             state: BusyState {
                 seat,
@@ -66,7 +66,7 @@ impl<L: KeyLayout, H: KeepsHeap<L>> Pass<L, H> {
     }
 }
 
-impl<L: KeyLayout, H: KeepsHeap<L>> Busy<L, H> {
+impl<L: KeyLayout, H: KeepsHeap<L>> BusyOn<L, H> {
     /// Does one step: true if the action is of one of the kinds Enter, Mark, Drop, Finish, Put, Tie, Ring and RingTie,
     /// and its condition holds. Otherwise it does nothing and returns false.
     pub fn act(&mut self, action: &Action) -> bool
@@ -79,10 +79,10 @@ impl<L: KeyLayout, H: KeepsHeap<L>> Busy<L, H> {
     }
 
     /// The pass again, if it has nothing begun. Otherwise the busy pass comes back as it was.
-    pub fn end(self) -> Result<Pass<L, H>, Busy<L, H>>
+    pub fn end(self) -> Result<PassOn<L, H>, BusyOn<L, H>>
         ensures { Ends self result }
     {
-        let Busy {
+        let BusyOn {
             heap,
             state,
             layout: _,
@@ -95,7 +95,7 @@ impl<L: KeyLayout, H: KeepsHeap<L>> Busy<L, H> {
             hand,
         } = state;
         match hand {
-            Hand::Idle => Ok(Pass {
+            Hand::Idle => Ok(PassOn {
                 heap,
                 state: PassState {
                     seat,
@@ -105,7 +105,7 @@ impl<L: KeyLayout, H: KeepsHeap<L>> Busy<L, H> {
                     layout: PhantomData,
                 },
             }),
-            hand => Err(Busy {
+            hand => Err(BusyOn {
                 heap,
                 state: BusyState {
                     seat,

@@ -3,7 +3,7 @@ ghost use Rattle.std.specs.Prelude.{◌≡◌, ◌⊎◌};
 ghost use Rattle.sh_pass.specs.Receipts.{RemovalRefused, GetsAfterRemoval};
 
 use crate::keeping::KeepsHeap;
-use crate::pass::Pass;
+use crate::pass::PassOn;
 use sh_key::KeyLayout;
 use sh_table::heard_comes_first;
 use sh_value::{Hold, Refusal};
@@ -12,8 +12,8 @@ use sh_value::{Hold, Refusal};
 /// refused, as `BadKey` or `Gone`, the call ends there. Otherwise the get does not find the key: it is refused, and not
 /// as `Crowded`.
 pub fn remove_then_get<L: KeyLayout, H: KeepsHeap<L>>(
-    one: &mut Pass<L, H>,
-    other: &mut Pass<L, H>,
+    one: &mut PassOn<L, H>,
+    other: &mut PassOn<L, H>,
     key: u64,
 ) -> Result<Hold, Refusal>
     requires { other.old.heap ≡ one.old.heap }

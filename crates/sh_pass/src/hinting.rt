@@ -5,7 +5,7 @@ ghost use Rattle.sh_step.specs.Plans.{plan_of};
 ghost use Rattle.sh_pass.specs.Owners.{MayTouch, IsKeyOfSlot, IsKeyAt, heap_slot};
 
 use crate::keeping::KeepsHeap;
-use crate::owner::Owner;
+use crate::owner::OwnerOn;
 use sh_key::{KeyLayout, Parts};
 use sh_shape::{Place, Shape};
 use sh_step::PageName;
@@ -36,7 +36,7 @@ fn key_of_word<L: KeyLayout>(shape: &Shape, name: PageName, slot: u64, word: u64
     }
 }
 
-impl<L: KeyLayout, H: KeepsHeap<L>> Owner<L, H> {
+impl<L: KeyLayout, H: KeepsHeap<L>> OwnerOn<L, H> {
     /// The key of this slot if its state word says that a value is live there. It is a hint, by a load that is no step:
     /// another caller may have removed the key since. So a caller tries to get it.
     pub fn key_hint(&self, name: PageName, slot: u64) -> Option<u64>

@@ -1,11 +1,11 @@
 // A pass looks keys up.
 use crate::keeping::KeepsHeap;
-use crate::pass::Pass;
+use crate::pass::PassOn;
 use sh_key::KeyLayout;
 use sh_plain::Lookup;
 use sh_value::{Hold, Refusal, Value};
 
-impl<L: KeyLayout, H: KeepsHeap<L>> Lookup for Pass<L, H> {
+impl<L: KeyLayout, H: KeepsHeap<L>> Lookup for PassOn<L, H> {
     ghost use Rattle.sh_pass.specs.Passes.{GetDoes, ReadDoes, RemoveDoes, ReleaseDoes};
     ghost use Rattle.sh_pass.specs.Lookups.{caller_book, caller_setting};
 
@@ -22,18 +22,18 @@ impl<L: KeyLayout, H: KeepsHeap<L>> Lookup for Pass<L, H> {
     ghost releases = { λ old key result new. ReleaseDoes L.layout key old result new };
 
     fn get(&mut self, key: u64) -> Result<Hold, Refusal> {
-        Pass::get(self, key)
+        PassOn::get(self, key)
     }
 
     fn read(&mut self, hold: Hold) -> Result<Value, Refusal> {
-        Pass::read(self, hold)
+        PassOn::read(self, hold)
     }
 
     fn remove(&mut self, key: u64) -> Result<(), Refusal> {
-        Pass::remove(self, key)
+        PassOn::remove(self, key)
     }
 
     fn release(&mut self, hold: Hold) -> Result<(), Refusal> {
-        Pass::release(self, hold)
+        PassOn::release(self, hold)
     }
 }

@@ -9,7 +9,7 @@ ghost use Rattle.sh_pass.specs.Owners.{OwnerDid, OwnerTries, OwnerAdopts, Left, 
 ghost use Rattle.sh_pass.specs.Owners.{heap_page, own_body, seen_page};
 
 use crate::keeping::KeepsHeap;
-use crate::pass::Pass;
+use crate::pass::PassOn;
 use crate::state::PassState;
 use arrayvec::ArrayVec;
 use sh_key::KeyLayout;
@@ -19,7 +19,7 @@ use sh_table::PassSeat;
 use sh_value::HOLDS_MAX;
 use std::marker::{Model, PhantomData};
 
-/// A pass that may own a shard: what its shard is made with.
+/// A pass that may own a shard: what its shard is made with. An `Owner` is one that borrows its heap.
 ///
 /// Each of its steps is one step of the core, has that step's condition, and returns the word that it found; a store
 /// returns nothing. A contract sees which heap it is of and what it knows, as of a `Pass`.
@@ -27,7 +27,7 @@ use std::marker::{Model, PhantomData};
 /// An owner that is dropped leaves its shard taken for good, with the slots that are its own, what it has begun, and
 /// its holds. So let it leave, and turn it back into a pass by `into_pass`.
 #[derive(Drop)]
-pub struct Owner<L: KeyLayout, H: KeepsHeap<L>> {
+pub struct OwnerOn<L: KeyLayout, H: KeepsHeap<L>> {
     pub(crate) heap: H,
     pub(crate) seat: PassSeat,
     // The keys that it holds, in any order.
@@ -41,7 +41,7 @@ pub struct Owner<L: KeyLayout, H: KeepsHeap<L>> {
     pub(crate) layout: PhantomData<L>,
 }
 
-impl<L: KeyLayout, H: KeepsHeap<L>> Model for Owner<L, H> {
+impl<L: KeyLayout, H: KeepsHeap<L>> Model for OwnerOn<L, H> {
     ghost use Rattle.sh_pass.specs.Passes.{Caller, caller_of};
     ghost use Rattle.sh_pass.specs.Owners.{IsOwner};
 
@@ -52,15 +52,15 @@ impl<L: KeyLayout, H: KeepsHeap<L>> Model for Owner<L, H> {
     ghost invariant = { λ o. IsOwner L.layout (H.heap o.heap) o.seat o.held.items o.named o.owned o.number };
 }
 
-impl<L: KeyLayout, H: KeepsHeap<L>> Owner<L, H> {
+impl<L: KeyLayout, H: KeepsHeap<L>> OwnerOn<L, H> {
     /// The pass, to own a shard.
-    pub fn of(pass: Pass<L, H>) -> Self
+    pub fn of(pass: PassOn<L, H>) -> Self
         ensures same { result ≡ pass }
         ensures idle { (own_body result).hand ≡ Idle }
         ensures left { (own_body result).owned ≡ None }
         ensures stands { ViewStands L.layout result.view }
     {
-        let Pass { heap, state } = pass;
+        let PassOn { heap, state } = pass;
         let PassState {
             seat,
             held,
@@ -68,7 +68,7 @@ impl<L: KeyLayout, H: KeepsHeap<L>> Owner<L, H> {
             number,
             layout: _,
         } = state;
-        Owner {
+        OwnerOn {
             heap,
             seat,
             held,
@@ -80,12 +80,12 @@ impl<L: KeyLayout, H: KeepsHeap<L>> Owner<L, H> {
     }
 
     /// The pass again.
-    pub fn into_pass(self) -> Pass<L, H>
+    pub fn into_pass(self) -> PassOn<L, H>
         requires idle { (own_body self).hand ≡ Idle }
         requires left { (own_body self).owned ≡ None }
         ensures { result ≡ self }
     {
-        let Owner {
+        let OwnerOn {
             heap,
             seat,
             held,
@@ -94,7 +94,7 @@ impl<L: KeyLayout, H: KeepsHeap<L>> Owner<L, H> {
             owned: _,
             layout: _,
         } = self;
-        Pass {
+        PassOn {
             heap,
             state: PassState {
                 seat,

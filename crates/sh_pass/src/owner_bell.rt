@@ -7,11 +7,11 @@ ghost use Rattle.sh_pass.specs.Owners.{MayTouch, OwnerDid, OwnerActs, OnPage, Sa
 ghost use Rattle.sh_pass.specs.Owners.{own_body, seen_page, seen_bell, bell_taken, bell_followed, page_rung};
 
 use crate::keeping::KeepsHeap;
-use crate::owner::Owner;
+use crate::owner::OwnerOn;
 use sh_key::KeyLayout;
 use sh_step::PageName;
 
-impl<L: KeyLayout, H: KeepsHeap<L>> Owner<L, H> {
+impl<L: KeyLayout, H: KeepsHeap<L>> OwnerOn<L, H> {
     /// Takes what was put on the shard's bell. Returns the bell word that it found.
     pub fn take_bell(&mut self, shard: u64) -> u64
         requires idle { (own_body self.old).hand ≡ Idle }

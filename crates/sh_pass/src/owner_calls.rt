@@ -8,13 +8,13 @@ ghost use Rattle.sh_pass.specs.Remaining.{Remains};
 use crate::calls::{get_guard_of, get_key, read_key, read_value, release_key, remove_key};
 use crate::guard::Guard;
 use crate::keeping::KeepsHeap;
-use crate::owner::Owner;
+use crate::owner::OwnerOn;
 use crate::warming::{warm_key, warm_value_of};
 use sh_key::KeyLayout;
 use sh_slots::SlotRef;
 use sh_value::{Hold, Refusal, Value};
 
-impl<L: KeyLayout, H: KeepsHeap<L>> Owner<L, H> {
+impl<L: KeyLayout, H: KeepsHeap<L>> OwnerOn<L, H> {
     /// Takes a hold on a key, so that its value stays readable. Refused as `BadKey`, `HoldsFull`, `Gone` or `Crowded`,
     /// tried in that order, as the get of a `Pass` is. If a refused get is the last to leave a removed key, the slot
     /// becomes its own.

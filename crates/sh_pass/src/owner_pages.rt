@@ -9,11 +9,11 @@ ghost use Rattle.sh_pass.specs.Owners.{heap_page, own_body, seen_page, page_give
 ghost use Rattle.sh_pass.specs.Owners.{page_followed};
 
 use crate::keeping::KeepsHeap;
-use crate::owner::Owner;
+use crate::owner::OwnerOn;
 use sh_key::KeyLayout;
 use sh_step::PageName;
 
-impl<L: KeyLayout, H: KeepsHeap<L>> Owner<L, H> {
+impl<L: KeyLayout, H: KeepsHeap<L>> OwnerOn<L, H> {
     /// Reads the class word of the page: 0 if the page is blank, and otherwise one more than its class.
     pub fn read_page(&mut self, name: PageName) -> u64
         requires touch { MayTouch self.old name }

@@ -17,7 +17,7 @@ ghost use Rattle.sh_pass.specs.Owners.{own_body, seen_page, published, slot_in, 
 ghost use Rattle.sh_pass.specs.Owners.{IsKeyOn};
 
 use crate::keeping::KeepsHeap;
-use crate::owner::Owner;
+use crate::owner::OwnerOn;
 use sh_key::{KeyLayout, Parts};
 use sh_shape::Shape;
 use sh_slots::{KeyRef, SlotRef, published_name};
@@ -45,7 +45,7 @@ fn key_on_page<L: KeyLayout>(shape: &Shape, name: PageName, stored: KeyRef) -> u
     })
 }
 
-impl<L: KeyLayout, H: KeepsHeap<L>> Owner<L, H> {
+impl<L: KeyLayout, H: KeepsHeap<L>> OwnerOn<L, H> {
     /// Stores the length of the value, as it begins to fill a slot of its own. Returns the slot's place over the whole
     /// heap.
     pub fn fill_slot(&mut self, name: PageName, slot: u64, value: &Value) -> SlotRef

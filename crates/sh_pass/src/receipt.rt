@@ -8,8 +8,8 @@ ghost use Rattle.sh_pass.specs.Remaining.{Remains};
 
 use crate::heap::Heap;
 use crate::keeping::KeepsHeap;
-use crate::owner::Owner;
-use crate::pass::Pass;
+use crate::owner::OwnerOn;
+use crate::pass::PassOn;
 use crate::state::PassState;
 use sh_key::KeyLayout;
 use sh_table::PassSeat;
@@ -79,7 +79,7 @@ impl<L: KeyLayout> PassState<L> {
     }
 }
 
-impl<L: KeyLayout, H: KeepsHeap<L>> Pass<L, H> {
+impl<L: KeyLayout, H: KeepsHeap<L>> PassOn<L, H> {
     /// A receipt of all results of the pass, and of all that it heard of others: one load.
     pub fn receipt(&mut self) -> Receipt
         ensures same { self.new ≡ self.old }
@@ -99,7 +99,7 @@ impl<L: KeyLayout, H: KeepsHeap<L>> Pass<L, H> {
     }
 }
 
-impl<L: KeyLayout, H: KeepsHeap<L>> Owner<L, H> {
+impl<L: KeyLayout, H: KeepsHeap<L>> OwnerOn<L, H> {
     /// A receipt of all results of the owner, and of all that it heard of others: one load.
     pub fn receipt(&mut self) -> Receipt
         requires idle { (own_body self.old).hand ≡ Idle }

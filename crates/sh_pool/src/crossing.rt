@@ -3,7 +3,7 @@ use crate::pool::Pool;
 use crate::pool_slot::{PoolSlot, Taken};
 use crate::share::Share;
 use sh_key::KeyLayout;
-use sh_pass::pass::Pass;
+use sh_pass::pass::PassOn;
 
 fn shares<T: Send + Sync>(_shared: &T) {}
 
@@ -18,7 +18,7 @@ pub fn pools_are_shared<L: KeyLayout + Send + Sync>(pool: &Pool<L>, share: &Shar
 /// A pass that was taken goes to another thread, with its pool slot.
 pub fn taken_passes_are_sent<L: KeyLayout + Send + Sync>(
     taken: &Taken<L>,
-    pass: &(Pass<L, Share<L>>, PoolSlot<L>),
+    pass: &(PassOn<L, Share<L>>, PoolSlot<L>),
 ) {
     sends(taken);
     sends(pass);

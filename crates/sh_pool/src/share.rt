@@ -6,7 +6,7 @@ ghost use Rattle.sh_pass.specs.Passes.{IsAtRest};
 use crate::pool::Pool;
 use crate::pool_slot::{PoolSlot, Taken};
 use sh_key::KeyLayout;
-use sh_pass::pass::Pass;
+use sh_pass::pass::PassOn;
 use sh_pass::{Heap, KeepsHeap};
 use sh_value::Refusal;
 use std::alloc::Global;
@@ -68,7 +68,7 @@ impl<L: KeyLayout> KeepsHeap<L> for Share<L> {
 
 /// Takes a pass from its pool slot, with a share of its pool. `None` if it finds each pool slot empty, or if no more
 /// shares can be counted.
-pub fn take_pass<L: KeyLayout>(share: &Share<L>) -> Option<(Pass<L, Share<L>>, PoolSlot<L>)>
+pub fn take_pass<L: KeyLayout>(share: &Share<L>) -> Option<(PassOn<L, Share<L>>, PoolSlot<L>)>
     ensures heap { IfSome result (λ taken. taken.0.heap ≡ share.now) }
     ensures pass { IfSome result (λ taken. taken.0.view.pass ≡ taken.1) }
     ensures rest { IfSome result (λ taken. IsAtRest taken.0) }
@@ -76,22 +76,22 @@ pub fn take_pass<L: KeyLayout>(share: &Share<L>) -> Option<(Pass<L, Share<L>>, P
 {
     let kept = share.share().ok()?;
     let Taken { state, pool_slot } = share.pool().take()?;
-    Some((Pass::on(kept, state), pool_slot))
+    Some((PassOn::on(kept, state), pool_slot))
 }
 
 /// Gives a pass back to its pool slot, and drops its share. Refused if the pool slot is for another pass, if it has a
 /// pass, or if there is no such pool slot. Then both are returned as they were. None of this is so for a pass and a
 /// pool slot that were taken together.
 pub fn give_pass<L: KeyLayout>(
-    pass: Pass<L, Share<L>>,
+    pass: PassOn<L, Share<L>>,
     pool_slot: PoolSlot<L>,
-) -> Result<(), (Pass<L, Share<L>>, PoolSlot<L>)>
+) -> Result<(), (PassOn<L, Share<L>>, PoolSlot<L>)>
     ensures ok { OnOk result ((pass.view.pass ≡ pool_slot) × (pool_slot < pass.heap.shape.passes)) }
     ensures err { IfErr result (λ back. (back.0 ≡ pass) × (back.1 ≡ pool_slot)) }
 {
     let (share, state) = pass.into_parts();
     match share.pool().give(state, pool_slot) {
         Ok(()) => Ok(()),
-        Err((state, pool_slot)) => Err((Pass::on(share, state), pool_slot)),
+        Err((state, pool_slot)) => Err((PassOn::on(share, state), pool_slot)),
     }
 }

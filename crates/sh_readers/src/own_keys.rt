@@ -5,13 +5,13 @@ ghost use Rattle.sh_shard.specs.Shards.{StaysOwner};
 
 use sh_key::KeyLayout;
 use sh_pass::{KeepsHeap, NextKey};
-use sh_shard::shard::Shard;
+use sh_shard::shard::ShardOn;
 use sh_value::Refusal;
 
 // Whether the key is live, by a get and a release. A key that is crowded is live, too.
 #[tactic(auto, using(crate::proofs::Holding::has_first, crate::proofs::Holding::without_first))]
 fn is_live<L: KeyLayout, H: KeepsHeap<L>>(
-    owner: &mut Shard<L, H>,
+    owner: &mut ShardOn<L, H>,
     key: u64,
 ) -> Result<bool, Refusal>
     requires { IsKeyOfHeap L.layout owner.old.pages.owner key }
@@ -49,7 +49,7 @@ fn is_live<L: KeyLayout, H: KeepsHeap<L>>(
 /// It loads the state words of the shard as hints to the keys that are worth a get. No contract says what they are, so
 /// no contract says that each live key is found. Tests find each one that no other pass removes.
 pub fn next_own_key<L: KeyLayout, H: KeepsHeap<L>>(
-    owner: &mut Shard<L, H>,
+    owner: &mut ShardOn<L, H>,
     from: u64,
 ) -> Result<Option<NextKey>, Refusal>
     ensures does { NextOwnKeyDoes L.layout from owner.old.pages result owner.new.pages }

@@ -2,47 +2,47 @@
 use crate::reader::Reader;
 use sh_key::KeyLayout;
 use sh_pass::{KeepsHeap, Receipt};
-use sh_shard::shard::Shard;
+use sh_shard::shard::ShardOn;
 use sh_value::{Hold, Refusal, Value};
 
-impl<L: KeyLayout, H: KeepsHeap<L>> Reader for Shard<L, H> {
+impl<L: KeyLayout, H: KeepsHeap<L>> Reader for ShardOn<L, H> {
     ghost layout = { L.layout };
 
     ghost caller = { λ s. s.pages.owner };
 
     fn warm(&self, key: u64) {
-        Shard::warm(self, key);
+        ShardOn::warm(self, key);
     }
 
     fn warm_value(&self, key: u64) {
-        Shard::warm_value(self, key);
+        ShardOn::warm_value(self, key);
     }
 
     fn get(&mut self, key: u64) -> Result<Hold, Refusal> {
-        Shard::get(self, key)
+        ShardOn::get(self, key)
     }
 
     fn read(&mut self, hold: Hold) -> Result<Value, Refusal> {
-        Shard::read(self, hold)
+        ShardOn::read(self, hold)
     }
 
     fn read_into(&mut self, hold: Hold, value: &mut Value) -> Result<(), Refusal> {
-        Shard::read_into(self, hold, value)
+        ShardOn::read_into(self, hold, value)
     }
 
     fn remove(&mut self, key: u64) -> Result<(), Refusal> {
-        Shard::remove(self, key)
+        ShardOn::remove(self, key)
     }
 
     fn release(&mut self, hold: Hold) -> Result<(), Refusal> {
-        Shard::release(self, hold)
+        ShardOn::release(self, hold)
     }
 
     fn receipt(&mut self) -> Receipt {
-        Shard::receipt(self)
+        ShardOn::receipt(self)
     }
 
     fn heed(&mut self, receipt: Receipt) {
-        Shard::heed(self, receipt);
+        ShardOn::heed(self, receipt);
     }
 }

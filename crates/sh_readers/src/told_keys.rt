@@ -9,7 +9,7 @@ ghost use Rattle.sh_readers.specs.ToldKeys.{CoversInsert, TellsOfInsert, IsAsIns
 use crate::reader::Reader;
 use sh_key::KeyLayout;
 use sh_pass::{KeepsHeap, Receipt};
-use sh_shard::shard::Shard;
+use sh_shard::shard::ShardOn;
 use sh_table::heard_comes_first;
 use sh_value::{Refusal, Value};
 
@@ -27,7 +27,7 @@ pub struct ToldKey {
 /// let value = fetch_told(&mut pass, told)?;       // there: `Gone` only if the key was removed
 /// ```
 pub fn insert_told<L: KeyLayout, H: KeepsHeap<L>>(
-    owner: &mut Shard<L, H>,
+    owner: &mut ShardOn<L, H>,
     value: &Value,
 ) -> Result<ToldKey, Refusal>
     ensures serves { InsertServes L.layout (value_class value.now) value.now owner.old

@@ -22,3 +22,5 @@ pub mod pages;
 pub mod shard;
 
 pub use borrowing::{Pages, Shard};
+pub use pages::PagesOn;
+pub use shard::ShardOn;

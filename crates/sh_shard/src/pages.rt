@@ -17,14 +17,14 @@ mod standing;
 
 use sh_key::KeyLayout;
 use sh_pass::KeepsHeap;
-use sh_pass::owner::Owner;
+use sh_pass::owner::OwnerOn;
 use sh_states::PageStates;
 use std::marker::Model;
 
-/// The pages of an owner's shard.
+/// The pages of an owner's shard. `Pages` are those of an owner that borrows its heap.
 #[derive(Drop)]
-pub struct Pages<L: KeyLayout, H: KeepsHeap<L>> {
-    pub(crate) owner: Owner<L, H>,
+pub struct PagesOn<L: KeyLayout, H: KeepsHeap<L>> {
+    pub(crate) owner: OwnerOn<L, H>,
     pub(crate) shard: u64,
     // The page of the bell whose link is to be followed next.
     pub(crate) rings: Option<u64>,
@@ -32,7 +32,7 @@ pub struct Pages<L: KeyLayout, H: KeepsHeap<L>> {
     pub(crate) states: PageStates,
 }
 
-impl<L: KeyLayout, H: KeepsHeap<L>> Model for Pages<L, H> {
+impl<L: KeyLayout, H: KeepsHeap<L>> Model for PagesOn<L, H> {
     ghost use Rattle.std.specs.Prelude.{length};
     ghost use Rattle.sh_pass.specs.Owners.{seen_bell};
     ghost use Rattle.sh_shard.specs.Kept.{KeepsPages};
@@ -51,7 +51,7 @@ impl<L: KeyLayout, H: KeepsHeap<L>> Model for Pages<L, H> {
     ghost invariant = { λ p. KeepsPages L.layout p.owner p.shard p.rings p.states };
 }
 
-impl<L: KeyLayout, H: KeepsHeap<L>> Pages<L, H> {
+impl<L: KeyLayout, H: KeepsHeap<L>> PagesOn<L, H> {
     /// The number of pages of the shard.
     pub(crate) fn count(&self) -> u64
         ensures count { result ≡ self.now.count }

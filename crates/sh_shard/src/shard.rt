@@ -15,13 +15,14 @@ mod search;
 mod standing;
 mod store;
 
-use crate::pages::Pages;
+use crate::pages::PagesOn;
 use sh_key::KeyLayout;
 use sh_pass::KeepsHeap;
 use sh_queue::Queues;
 use std::marker::Model;
 
-/// A shard that a pass owns: its owner inserts into it, and gets, reads, removes and releases as any pass does.
+/// A shard that a pass owns: its owner inserts into it, and gets, reads, removes and releases as any pass does. A
+/// `Shard` is one whose pass borrows its heap.
 ///
 /// Other passes act between all its calls. Only `adopt` takes memory, and an `insert` or a `prepare` that opens a
 /// segment.
@@ -31,12 +32,12 @@ use std::marker::Model;
 /// lost with it: no other pass can be joined to it, so the heap is never known whole. The values stay, and other passes
 /// get, read, remove and release them as before.
 #[derive(Drop)]
-pub struct Shard<L: KeyLayout, H: KeepsHeap<L>> {
-    pub(crate) pages: Pages<L, H>,
+pub struct ShardOn<L: KeyLayout, H: KeepsHeap<L>> {
+    pub(crate) pages: PagesOn<L, H>,
     pub(crate) queues: Queues,
 }
 
-impl<L: KeyLayout, H: KeepsHeap<L>> Model for Shard<L, H> {
+impl<L: KeyLayout, H: KeepsHeap<L>> Model for ShardOn<L, H> {
     ghost use Rattle.sh_shard.specs.Shards.{Sharded, SortedPages};
 
     ghost Value = { Sharded };

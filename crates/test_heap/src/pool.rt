@@ -9,7 +9,7 @@ mod whole;
 use crate::assertions::{agree, holds};
 use sh_key::Tiny;
 use sh_pass::PassState;
-use sh_pass::pass::Pass;
+use sh_pass::pass::PassOn;
 use sh_pool::{Pool, PoolSlot, Share, Taken, give_pass, take_pass};
 use sh_shape::Shape;
 use sh_value::Refusal;
@@ -210,7 +210,7 @@ fn a_pool_slot_of_another_pool_is_refused(rt: HostRuntime) {
 pub(crate) fn shared_pass(
     rt: &impl Abort,
     share: &Share<Tiny>,
-) -> (Pass<Tiny, Share<Tiny>>, PoolSlot<Tiny>) {
+) -> (PassOn<Tiny, Share<Tiny>>, PoolSlot<Tiny>) {
     match take_pass(share) {
         Some(taken) => taken,
         None => panic!(rt; "no pass"),
@@ -218,7 +218,7 @@ pub(crate) fn shared_pass(
 }
 
 // Gives a pass back, and returns whether that succeeded. A refused pass is lost.
-pub(crate) fn is_given(pass: Pass<Tiny, Share<Tiny>>, pool_slot: PoolSlot<Tiny>) -> bool {
+pub(crate) fn is_given(pass: PassOn<Tiny, Share<Tiny>>, pool_slot: PoolSlot<Tiny>) -> bool {
     match give_pass(pass, pool_slot) {
         Ok(()) => true,
         Err((_pass, pool_slot)) => {

@@ -6,32 +6,32 @@ ghost use Rattle.sh_pass.specs.Owners.{HasNothing, own_body, seen_page};
 ghost use Rattle.sh_shard.specs.Pages.{AdoptsPages, AdoptsShard, HoldsPages, ShardLeft};
 ghost use Rattle.sh_shard.specs.Steps.{StepsAtMost};
 
-use crate::pages::Pages;
+use crate::pages::PagesOn;
 use sh_key::KeyLayout;
 use sh_pass::KeepsHeap;
-use sh_pass::owner::Owner;
-use sh_pass::pass::Pass;
+use sh_pass::owner::OwnerOn;
+use sh_pass::pass::PassOn;
 use sh_states::PageStates;
 use sh_step::PageName;
 use sh_value::Refusal;
 use std::alloc::Global;
 
-impl<L: KeyLayout, H: KeepsHeap<L>> Pages<L, H> {
+impl<L: KeyLayout, H: KeepsHeap<L>> PagesOn<L, H> {
     /// Makes the pass the owner of the shard, and reads the class word of each page in ascending order. Refused, with
     /// the pass, as `NoShard` if there is no such shard, and as `Taken` if it has an owner. Refused as `Memory` if
     /// memory for the pages is refused: then the shard is left again.
     #[tactic(auto, using(crate::proofs::Sides::free_then))]
     pub(crate) fn adopt(
         alloc: Global,
-        pass: Pass<L, H>,
+        pass: PassOn<L, H>,
         shard: u64,
-    ) -> Result<Self, (Pass<L, H>, Refusal)>
+    ) -> Result<Self, (PassOn<L, H>, Refusal)>
         ensures adopts { AdoptsPages shard pass result }
         ensures holds { IfOk result (HoldsPages L.layout) }
         ensures steps { MatchResult result (λ pages. StepsAtMost (pages.count + 1) pass pages.owner)
             (λ r. StepsAtMost 2 pass r.0) }
     {
-        let mut owner = Owner::of(pass);
+        let mut owner = OwnerOn::of(pass);
         if shard >= owner.shards() {
             return Err((owner.into_pass(), Refusal::NoShard));
         }
@@ -45,7 +45,7 @@ impl<L: KeyLayout, H: KeepsHeap<L>> Pages<L, H> {
     }
 
     // Reads the class word of each page of the adopted shard. If memory is refused, the shard is left.
-    fn begin(alloc: Global, owner: Owner<L, H>, shard: u64) -> Result<Self, Owner<L, H>>
+    fn begin(alloc: Global, owner: OwnerOn<L, H>, shard: u64) -> Result<Self, OwnerOn<L, H>>
         requires idle { (own_body owner).hand ≡ Idle }
         requires owned { (own_body owner).owned ≡ Some shard }
         requires bell { (own_body owner).bell_cursor ≡ None }
@@ -67,7 +67,7 @@ impl<L: KeyLayout, H: KeepsHeap<L>> Pages<L, H> {
             let class_word = owner.read_page(PageName { shard, page });
             states.set_word(page, class_word);
         }
-        Ok(Pages {
+        Ok(PagesOn {
             owner,
             shard,
             rings: None,

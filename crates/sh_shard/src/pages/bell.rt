@@ -2,13 +2,13 @@
 ghost use Rattle.std.specs.Prelude.{◌≡◌, None, MatchOption, MatchBool};
 ghost use Rattle.sh_shard.specs.Pages.{CursorStands, BellTakes, BellStops, BellReads};
 
-use crate::pages::Pages;
+use crate::pages::PagesOn;
 use sh_key::KeyLayout;
 use sh_pass::KeepsHeap;
 use sh_stack::{link_item, top_item};
 use sh_step::PageName;
 
-impl<L: KeyLayout, H: KeepsHeap<L>> Pages<L, H> {
+impl<L: KeyLayout, H: KeepsHeap<L>> PagesOn<L, H> {
     /// Whether the bell has a cursor.
     pub(crate) fn has_rings(&self) -> bool
         ensures { MatchBool result (CursorStands self.now.bell.cursor) (self.now.bell.cursor ≡ None) }

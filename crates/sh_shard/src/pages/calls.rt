@@ -5,7 +5,7 @@ ghost use Rattle.sh_pass.specs.Remaining.{Remains};
 ghost use Rattle.sh_shard.specs.Kept.{MayGain, PushesGained};
 ghost use Rattle.sh_shard.specs.Pages.{GainsSlot, HoldsPages};
 
-use crate::pages::Pages;
+use crate::pages::PagesOn;
 use sh_key::KeyLayout;
 use sh_pass::{Guard, KeepsHeap};
 use sh_slots::SlotRef;
@@ -26,7 +26,7 @@ fn push_gained(states: &mut PageStates, shard: u64, gained: Option<SlotRef>) -> 
     Some(page)
 }
 
-impl<L: KeyLayout, H: KeepsHeap<L>> Pages<L, H> {
+impl<L: KeyLayout, H: KeepsHeap<L>> PagesOn<L, H> {
     /// Takes a hold on a key. Refused as `BadKey`, `HoldsFull`, `Gone` or `Crowded`, tried in that order. Returns also
     /// the page that gained a slot.
     pub(crate) fn get(&mut self, key: u64) -> (Result<Hold, Refusal>, Option<u64>)

@@ -3,11 +3,11 @@ ghost use Rattle.std.specs.Prelude.{◌<◌, ◌≤◌};
 ghost use Rattle.sh_shard.specs.Pages.{BlankFrom};
 ghost use Rattle.sh_shard.specs.RemoteFrees.{CollectsWhole, PagesCollected};
 
-use crate::pages::Pages;
+use crate::pages::PagesOn;
 use sh_key::KeyLayout;
 use sh_pass::KeepsHeap;
 
-impl<L: KeyLayout, H: KeepsHeap<L>> Pages<L, H> {
+impl<L: KeyLayout, H: KeepsHeap<L>> PagesOn<L, H> {
     // Follows the page's cursor; if it then has none, takes what was put on the page, and follows.
     fn collect_whole(&mut self, page: u64)
         requires { page < self.old.count }

@@ -2,13 +2,13 @@
 ghost use Rattle.std.specs.Prelude.{◌≡◌, ◌<◌, IfSome};
 ghost use Rattle.sh_shard.specs.Places.{IsKeyAtPlace, place_count};
 
-use crate::pages::Pages;
+use crate::pages::PagesOn;
 use sh_key::KeyLayout;
 use sh_pass::KeepsHeap;
 use sh_shape::SLOT_PLACES;
 use sh_step::PageName;
 
-impl<L: KeyLayout, H: KeepsHeap<L>> Pages<L, H> {
+impl<L: KeyLayout, H: KeepsHeap<L>> PagesOn<L, H> {
     // How many places the shard has.
     pub(crate) fn places(&self) -> u64
         ensures { result ≡ place_count self.now }

@@ -6,13 +6,13 @@ ghost use Rattle.sh_shard.specs.Pages.{page_at, seen_class, WorksOn, PageDone, N
 ghost use Rattle.sh_shard.specs.Pages.{TakesSteps, StepsForSlots, GivesClass, NamesSlot};
 ghost use Rattle.sh_shard.specs.Steps.{StepsAtMost};
 
-use crate::pages::Pages;
+use crate::pages::PagesOn;
 use sh_key::KeyLayout;
 use sh_pass::KeepsHeap;
 use sh_step::PageName;
 use sh_value::Value;
 
-impl<L: KeyLayout, H: KeepsHeap<L>> Pages<L, H> {
+impl<L: KeyLayout, H: KeepsHeap<L>> PagesOn<L, H> {
     /// Stores the value in a slot of the page, if one is the owner's. Returns its key.
     pub(crate) fn use_slot(&mut self, page: u64, value: &Value) -> Option<u64>
         requires inside { page < self.old.count }

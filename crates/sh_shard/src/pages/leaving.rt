@@ -9,16 +9,16 @@ ghost use Rattle.sh_shard.specs.Pages.{StepsForRings};
 ghost use Rattle.sh_shard.specs.Steps.{StepsAtMost};
 ghost use Rattle.sh_shard.specs.Bounds.{leave_steps};
 
-use crate::pages::Pages;
+use crate::pages::PagesOn;
 use sh_bell::{is_armed, top_of};
 use sh_key::KeyLayout;
 use sh_pass::KeepsHeap;
-use sh_pass::pass::Pass;
+use sh_pass::pass::PassOn;
 use sh_slots::SlotRef;
 use sh_stack::link_over;
 use sh_step::PageName;
 
-impl<L: KeyLayout, H: KeepsHeap<L>> Pages<L, H> {
+impl<L: KeyLayout, H: KeepsHeap<L>> PagesOn<L, H> {
     // Follows the bell to its end or to a link that is not written.
     fn follow_rings(&mut self)
         ensures { BellFollowed self.old self.new }
@@ -162,13 +162,13 @@ impl<L: KeyLayout, H: KeepsHeap<L>> Pages<L, H> {
     }
 
     /// Gives up the shard, in which the owner has nothing.
-    pub(crate) fn give_up(self) -> Pass<L, H>
+    pub(crate) fn give_up(self) -> PassOn<L, H>
         requires pages { (p : ℕ) → p < self.count → HasNothing (page_at self p) }
         requires bell { self.bell.cursor ≡ None }
         ensures left { ShardLeft self.owner result }
         ensures steps { StepsAtMost 1 self.owner result }
     {
-        let Pages {
+        let PagesOn {
             mut owner,
             shard,
             rings: _,
@@ -182,7 +182,7 @@ impl<L: KeyLayout, H: KeepsHeap<L>> Pages<L, H> {
     /// and has no cursor is taken and followed. If a cursor or an armed page is left then, others have yet to end what
     /// they began: nothing is put, and the pages are returned. Otherwise the owner's slots are put on their pages, and
     /// the shard is given up. The pages from `opened` on are blank, and are not looked at.
-    pub(crate) fn leave(mut self, opened: u64) -> Result<Pass<L, H>, Self>
+    pub(crate) fn leave(mut self, opened: u64) -> Result<PassOn<L, H>, Self>
         requires few { opened ≤ self.count }
         requires later { BlankFrom opened self }
         ensures does { LeaveDoes self result }

@@ -4,11 +4,11 @@ ghost use Rattle.sh_pass.specs.Receipts.{receipt_by};
 ghost use Rattle.sh_pass.specs.Remaining.{Remains};
 ghost use Rattle.sh_shard.specs.Pages.{HoldsPages, pages_heeded};
 
-use crate::pages::Pages;
+use crate::pages::PagesOn;
 use sh_key::KeyLayout;
 use sh_pass::{KeepsHeap, Receipt};
 
-impl<L: KeyLayout, H: KeepsHeap<L>> Pages<L, H> {
+impl<L: KeyLayout, H: KeepsHeap<L>> PagesOn<L, H> {
     // A receipt for all that was returned to the owner.
     pub(crate) fn receipt(&mut self) -> Receipt
         ensures same { self.new ≡ self.old }

@@ -5,7 +5,7 @@ ghost use Rattle.sh_shape.specs.Places.{slot_places};
 ghost use Rattle.sh_shard.specs.Pages.{page_at, seen_class, WorksOn, NoArming, TakesPage, CursorMoves, CursorStops};
 ghost use Rattle.sh_shard.specs.Pages.{CollectsPage, ArmsAndFollows, StepsForSlots};
 
-use crate::pages::Pages;
+use crate::pages::PagesOn;
 use sh_bell::{is_armed, top_of};
 use sh_key::KeyLayout;
 use sh_pass::KeepsHeap;
@@ -30,7 +30,7 @@ fn still_armed(armed: bool, found: u64) -> bool
     if is_armed(found) { false } else { armed }
 }
 
-impl<L: KeyLayout, H: KeepsHeap<L>> Pages<L, H> {
+impl<L: KeyLayout, H: KeepsHeap<L>> PagesOn<L, H> {
     /// One step: what was put on the page becomes its cursor.
     pub(crate) fn take(&mut self, page: u64)
         requires inside { page < self.old.count }

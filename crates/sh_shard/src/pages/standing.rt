@@ -2,12 +2,12 @@
 ghost use Rattle.std.specs.Prelude.{◌≡◌};
 ghost use Rattle.sh_shard.specs.Pages.{HoldsPages};
 
-use crate::pages::Pages;
+use crate::pages::PagesOn;
 use sh_key::KeyLayout;
 use sh_pass::KeepsHeap;
 use sh_shape::Shape;
 
-impl<L: KeyLayout, H: KeepsHeap<L>> Pages<L, H> {
+impl<L: KeyLayout, H: KeepsHeap<L>> PagesOn<L, H> {
     // The shape of the heap.
     pub(crate) fn shape(&self) -> &Shape
         ensures is { result.now ≡ self.now.owner.heap.shape }

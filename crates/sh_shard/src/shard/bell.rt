@@ -4,7 +4,7 @@ ghost use Rattle.sh_shard.specs.Pages.{BellTakes, BellStops, StepsForRings};
 ghost use Rattle.sh_shard.specs.Shards.{SortedPages};
 ghost use Rattle.sh_shard.specs.Searches.{Heard, Hears, BellWaits, RingsOut};
 
-use crate::shard::Shard;
+use crate::shard::ShardOn;
 use sh_key::KeyLayout;
 use sh_pass::KeepsHeap;
 
@@ -21,7 +21,7 @@ fn any_heard(first: bool, second: bool) -> bool
     first || second
 }
 
-impl<L: KeyLayout, H: KeepsHeap<L>> Shard<L, H> {
+impl<L: KeyLayout, H: KeepsHeap<L>> ShardOn<L, H> {
     // Follows the bell, takes it once it is at its end, and follows. Returns whether a page of the class was read.
     pub(crate) fn ring_out(&mut self, c: u32) -> bool
         requires class { c < 8 }

@@ -2,13 +2,13 @@
 ghost use Rattle.sh_pass.specs.Passes.{GetDoes, ReadDoes, ReadIntoDoes, RemoveDoes, ReleaseDoes};
 ghost use Rattle.sh_shard.specs.Shards.{StaysOwner, ReturnsSlot, MovesNothing};
 
-use crate::shard::Shard;
+use crate::shard::ShardOn;
 use crate::shard::returning::return_one;
 use sh_key::KeyLayout;
 use sh_pass::{Guard, KeepsHeap};
 use sh_value::{Hold, Refusal, Value};
 
-impl<L: KeyLayout, H: KeepsHeap<L>> Shard<L, H> {
+impl<L: KeyLayout, H: KeepsHeap<L>> ShardOn<L, H> {
     /// Takes a hold on a key. Refused as `BadKey`, `HoldsFull`, `Gone` or `Crowded`, tried in that order.
     #[inline(always)]
     pub fn get(&mut self, key: u64) -> Result<Hold, Refusal>

@@ -2,12 +2,12 @@
 ghost use Rattle.sh_shard.specs.RemoteFrees.{CollectServes};
 ghost use Rattle.sh_shard.specs.Shards.{StaysOwner};
 
-use crate::shard::Shard;
+use crate::shard::ShardOn;
 use crate::shard::returning::return_all;
 use sh_key::KeyLayout;
 use sh_pass::KeepsHeap;
 
-impl<L: KeyLayout, H: KeepsHeap<L>> Shard<L, H> {
+impl<L: KeyLayout, H: KeepsHeap<L>> ShardOn<L, H> {
     /// Collects what others freed on all pages of the shard: takes and follows the bell and each page's stack. An
     /// insert looks only at pages of its own class. So a shard whose values others removed may have no room for a value
     /// of another length until this is called. Then each page that got all its slots back may change its class.

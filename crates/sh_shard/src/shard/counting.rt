@@ -2,11 +2,11 @@
 ghost use Rattle.std.specs.Prelude.{◌≡◌};
 ghost use Rattle.sh_shard.specs.Pages.{blank_pages, slots_out};
 
-use crate::shard::Shard;
+use crate::shard::ShardOn;
 use sh_key::KeyLayout;
 use sh_pass::KeepsHeap;
 
-impl<L: KeyLayout, H: KeepsHeap<L>> Shard<L, H> {
+impl<L: KeyLayout, H: KeepsHeap<L>> ShardOn<L, H> {
     /// How many pages of the shard have no class yet, in the opened segments and in the others. Each of them has room
     /// for values of any class: 48 of one word, or 3 of sixteen.
     ///

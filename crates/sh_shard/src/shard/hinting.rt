@@ -2,11 +2,11 @@
 ghost use Rattle.std.specs.Prelude.{◌≡◌, ◌<◌, IfSome};
 ghost use Rattle.sh_shard.specs.Places.{IsKeyAtPlace, place_count};
 
-use crate::shard::Shard;
+use crate::shard::ShardOn;
 use sh_key::KeyLayout;
 use sh_pass::KeepsHeap;
 
-impl<L: KeyLayout, H: KeepsHeap<L>> Shard<L, H> {
+impl<L: KeyLayout, H: KeepsHeap<L>> ShardOn<L, H> {
     /// How many places the shard has for keys: 48 for each page, in the order of its pages.
     pub fn places(&self) -> u64
         ensures { result ≡ place_count self.now.pages }

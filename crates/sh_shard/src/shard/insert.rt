@@ -8,13 +8,13 @@ ghost use Rattle.sh_shard.specs.Shards.{SortedPages, InsertServes, IsQuick, Done
 ghost use Rattle.sh_shard.specs.Bounds.{InsertIsBounded};
 ghost use Rattle.sh_shard.specs.Finding.{StoresAtFront, InsertsElsewhere};
 
-use crate::shard::Shard;
+use crate::shard::ShardOn;
 use sh_key::KeyLayout;
 use sh_pass::KeepsHeap;
 use sh_shape::classes;
 use sh_value::{Refusal, Value};
 
-impl<L: KeyLayout, H: KeepsHeap<L>> Shard<L, H> {
+impl<L: KeyLayout, H: KeepsHeap<L>> ShardOn<L, H> {
     /// Stores a value in the shard under a new key, and returns the key. Refused as `Full` if the shard has no room for
     /// a value of its class: each page of the class and the bell were looked at in this call. Refused as `Memory` if
     /// the growth of a segment was refused. A refusal leaves the log, the holds and the keys as they were.

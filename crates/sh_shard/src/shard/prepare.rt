@@ -7,12 +7,12 @@ ghost use Rattle.sh_shard.specs.Shards.{IsSpare, NoneSpare, NoneOpenedBlank, IsL
 ghost use Rattle.sh_shard.specs.Shards.{SortedPages, StaysOwner};
 ghost use Rattle.sh_shard.specs.Bounds.{PrepareIsBounded};
 
-use crate::shard::Shard;
+use crate::shard::ShardOn;
 use sh_key::KeyLayout;
 use sh_pass::KeepsHeap;
 use sh_value::Refusal;
 
-impl<L: KeyLayout, H: KeepsHeap<L>> Shard<L, H> {
+impl<L: KeyLayout, H: KeepsHeap<L>> ShardOn<L, H> {
     /// Gives a page the class, from 0 to 7, puts it in front of the class's queue, and returns it. It is the lowest
     /// blank page of the opened segments. If there is none, it is the lowest page of another class all of whose slots
     /// are the owner's. If there is none either, it opens the next segment and gives the class to its first page.

@@ -4,11 +4,11 @@ ghost use Rattle.sh_pass.specs.Receipts.{receipt_by};
 ghost use Rattle.sh_pass.specs.Remaining.{Remains};
 ghost use Rattle.sh_shard.specs.Shards.{HoldsShard, shard_heeded};
 
-use crate::shard::Shard;
+use crate::shard::ShardOn;
 use sh_key::KeyLayout;
 use sh_pass::{KeepsHeap, Receipt};
 
-impl<L: KeyLayout, H: KeepsHeap<L>> Shard<L, H> {
+impl<L: KeyLayout, H: KeepsHeap<L>> ShardOn<L, H> {
     /// A receipt for all that was returned to the owner, and for all that it heard from others: one load.
     pub fn receipt(&mut self) -> Receipt
         ensures same { self.new ≡ self.old }

@@ -6,13 +6,13 @@ ghost use Rattle.sh_shard.specs.Shards.{FullPage, SortedPages, ReturnsPage, Retu
 ghost use Rattle.sh_shard.specs.Returning.{SortedBut, ReturnsGained};
 ghost use Rattle.sh_shard.specs.Filing.{ReturnsRising};
 
-use crate::pages::Pages;
+use crate::pages::PagesOn;
 use sh_key::KeyLayout;
 use sh_pass::KeepsHeap;
 use sh_queue::Queues;
 
 // Moves all pages that are no longer full back to their classes, in ascending order.
-pub(crate) fn return_all<L: KeyLayout, H: KeepsHeap<L>>(pages: &Pages<L, H>, queues: &mut Queues)
+pub(crate) fn return_all<L: KeyLayout, H: KeepsHeap<L>>(pages: &PagesOn<L, H>, queues: &mut Queues)
     requires { SortedBut (λ p. Unit {0}) pages.now queues.old }
     ensures sorted { SortedPages pages.now queues.new }
     ensures rising { ReturnsRising queues.old queues.new }
@@ -26,7 +26,7 @@ pub(crate) fn return_all<L: KeyLayout, H: KeepsHeap<L>>(pages: &Pages<L, H>, que
 
 // Moves a page that gained a slot back to its class, if it was full.
 pub(crate) fn return_one<L: KeyLayout, H: KeepsHeap<L>>(
-    pages: &Pages<L, H>,
+    pages: &PagesOn<L, H>,
     queues: &mut Queues,
     gained: Option<u64>,
 )
@@ -42,7 +42,7 @@ pub(crate) fn return_one<L: KeyLayout, H: KeepsHeap<L>>(
 }
 
 // Moves the page, if it is in the full queue and is not a full page, to the back of its class.
-fn return_page<L: KeyLayout, H: KeepsHeap<L>>(pages: &Pages<L, H>, queues: &mut Queues, page: u64)
+fn return_page<L: KeyLayout, H: KeepsHeap<L>>(pages: &PagesOn<L, H>, queues: &mut Queues, page: u64)
     requires inside { page < pages.now.count }
     requires classed { has_number page queues.old.full ≡ true → 0 < seen_class (page_at pages.now page) }
     requires few { has_number page queues.old.full ≡ true → seen_class (page_at pages.now page) ≤ 8 }
@@ -63,7 +63,7 @@ fn return_page<L: KeyLayout, H: KeepsHeap<L>>(pages: &Pages<L, H>, queues: &mut 
 }
 
 // Whether the page, which has a class, belongs in the full queue.
-fn is_full<L: KeyLayout, H: KeepsHeap<L>>(pages: &Pages<L, H>, page: u64) -> bool
+fn is_full<L: KeyLayout, H: KeepsHeap<L>>(pages: &PagesOn<L, H>, page: u64) -> bool
     requires inside { page < pages.now.count }
     requires classed { 0 < seen_class (page_at pages.now page) }
     requires few { seen_class (page_at pages.now page) ≤ 8 }

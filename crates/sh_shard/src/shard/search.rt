@@ -10,12 +10,12 @@ ghost use Rattle.sh_shard.specs.Bounds.{InsertIsBounded};
 ghost use Rattle.sh_shard.specs.Finding.{StoresInQueue};
 ghost use Rattle.sh_shard.specs.Searches.{SetsAside, Searched, Tried};
 
-use crate::shard::Shard;
+use crate::shard::ShardOn;
 use sh_key::KeyLayout;
 use sh_pass::KeepsHeap;
 use sh_value::Value;
 
-impl<L: KeyLayout, H: KeepsHeap<L>> Shard<L, H> {
+impl<L: KeyLayout, H: KeepsHeap<L>> ShardOn<L, H> {
     // The search, the bell, and the search again if a page of the class was read from the bell.
     pub(crate) fn look(&mut self, c: u32, value: &Value) -> Option<u64>
         requires class { c < 8 }

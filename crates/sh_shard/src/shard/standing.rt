@@ -2,12 +2,12 @@
 ghost use Rattle.std.specs.Prelude.{◌≡◌};
 ghost use Rattle.sh_shard.specs.Shards.{HoldsShard};
 
-use crate::shard::Shard;
+use crate::shard::ShardOn;
 use sh_key::KeyLayout;
 use sh_pass::KeepsHeap;
 use sh_shape::Shape;
 
-impl<L: KeyLayout, H: KeepsHeap<L>> Shard<L, H> {
+impl<L: KeyLayout, H: KeepsHeap<L>> ShardOn<L, H> {
     /// The shape of the heap. Between its calls the owner has begun nothing, the shard is its own, and all that it
     /// knows holds.
     pub fn shape(&self) -> &Shape

@@ -1,11 +1,11 @@
 // A shard is a store.
-use crate::shard::Shard;
+use crate::shard::ShardOn;
 use sh_key::KeyLayout;
 use sh_pass::KeepsHeap;
 use sh_plain::{Lookup, Store};
 use sh_value::{Hold, Refusal, Value};
 
-impl<L: KeyLayout, H: KeepsHeap<L>> Lookup for Shard<L, H> {
+impl<L: KeyLayout, H: KeepsHeap<L>> Lookup for ShardOn<L, H> {
     ghost use Rattle.sh_pass.specs.Passes.{GetDoes, ReadDoes, RemoveDoes, ReleaseDoes};
     ghost use Rattle.sh_shard.specs.Stores.{shard_book, shard_setting};
 
@@ -22,28 +22,28 @@ impl<L: KeyLayout, H: KeepsHeap<L>> Lookup for Shard<L, H> {
     ghost releases = { λ old key result new. ReleaseDoes L.layout key old.pages.owner result new.pages.owner };
 
     fn get(&mut self, key: u64) -> Result<Hold, Refusal> {
-        Shard::get(self, key)
+        ShardOn::get(self, key)
     }
 
     fn read(&mut self, hold: Hold) -> Result<Value, Refusal> {
-        Shard::read(self, hold)
+        ShardOn::read(self, hold)
     }
 
     fn remove(&mut self, key: u64) -> Result<(), Refusal> {
-        Shard::remove(self, key)
+        ShardOn::remove(self, key)
     }
 
     fn release(&mut self, hold: Hold) -> Result<(), Refusal> {
-        Shard::release(self, hold)
+        ShardOn::release(self, hold)
     }
 }
 
-impl<L: KeyLayout, H: KeepsHeap<L>> Store for Shard<L, H> {
+impl<L: KeyLayout, H: KeepsHeap<L>> Store for ShardOn<L, H> {
     ghost use Rattle.sh_shard.specs.Shards.{InsertServes, value_class};
 
     ghost inserts = { λ old value result new. InsertServes L.layout (value_class value) value old result new };
 
     fn insert(&mut self, value: &Value) -> Result<u64, Refusal> {
-        Shard::insert(self, value)
+        ShardOn::insert(self, value)
     }
 }

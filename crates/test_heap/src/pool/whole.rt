@@ -6,7 +6,7 @@ use sh_gather::{Accounts, Totals};
 use sh_key::Tiny;
 use sh_pool::{Pool, Share};
 use sh_shape::Shape;
-use sh_shard::shard::Shard;
+use sh_shard::shard::ShardOn;
 use sh_value::Value;
 use sh_whole::{NotTold, gather_pool, pool_accounts, pool_totals};
 use std::alloc::Global;
@@ -63,7 +63,7 @@ fn passes_that_met_are_one(rt: HostRuntime) {
 // Inserts two values by a pass of the pool, and removes the first.
 fn one_value(rt: &impl Abort, alloc: Global, share: &Share<Tiny>) {
     let (pass, pool_slot) = shared_pass(rt, share);
-    let Ok(mut shard) = Shard::adopt(alloc, pass, 0) else {
+    let Ok(mut shard) = ShardOn::adopt(alloc, pass, 0) else {
         panic!(rt; "the shard is not adopted")
     };
     let key = shard.insert(&Value::of([7])).expect(rt, "a key");

@@ -1,5 +1,0 @@
-use Rattle.sh_shard.proofs.RemoteLaws.{CollectedBelow}
-use Rattle.sh_shard.proofs.pages.Pages.collect_pages.Given as goal
-
-abbrev pub invariant-loop-page : goal.invariant-loop-page
-invariant-loop-page g l = CollectedBelow l.page l.fn.self l.self

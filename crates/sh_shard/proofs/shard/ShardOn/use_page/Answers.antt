@@ -1,0 +1,14 @@
+use Rattle.std.proofs.Common.{◌≡◌, true, sym, subst}
+use Rattle.sh_queue.specs.Numbers.{has_number}
+use Rattle.sh_queue.specs.Queues.{class_queue}
+use Rattle.sh_shard.specs.Shards.{Sharded}
+use Rattle.sh_shard.proofs.Sorting.{sorted_used}
+use Rattle.sh_shard.proofs.shard.ShardOn.use_page.Goals as goal
+
+pub invariant_of-self : goal.invariant_of-self
+invariant_of-self g c =
+    let here : has_number c.args.page (class_queue c.self.inside.queues c.args.c)
+    ≡ true = subst (λ (z : Sharded). has_number c.args.page (class_queue z.queues c.args.c) ≡ true)
+    (sym c.self.view_is) c.requires.here in
+    sorted_used c.self.inside.pages c.use_slot.new.self c.self.inside.queues c.args.c c.args.page _ c.self.invariant
+    here _ c.use_slot.result c.use_slot.ensures.used
