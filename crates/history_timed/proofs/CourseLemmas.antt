@@ -19,11 +19,11 @@ module _ (before after : ℕ → Option Course) (k : ℕ) (call : Call) (was new
   after_taken q = subst (λ (n : ℕ). unwrap_or (after q) no_calls
       ≡ cond (nat_eq n q) (taken_in q call (unwrap_or (before q) no_calls)) (unwrap_or (before q) no_calls)) key
       (rw (writes q) (go (nat_eq k q) refl)) where
-    go : (b : Bool) → nat_eq k q ≡ b
-        → unwrap_or (cond b (Some new) (before q)) no_calls
-        ≡ cond b (taken_in q call (unwrap_or (before q) no_calls)) (unwrap_or (before q) no_calls)
-    go true is = rw (← same_key k q is) (takes ∙ ap (taken_in k call) old)
-    go false is = refl
+        go : (b : Bool) → nat_eq k q ≡ b
+            → unwrap_or (cond b (Some new) (before q)) no_calls
+            ≡ cond b (taken_in q call (unwrap_or (before q) no_calls)) (unwrap_or (before q) no_calls)
+        go true is = rw (← same_key k q is) (takes ∙ ap (taken_in k call) old)
+        go false is = refl
 
 -- one call more is taken in
 pub taken_more : (calls : List Call) (n : ℕ) (call : Call) (before after : ℕ → Course)

@@ -306,13 +306,13 @@ pub lines_ran : {S : Type 0} (seen : S → SeenPass) (alone : Bool) (heap : Opti
     → LinesRan alone heap terms tag lines output (option_map seen carrier)
 lines_ran seen alone heap terms tag lines i numbers sides output carrier last ts past fits h hear told ordered met ended
     stays = record {
-  met = some_met seen (CarrierRan alone heap terms tag lines output) (λ s m.
-      carrier_ran alone heap terms tag lines i numbers sides output (seen s) last ts past fits h hear
-      (ordered (seen s) m.0) m.0 m.1) carrier
-      (both_met (λ s. HasMet heap terms (seen s) (tales_told ts) (orders_of ts))
-      (λ s. All (HasEnded (seen s)) ts) carrier met ended);
-  stays = lines_wait heap terms tag lines i numbers sides output last ts past h hear told seen carrier stays;
-}
+      met = some_met seen (CarrierRan alone heap terms tag lines output) (λ s m.
+          carrier_ran alone heap terms tag lines i numbers sides output (seen s) last ts past fits h hear
+          (ordered (seen s) m.0) m.0 m.1) carrier
+          (both_met (λ s. HasMet heap terms (seen s) (tales_told ts) (orders_of ts))
+          (λ s. All (HasEnded (seen s)) ts) carrier met ended);
+      stays = lines_wait heap terms tag lines i numbers sides output last ts past h hear told seen carrier stays;
+    }
 
 pub map_set : {A B : Type 0} (f : A → B) (xs : List A) (k : ℕ) (y : A) → map f (set xs k y) ≡ set (map f xs) k (f y)
 map_set f [] k y = refl

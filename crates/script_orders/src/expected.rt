@@ -21,13 +21,7 @@ pub(crate) fn is_counted(line: &[u8]) -> bool
 }
 
 // The first line that counts and the text after it, if there is such a line.
-#[tactic(auto, using(
-    crate::proofs::CountedLines::none_counted,
-    crate::proofs::CountedLines::line_counted,
-    crate::proofs::CountedLines::line_passed,
-    crate::proofs::CountedLines::last_counted,
-    crate::proofs::CountedLines::last_passed,
-))]
+#[tactic(auto, using(crate::proofs::CountedLines::none_counted, crate::proofs::CountedLines::line_counted, crate::proofs::CountedLines::line_passed, crate::proofs::CountedLines::last_counted, crate::proofs::CountedLines::last_passed,))]
 fn next_counted(text: &[u8]) -> Option<(&[u8], &[u8])>
     ensures none { IfNone result (lines_counted text.now ≡ []) }
     ensures some { IfSome result (λ p. lines_counted text.now ≡ p.0.now ∷ lines_counted p.1.now) }

@@ -39,13 +39,7 @@ fn noted_before(said: usize, before: Option<usize>, line: &[u8]) -> Option<usize
 {
     match before {
         Some(before) => Some(before),
-        None => {
-            if is_explore(line) {
-                Some(said)
-            } else {
-                None
-            }
-        }
+        None => { if is_explore(line) { Some(said) } else { None } }
     }
 }
 

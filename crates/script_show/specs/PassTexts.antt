@@ -53,7 +53,7 @@ abbrev pub pass_text : View → (pass : ℕ) → Body → List ℕ
 pass_text view pass part =
     if is_busy part
     then codes "  pass " ++ decimal pass ++ codes ": " ++ hand_text view part.hand ++ owned_text part.owned
-      ++ holds_from view pass part 0 view.log.now ++ codes "\n"
+    ++ holds_from view pass part 0 view.log.now ++ codes "\n"
     else []
 
 -- the lines of these passes, from this number on

@@ -49,13 +49,7 @@ fn link_for_page(part: &Part, page: u64) -> Option<u64>
     ensures { result ≡ link_for_page page part.now.hand }
 {
     match part.hand() {
-        Hand::RingTying(put, link) => {
-            if *put == page {
-                Some(*link)
-            } else {
-                None
-            }
-        }
+        Hand::RingTying(put, link) => { if *put == page { Some(*link) } else { None } }
         _ => None,
     }
 }

@@ -49,9 +49,7 @@ fn is_release(entry: &Entry, pass: u64, key: u64) -> bool
 fn got_count(log: &[Entry], pass: u64, key: u64) -> usize
     ensures { result ≡ got_count_by log.now pass key }
 {
-    log.iter()
-        .filter(|entry| is_got(entry, pass, key))
-        .count()
+    log.iter().filter(|entry| is_got(entry, pass, key)).count()
 }
 
 fn released_count(log: &[Entry], pass: u64, key: u64) -> usize

@@ -96,11 +96,7 @@ fn page_touched<L: KeyLayout>(shape: &Shape, part: &Part, name: PageName) -> Res
 }
 
 // The same for a slot, which has to be the pass's own.
-fn slot_touched<L: KeyLayout>(
-    shape: &Shape,
-    part: &Part,
-    name: SlotName,
-) -> Result<SlotRef, Reason>
+fn slot_touched<L: KeyLayout>(shape: &Shape, part: &Part, name: SlotName) -> Result<SlotRef, Reason>
     ensures { IfErr result (IsWhy None (Some name.shard) part.now) }
 {
     let Some(slot_ref) = slot_of_name::<L>(shape, name) else {

@@ -119,10 +119,10 @@ goes layout v w is_layout is_shape fits last same early late before after =
       last = now.trail;
       body = now.body;
     } where
-  named : (b : ℕ) → b ≢ v.pass → (c : Bool) → (v.pass == b) ≡ c → (c || names_told b v.told) ≡ true
-      → names_told b v.told ≡ true
-  named b other true is all = absurd (other (sym (eqb-true v.pass b is)))
-  named b other false is all = all
+      named : (b : ℕ) → b ≢ v.pass → (c : Bool) → (v.pass == b) ≡ c → (c || names_told b v.told) ≡ true
+          → names_told b v.told ≡ true
+      named b other true is all = absurd (other (sym (eqb-true v.pass b is)))
+      named b other false is all = all
 
 module _ (layout : Layout) (shape : Numbers) (is_layout : IsLayout layout) (is_shape : IsShape shape)
     (fits : Fits layout shape) (early more : List Event) (a : ℕ) (before after : Own)

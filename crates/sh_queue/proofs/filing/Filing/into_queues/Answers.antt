@@ -1,4 +1,4 @@
-use Rattle.std.proofs.Common.{false, refl, replicate}
+use Rattle.std.proofs.Common.{◌+◌, false, refl, replicate}
 use Rattle.sh_queue.proofs.Fronts.{each_once}
 use Rattle.sh_queue.proofs.filing.Filing.into_queues.Goals as goal
 
