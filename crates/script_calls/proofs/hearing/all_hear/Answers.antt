@@ -8,7 +8,7 @@ use Rattle.script_calls.proofs.Newcomers.{length_map}
 use Rattle.script_calls.proofs.hearing.all_hear.Goals as goal
 
 pub loop-place-init : goal.loop-place-init
-loop-place-init g c = hearing_begins g.at.0 g.at.1 c.args.last (map g.S.Side.seen c.args.sides.items) c.requires.last
+loop-place-init g c = hearing_begins g.at.0 g.at.1 c.args.last (map g.S.Side.seen c.args.sides.items) c.requires.1.1
 
 pub heed_last-requires : goal.heed_last-requires
 heed_last-requires g c =
@@ -19,7 +19,7 @@ heed_last-requires g c =
     let at : slice_get (map seen c.loop-place.sides.items) place ≡ Some (seen c.in-Some.side.now) =
     slice_get-map seen c.loop-place.sides.items place ∙ ap (option_map seen) found in
     last_of_side g.at.0 g.at.1 c.args.last (map seen c.args.sides.items) place (map seen c.loop-place.sides.items)
-    c.loop-place.heard c.loop-place.invariant c.requires.of (seen c.in-Some.side.now) at
+    c.loop-place.heard c.loop-place.invariant c.requires.1.0 (seen c.in-Some.side.now) at
 
 pub loop-place-preserved : goal.loop-place-preserved
 loop-place-preserved g c =
@@ -34,7 +34,7 @@ loop-place-preserved g c =
     ≡ set (map seen c.loop-place.sides.items) place mid = map_set seen c.loop-place.sides.items place c.receipt.new.self
     ∙ ap (set (map seen c.loop-place.sides.items) place) c.receipt.ensures.same in
     heeded_more g.at.0 g.at.1 c.args.last (map seen c.args.sides.items) place (map seen c.loop-place.sides.items)
-    c.loop-place.heard c.loop-place.invariant c.requires.of (seen c.in-Some.side.now) at mid c.heed_last.ensures
+    c.loop-place.heard c.loop-place.invariant c.requires.1.0 (seen c.in-Some.side.now) at mid c.heed_last.ensures
     c.whole-known.ensures.tale _ c.receipt.result put c.receipt.ensures.tells
 
 -- the loop ends at the last side
@@ -44,17 +44,23 @@ ends n count size many past is same = omega (arith, past, is, same)
 pub returns-clause-hear : goal.returns-clause-hear
 returns-clause-hear g c =
     let seen = g.S.Side.seen in
+    let many = c.args.sides.ok.0 in
+    let counted = c.len-count.ensures in
+    let count : c.len-count.result ≡ length c.args.sides.items = omega (arith, many, counted) in
     let past : length (map seen c.args.sides.items) ≤ c.loop-place.place =
     ends c.loop-place.place c.len-count.result (length (map seen c.args.sides.items)) (length c.args.sides.items)
-    c.loop-place-test.false c.len-count.ensures (length_map seen c.args.sides.items) in
+    c.loop-place-test.false count (length_map seen c.args.sides.items) in
     hearing_ends g.at.0 g.at.1 c.args.last (map seen c.args.sides.items) c.loop-place.place
     (map seen c.loop-place.sides.items) c.loop-place.heard past c.loop-place.invariant
 
 pub returns-clause-told : goal.returns-clause-told
 returns-clause-told g c =
     let seen = g.S.Side.seen in
+    let many = c.args.sides.ok.0 in
+    let counted = c.len-count.ensures in
+    let count : c.len-count.result ≡ length c.args.sides.items = omega (arith, many, counted) in
     let past : length (map seen c.args.sides.items) ≤ c.loop-place.place =
     ends c.loop-place.place c.len-count.result (length (map seen c.args.sides.items)) (length c.args.sides.items)
-    c.loop-place-test.false c.len-count.ensures (length_map seen c.args.sides.items) in
+    c.loop-place-test.false count (length_map seen c.args.sides.items) in
     hearing_told g.at.0 g.at.1 c.args.last (map seen c.args.sides.items) c.loop-place.place
     (map seen c.loop-place.sides.items) c.loop-place.heard past c.loop-place.invariant
