@@ -5,7 +5,7 @@ use Rattle.sh_key.specs.Layout.{Layout}
 use Rattle.sh_value.specs.declared.refusal.Refusal.{Refusal}
 use Rattle.c_handles.specs.Chunks.{chunked, chunk_of, key_within}
 use Rattle.sh_pass.specs.Passes.{Caller, ReadDoes, ReadIntoDoes}
-use Rattle.sh_readers.specs.Readers.{FetchDoes, FetchIntoDoes, TakeFitsDoes, TakeIntoDoes}
+use Rattle.sh_member.specs.Readers.{FetchDoes, FetchIntoDoes, TakeFitsDoes, TakeIntoDoes}
 use Rattle.c_handles.specs.Sides.{SeenSide, SideDoes}
 use Rattle.c_handles.specs.Side.TheVariants.{Pass, Shard, Moving}
 use Rattle.c_handles.specs.Growing.{Growing}

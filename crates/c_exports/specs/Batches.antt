@@ -1,7 +1,7 @@
 -- What a batch of loads writes.
 use Rattle.std.specs.Prelude.{◌≡◌, ℕ, List, Result, Option, Some, None}
 use Rattle.sh_value.specs.declared.refusal.Refusal.{Refusal}
-use Rattle.sh_readers.specs.Batches.{DoesEach}
+use Rattle.sh_member.specs.Batches.{DoesEach}
 use Rattle.c_handles.specs.declared.held_pass.HeldPass.{HeldPass}
 use Rattle.c_handles.specs.HeldPasses.{HeldFetches}
 use Rattle.c_exports.specs.declared.batches.Loaded.{Loaded}

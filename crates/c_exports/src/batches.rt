@@ -4,7 +4,7 @@ ghost use Rattle.c_exports.specs.Batches.{LoadsEach, LoadsOne, LoadsTold};
 use crate::codes::{EMPTY, OK};
 use crate::values::tell_words;
 use c_handles::{HeldPass, PassHandle};
-use sh_readers::batches::BLOCK;
+use sh_member::batches::BLOCK;
 use sh_value::{Value, WORDS_MAX};
 use std::alloc::Global;
 

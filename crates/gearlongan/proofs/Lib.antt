@@ -1,2 +1,2 @@
 pub mod Giving
-pub use Rattle.sh_readers.proofs.Hearing
+pub use Rattle.sh_member.proofs.Hearing

@@ -192,9 +192,9 @@ pub use sh_gather::{
 };
 pub use sh_grown::{Caller, Chunk, Growing, GrowingShare, GrownGuard, GrownTotals, NotTold};
 pub use sh_key::{Deep, KeyLayout, Tagged, Tiny, Wide};
+pub use sh_member::{Reader, ToldKey, fetch_told, insert_told, next_own_key};
 pub use sh_pass::{Guard, Heap, NextKey, Pass, Receipt, Seats, remove_then_get};
 pub use sh_plain::{Lookup, Store};
-pub use sh_readers::{Reader, ToldKey, fetch_told, insert_told, next_own_key};
 pub use sh_shape::Shape;
 pub use sh_shard::Shard;
 pub use sh_table::heard_comes_first;

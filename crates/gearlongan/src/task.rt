@@ -19,7 +19,7 @@ use std::thread::{Threads, join, map_vec};
 ///
 ///     fn run(self) -> Self::Output {
 ///         let Reading { mut pass, key } = self;
-///         let value = pass.fetch(key);    // by `Reader` of `sh_readers`
+///         let value = pass.fetch(key);    // by `Reader` of `sh_member`
 ///         (pass, value)
 ///     }
 /// }

@@ -1,0 +1,6 @@
+pub mod BatchSteps
+pub mod Ending
+pub mod Hearing
+pub mod Holding
+pub mod KeyWalks
+pub mod TakingInto

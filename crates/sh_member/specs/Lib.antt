@@ -1,6 +1,9 @@
+pub mod Batches
+pub mod OwnKeys
+pub mod Readers
 pub mod SideBounds
 pub mod Sides
+pub mod ToldKeys
 pub use Rattle.sh_shard.specs.Leaving
 pub use Rattle.sh_shard.specs.Pages
 pub use Rattle.sh_shard.specs.Shards
-pub use Rattle.sh_readers.specs.Readers

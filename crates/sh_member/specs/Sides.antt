@@ -11,11 +11,11 @@ use Rattle.sh_pass.specs.Passes.{Caller, IsAtRest}
 use Rattle.sh_pass.specs.Receipts.{heeded, receipt_by}
 use Rattle.sh_pass.specs.Remaining.{Remains}
 use Rattle.sh_pass.specs.declared.next_key.NextKey.{NextKey}
-use Rattle.sh_readers.specs.OwnKeys.{NextOwnKeyDoes, StepsForPlaces}
 use Rattle.sh_shard.specs.Pages.{Paged}
 use Rattle.sh_shard.specs.Shards.{Sharded, StaysOwner, InsertServes, AdoptServes, LeaveServes, PrepareServes}
 use Rattle.sh_shard.specs.Shards.{value_class, HoldsShard, shard_heeded}
 use Rattle.sh_shard.specs.RemoteFrees.{CollectServes}
+use Rattle.sh_member.specs.OwnKeys.{NextOwnKeyDoes, StepsForPlaces}
 use Rattle.sh_member.specs.declared.member.Side.{Side}
 use Rattle.sh_member.specs.declared.member.Side.TheVariants.{Pass, Shard, Moving}
 

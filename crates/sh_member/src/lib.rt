@@ -1,19 +1,27 @@
-//! A pass that may own a shard, in one place.
+//! What passes and shards have in common: the trait `Reader`, and the type `Member`. `Reader` has the calls on keys
+//! that a pass and the owner of a shard do alike: get, read, remove, release and receipts. Its other calls (fetch,
+//! take, with and batches) end what they begin, so that no hold is left behind. `next_own_key` finds an owner's keys
+//! one after the other, and a `ToldKey` goes to another thread with the receipt of its insert. A `Member` is a pass or
+//! the shard that it owns: it adopts and leaves in place, as a handle needs which others hold by its address.
+//! `src/member` has a file for each kind of its calls.
 //!
-//! By its type, a pass is either a `Pass` or the owner of a `Shard`. A member may be either at run time, and says
-//! which: it adopts and leaves in place. A handle needs that if others hold it by its address.
+//! ```text
+//! fetch = get, read, release      take = get, read, remove, release      with = get, read, your closure, release
+//! ```
 #![tactic(auto)]
 
-mod calls;
-mod counting;
-mod guards;
-mod joining;
+pub mod batches;
+pub mod fetching;
 pub mod member;
-mod moving;
-mod own_keys;
-mod receipts;
-mod standing;
-mod taking;
-mod warming;
+pub mod own_keys;
+mod pass;
+pub mod reader;
+mod shard;
+pub mod taking;
+pub mod taking_into;
+pub mod told_keys;
 
 pub use member::{Member, Side};
+pub use own_keys::next_own_key;
+pub use reader::Reader;
+pub use told_keys::{ToldKey, fetch_told, insert_told};

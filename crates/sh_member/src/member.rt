@@ -2,6 +2,17 @@
 ghost use Rattle.std.specs.Prelude.{◌≡◌};
 ghost use Rattle.sh_member.specs.declared.member.Side.TheVariants as side;
 
+mod calls;
+mod counting;
+mod guards;
+mod joining;
+mod moving;
+mod own_keys;
+mod receipts;
+mod standing;
+mod taking;
+mod warming;
+
 use sh_key::KeyLayout;
 use sh_pass::KeepsHeap;
 use sh_pass::pass::PassOn;

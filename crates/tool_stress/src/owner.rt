@@ -4,7 +4,7 @@ ghost use Rattle.std.specs.Prelude.{◌≡◌, ◌<◌, Some};
 use crate::home::{Home, HomeReceipt};
 use crate::lone::Lone;
 use sh_key::KeyLayout;
-use sh_readers::{fetching, taking};
+use sh_member::{fetching, taking};
 use sh_shard::Shard;
 use sh_value::{Hold, Refusal, Value};
 use std::marker::PhantomData;

@@ -1,5 +1,5 @@
 use Rattle.std.proofs.Common.{◌≡◌, ◌<◌, length, arith, subst}
-use Rattle.sh_readers.proofs.BatchSteps.{done_more}
+use Rattle.sh_member.proofs.BatchSteps.{done_more}
 use Rattle.c_exports.specs.Batches.{LoadsOne}
 use Rattle.c_exports.proofs.BatchCodes.{first_of_rest, rest_behind}
 use Rattle.c_exports.proofs.batches.load_all.Goals as goal

@@ -1,0 +1,153 @@
+// The calls of a member that leave it a pass, or the owner of its shard.
+ghost use Rattle.std.specs.Prelude.{◌<◌, length};
+ghost use Rattle.sh_pass.specs.Passes.{GetDoes, ReadDoes, ReadIntoDoes, RemoveDoes, ReleaseDoes};
+ghost use Rattle.sh_shard.specs.Shards.{StaysOwner};
+ghost use Rattle.sh_member.specs.Readers.{FetchDoes, FetchIntoDoes};
+ghost use Rattle.sh_member.specs.Sides.{SideDoes, SideInserts, SidePrepares, SideCollects};
+ghost use Rattle.sh_member.specs.SideBounds.{InsertTakes, PrepareTakes};
+
+use crate::member::{Member, Side};
+use crate::reader::Reader;
+use sh_key::KeyLayout;
+use sh_pass::KeepsHeap;
+use sh_shard::shard::ShardOn;
+use sh_value::{Hold, Refusal, Value};
+
+// The same by the owner of a shard, which stays the owner.
+fn fetch_by_owner<L: KeyLayout, H: KeepsHeap<L>>(
+    owner: &mut ShardOn<L, H>,
+    key: u64,
+    value: &mut Value,
+) -> Result<(), Refusal>
+    ensures does { FetchIntoDoes L.layout key owner.old.pages.owner value.old result value.new
+        owner.new.pages.owner }
+    ensures stays { StaysOwner L.layout owner.old owner.new }
+{
+    // (that the shard is the owner's is known before and after)
+    let _known = owner.shape();
+    let answer = owner.fetch_into(key, value);
+    let _known = owner.shape();
+    answer
+}
+
+impl<L: KeyLayout, H: KeepsHeap<L>> Member<L, H> {
+    /// Takes a hold on a key. Refused as `BadKey`, `HoldsFull`, `Gone` or `Crowded`, tried in that order.
+    pub fn get(&mut self, key: u64) -> Result<Hold, Refusal>
+        ensures { SideDoes L.layout (GetDoes L.layout key) self.old result self.new }
+    {
+        match &mut self.side {
+            Side::Pass(pass) => pass.get(key),
+            Side::Shard(shard) => shard.get(key),
+            Side::Moving => unreachable!(),
+        }
+    }
+
+    /// The value of a key that it holds. Refused as `NotHeld`.
+    pub fn read(&mut self, hold: Hold) -> Result<Value, Refusal>
+        ensures { SideDoes L.layout (ReadDoes hold.key) self.old result self.new }
+    {
+        match &mut self.side {
+            Side::Pass(pass) => pass.read(hold),
+            Side::Shard(shard) => shard.read(hold),
+            Side::Moving => unreachable!(),
+        }
+    }
+
+    /// The same into a value of the caller's. A refusal leaves that value as it was.
+    pub fn read_into(&mut self, hold: Hold, value: &mut Value) -> Result<(), Refusal>
+        ensures { SideDoes L.layout (λ v answer w. ReadIntoDoes hold.key v value.old answer value.new w) self.old result
+            self.new }
+    {
+        match &mut self.side {
+            Side::Pass(pass) => pass.read_into(hold, value),
+            Side::Shard(shard) => shard.read_into(hold, value),
+            Side::Moving => unreachable!(),
+        }
+    }
+
+    /// The value of a key: a get, a read and a release in one. Refused as a get is. It leaves the holds as they were.
+    pub fn fetch(&mut self, key: u64) -> Result<Value, Refusal>
+        ensures { SideDoes L.layout (FetchDoes L.layout key) self.old result self.new }
+    {
+        // (The initial value has one word, as most values have: reading a value of one word into it is one store.)
+        let mut value = Value::from(0);
+        self.fetch_into(key, &mut value)?;
+        Ok(value)
+    }
+
+    /// The same into a value of the caller's. A refusal leaves that value as it was.
+    pub fn fetch_into(&mut self, key: u64, value: &mut Value) -> Result<(), Refusal>
+        ensures { SideDoes L.layout (λ v answer w. FetchIntoDoes L.layout key v value.old answer value.new w) self.old
+            result self.new }
+    {
+        match &mut self.side {
+            Side::Pass(pass) => pass.fetch_into(key, value),
+            Side::Shard(shard) => fetch_by_owner(shard, key, value),
+            Side::Moving => unreachable!(),
+        }
+    }
+
+    /// Removes a key: no later get finds it, and its value stays until the last hold goes. Refused as `BadKey` or
+    /// `Gone`.
+    pub fn remove(&mut self, key: u64) -> Result<(), Refusal>
+        ensures { SideDoes L.layout (RemoveDoes L.layout key) self.old result self.new }
+    {
+        match &mut self.side {
+            Side::Pass(pass) => pass.remove(key),
+            Side::Shard(shard) => shard.remove(key),
+            Side::Moving => unreachable!(),
+        }
+    }
+
+    /// Gives one hold on a key back. Refused as `NotHeld`.
+    pub fn release(&mut self, hold: Hold) -> Result<(), Refusal>
+        ensures { SideDoes L.layout (ReleaseDoes L.layout hold.key) self.old result self.new }
+    {
+        match &mut self.side {
+            Side::Pass(pass) => pass.release(hold),
+            Side::Shard(shard) => shard.release(hold),
+            Side::Moving => unreachable!(),
+        }
+    }
+
+    /// Stores a value under a new key in the shard that it owns. Refused as `NoShard` if it owns none, and otherwise as
+    /// `Full` or `Memory`.
+    pub fn insert(&mut self, value: &Value) -> Result<u64, Refusal>
+        ensures serves { SideInserts L.layout value.now self.old result self.new }
+        ensures bounded { InsertTakes (length value.now) self.old self.new }
+    {
+        match &mut self.side {
+            Side::Pass(_) => Err(Refusal::NoShard),
+            Side::Shard(shard) => shard.insert(value),
+            Side::Moving => unreachable!(),
+        }
+    }
+
+    /// Gives a page of the shard that it owns to class `class`, from 0 to 7, and returns the page. Refused as `NoShard`
+    /// if it owns none, and otherwise as `Full` or `Memory`.
+    pub fn prepare(&mut self, class: u32) -> Result<u32, Refusal>
+        requires { class < 8 }
+        ensures serves { SidePrepares L.layout class self.old result self.new }
+        ensures bounded { PrepareTakes self.old self.new }
+    {
+        match &mut self.side {
+            Side::Pass(_) => Err(Refusal::NoShard),
+            Side::Shard(shard) => shard.prepare(class),
+            Side::Moving => unreachable!(),
+        }
+    }
+
+    /// Collects what others freed in the shard that it owns. Refused as `NoShard` if it owns none.
+    pub fn collect(&mut self) -> Result<(), Refusal>
+        ensures { SideCollects L.layout self.old result self.new }
+    {
+        match &mut self.side {
+            Side::Pass(_) => Err(Refusal::NoShard),
+            Side::Shard(shard) => {
+                shard.collect();
+                Ok(())
+            }
+            Side::Moving => unreachable!(),
+        }
+    }
+}

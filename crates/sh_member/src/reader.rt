@@ -1,0 +1,180 @@
+//! What a pass and a shard have in common.
+ghost use Rattle.std.specs.Prelude.{◌≡◌, ℕ, Result, length};
+ghost use Rattle.sh_key.specs.Layout.{Layout};
+ghost use Rattle.sh_pass.specs.Passes.{Caller, GetDoes, ReadDoes, ReadIntoDoes, RemoveDoes, ReleaseDoes};
+ghost use Rattle.sh_pass.specs.Receipts.{heeded, receipt_by};
+ghost use Rattle.sh_member.specs.Batches.{GetsEach, FetchesEach, RemainsAfter};
+ghost use Rattle.sh_pass.specs.Remaining.{Remains};
+ghost use Rattle.sh_member.specs.Readers.{FetchDoes, FetchIntoDoes, WithDoes, TakeDoes, TakeIntoDoes};
+ghost use Rattle.std.specs.Fn.{FnOnceReturnsAt};
+
+use crate::batches::{fetch_each, get_each};
+use crate::fetching::{fetch, fetch_into, with};
+use crate::taking::take;
+use crate::taking_into::take_into;
+use sh_pass::Receipt;
+use sh_value::{Hold, Refusal, Value};
+
+/// A caller that may look keys up: a pass, or a shard by its owner's pass.
+///
+/// ```text
+/// let value = pass.fetch(key)?;   // read, and held no longer
+/// let value = pass.take(key)?;    // read and removed: no one else gets it by `take`
+/// ```
+///
+/// The first seven calls are those of `Pass` and of `Shard`, with the same contracts. `fetch` and `take` end what they
+/// begin: whatever they return, they leave the holds as they were.
+pub trait Reader {
+    // How keys are numbered.
+    ghost layout: { Layout };
+
+    // The heap, and what is known of it.
+    ghost caller: { Self → Caller };
+
+    /// Loads the state word of a key's slot, so that the memory is on its way when a call of this key needs it. It does
+    /// no step, and a number that is no key of the heap does nothing. Several keys that are warmed before the first one
+    /// is got wait for their memory at the same time: `fetch_each` does so.
+    fn warm(&self, key: u64);
+
+    /// The same, and the words that a read of the key's value needs: its page's class, its length, and its word if it
+    /// has one.
+    fn warm_value(&self, key: u64);
+
+    /// Takes a hold on a key, so that its value stays readable. Refused as `BadKey`, `HoldsFull`, `Gone` or `Crowded`,
+    /// tried in that order.
+    fn get(&mut self, key: u64) -> Result<Hold, Refusal>
+        ensures does { GetDoes layout key (caller self.old) result (caller self.new) }
+        ensures remains { Remains layout (caller self.old) (caller self.new) };
+
+    /// The value of a key that is held. Refused as `NotHeld` exactly if there is no hold on the key.
+    fn read(&mut self, hold: Hold) -> Result<Value, Refusal>
+        ensures does { ReadDoes hold.key (caller self.old) result (caller self.new) }
+        ensures remains { Remains layout (caller self.old) (caller self.new) };
+
+    /// The same into a value of the caller's, replacing what that was, so that it is copied nowhere. A refusal leaves
+    /// the caller's value as it was.
+    fn read_into(&mut self, hold: Hold, value: &mut Value) -> Result<(), Refusal>
+        ensures does { ReadIntoDoes hold.key (caller self.old) value.old result value.new (caller self.new) }
+        ensures remains { Remains layout (caller self.old) (caller self.new) };
+
+    /// Removes a key: no later get finds it, and its value stays until the last hold goes. Refused as `BadKey` or
+    /// `Gone`.
+    fn remove(&mut self, key: u64) -> Result<(), Refusal>
+        ensures does { RemoveDoes layout key (caller self.old) result (caller self.new) }
+        ensures remains { Remains layout (caller self.old) (caller self.new) };
+
+    /// Gives one hold on a key back. Refused as `NotHeld` exactly if there is none on the key.
+    fn release(&mut self, hold: Hold) -> Result<(), Refusal>
+        ensures does { ReleaseDoes layout hold.key (caller self.old) result (caller self.new) }
+        ensures remains { Remains layout (caller self.old) (caller self.new) };
+
+    /// A receipt of all results of the caller, and of all that it heard of others: one load.
+    fn receipt(&mut self) -> Receipt
+        ensures same { caller self.new ≡ caller self.old }
+        ensures tells { result ≡ receipt_by (caller self.old) }
+        ensures remains { Remains layout (caller self.old) (caller self.new) };
+
+    /// Everything that the receipt covers happens before all later results of the caller: two loads.
+    fn heed(&mut self, receipt: Receipt)
+        requires { receipt.heap ≡ (caller self.old).heap }
+        ensures heeds { caller self.new ≡ heeded (caller self.old) receipt }
+        ensures remains { Remains layout (caller self.old) (caller self.new) };
+
+    /// The value of a key: a get, a read and a release in one, in at most w + 9 steps for w words. Refused as a get is:
+    /// `BadKey`, `HoldsFull`, `Gone` or `Crowded`. No hold is left behind, whatever it returns.
+    final fn fetch(&mut self, key: u64) -> Result<Value, Refusal>
+    where
+        Self: Sized,
+        ensures does { FetchDoes layout key (caller self.old) result (caller self.new) }
+        ensures remains { Remains layout (caller self.old) (caller self.new) }
+    {
+        fetch(self, key)
+    }
+
+    /// The same into a value of the caller's, replacing what that was, so that it is copied nowhere. A refusal leaves
+    /// the caller's value as it was.
+    final fn fetch_into(&mut self, key: u64, value: &mut Value) -> Result<(), Refusal>
+    where
+        Self: Sized,
+        ensures does { FetchIntoDoes layout key (caller self.old) value.old result value.new (caller self.new) }
+        ensures remains { Remains layout (caller self.old) (caller self.new) }
+    {
+        fetch_into(self, key, value)
+    }
+
+    /// What a call returns for the value of a key, as `pass.with(key, |value| value.words().len())`: a fetch whose
+    /// value need not be kept. Refused as a get is: `BadKey`, `HoldsFull`, `Gone` or `Crowded`, and then nothing is
+    /// called. No hold is left behind, and there is none while the call runs.
+    final fn with<T, F: FnOnce(&Value) -> T>(&mut self, key: u64, call: F) -> Result<T, Refusal>
+    where
+        Self: Sized,
+        F: Drop,
+        requires { F.IsAlwaysCallable call }
+        ensures does { WithDoes (FnOnceReturnsAt F.FnOnce call) layout key (caller self.old) result (caller self.new) }
+        ensures remains { Remains layout (caller self.old) (caller self.new) }
+    {
+        with(self, key, call)
+    }
+
+    /// The value of a key, which this call removes, in at most w + 17 steps for w words. Of all calls that take one
+    /// key, only one gets the value. Refused as a get is: `BadKey`, `HoldsFull`, `Gone` or `Crowded`, and also as
+    /// `Gone` if another caller removed the key between the get and the removal. No hold is left behind, whatever it
+    /// returns.
+    final fn take(&mut self, key: u64) -> Result<Value, Refusal>
+    where
+        Self: Sized,
+        ensures does { TakeDoes layout key (caller self.old) result (caller self.new) }
+        ensures remains { Remains layout (caller self.old) (caller self.new) }
+    {
+        take(self, key)
+    }
+    /// The same into a value of the caller's, replacing what that was, if it has at most `most` words. A longer value
+    /// is read into it too, but its key is not removed. Refused as `take` is. No hold is left behind, whatever it
+    /// returns.
+    final fn take_into(&mut self, key: u64, most: usize, value: &mut Value) -> Result<(), Refusal>
+    where
+        Self: Sized,
+        ensures does { TakeIntoDoes layout key most (caller self.old) result value.new (caller self.new) }
+        ensures remains { Remains layout (caller self.old) (caller self.new) }
+    {
+        take_into(self, key, most, value)
+    }
+
+    /// A get of each key, in order; `results[i]` is what the get of `keys[i]` returned. A refused get stops nothing.
+    /// The keys are warmed eight at a time before they are got, so that their waits for memory overlap. Beside a few
+    /// thousand values, which the caches have, single gets are faster.
+    ///
+    /// ```text
+    /// let mut holds = [Err(Refusal::Gone), Err(Refusal::Gone)];
+    /// pass.get_each(&[one, other], &mut holds);
+    /// ```
+    final fn get_each(&mut self, keys: &[u64], results: &mut [Result<Hold, Refusal>])
+    where
+        Self: Sized,
+        requires { length results.old ≡ length keys.now }
+        ensures does { GetsEach layout keys.now (caller self.old) results.new (caller self.new) }
+        ensures remains { RemainsAfter layout keys.now (caller self.old) (caller self.new) }
+    {
+        get_each(self, keys, results)
+    }
+
+    /// A fetch of each key, in order; `results[i]` is what the fetch of `keys[i]` returned. A refused fetch stops
+    /// nothing, and no hold is left behind. The keys are warmed eight at a time, as `get_each` does.
+    ///
+    /// A value that is in the results before the call is read into, so that nothing is copied. So a loop has one list
+    /// of results for all its batches, which begins as `Ok(Value::from(0))` at each place:
+    ///
+    /// ```text
+    /// let mut values = [Ok(Value::from(0)), Ok(Value::from(0))];
+    /// pass.fetch_each(&[one, other], &mut values);
+    /// ```
+    final fn fetch_each(&mut self, keys: &[u64], results: &mut [Result<Value, Refusal>])
+    where
+        Self: Sized,
+        requires { length results.old ≡ length keys.now }
+        ensures does { FetchesEach layout keys.now (caller self.old) results.new (caller self.new) }
+        ensures remains { RemainsAfter layout keys.now (caller self.old) (caller self.new) }
+    {
+        fetch_each(self, keys, results)
+    }
+}

@@ -1,4 +1,0 @@
-pub mod Batches
-pub mod OwnKeys
-pub mod Readers
-pub mod ToldKeys
