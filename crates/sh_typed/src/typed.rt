@@ -103,6 +103,3 @@ impl<S: Store, R: Record> Typed<S, R> {
         self.store.insert(&value)
     }
 }
-
-#[cfg(test)]
-mod tests;

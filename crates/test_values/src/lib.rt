@@ -1,4 +1,4 @@
-//! Tests of values, of keys and shapes, of the checkers of histories, and of the plain store.
+//! Tests of values, of keys and shapes, of the checkers of histories, of the plain store, and of records in a store.
 #![tactic(auto)]
 
 #[cfg(test)]
@@ -13,5 +13,7 @@ mod key;
 mod plain;
 #[cfg(test)]
 mod shape;
+#[cfg(test)]
+mod typed;
 #[cfg(test)]
 mod value;

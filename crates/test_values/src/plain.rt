@@ -8,7 +8,7 @@ use sh_value::{Hold, Refusal, Value};
 use std::process::Abort;
 use std::test::Fail;
 
-fn value(words: &[u64], rt: &impl Abort) -> Value {
+pub(crate) fn value(words: &[u64], rt: &impl Abort) -> Value {
     Value::new(words).expect(rt, "few words")
 }
 

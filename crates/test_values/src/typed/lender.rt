@@ -4,7 +4,7 @@ ghost use Rattle.sh_value.specs.declared.refusal.Refusal.TheVariants.{Full, Memo
 ghost use Rattle.sh_plain.specs.Entry.TheVariants.{Got, Released};
 ghost use Rattle.sh_plain.specs.LogEntry.TheVariants.{Known, Unread};
 ghost use Rattle.sh_plain.specs.Store.{Setting};
-ghost use Rattle.sh_typed.specs.declared.typed.tests.lender.Stage.TheVariants.{Idle, Lent, Read, Returned};
+ghost use Rattle.test_values.specs.declared.typed.lender.Stage.TheVariants.{Idle, Lent, Read, Returned};
 
 use sh_plain::{Lookup, Store};
 use sh_value::{Hold, Refusal, Value};

@@ -1,26 +1,18 @@
+//! Tests of records in a store: their kinds, and what the store itself refuses.
 ghost use Rattle.std.specs.Prelude.{length, ◌==◌, get_or, [], ◌∷◌, Some, None, if◌then◌else◌};
 
 mod lender;
 
-use super::*;
+use crate::assertions::agree;
+use crate::plain::value;
 use lender::{LENT_KEY, Lender, Stage};
 use sh_key::Tiny;
-use sh_plain::PlainStore;
-use sh_value::Value;
+use sh_plain::{Lookup, PlainStore, Store};
+use sh_typed::Typed;
+use sh_value::{Hold, Record, Refusal, Value};
 use std::alloc::Global;
-use std::fmt::Debug;
 use std::process::Abort;
 use std::test::Fail;
-
-// Fails unless the two are equal. It is a function because each assertion that is written out is proved anew.
-fn agree<T: PartialEq + Debug + Drop>(rt: &impl Abort, found: T, wanted: T) {
-    assert_eq!(rt; found, wanted);
-}
-
-// Fails unless this is true.
-fn holds(rt: &impl Abort, it: bool) {
-    assert!(rt; it);
-}
 
 // A record of kind 1 with two words.
 #[derive(Clone, Copy, Debug, PartialEq, Eq)]
@@ -83,10 +75,6 @@ impl Record for Count {
     }
 }
 
-fn value(words: &[u64], rt: &impl Abort) -> Value {
-    Value::new(words).expect(rt, "few words")
-}
-
 // A store with the value `1 5 6`, stored as a record under 4096.
 fn store_with_a_point(alloc: Global, rt: &impl Abort) -> PlainStore<Tiny> {
     let mut points = Typed::<_, Point>::new(PlainStore::<Tiny>::new(alloc, 1));
@@ -127,7 +115,7 @@ fn another_kind_is_refused_and_not_held(rt: HostRuntime) -> Result<(), Fail> {
         Err(Refusal::NotHeld),
     );
     let mut points = Typed::<_, Point>::new(counts.into_store());
-    holds(&rt, points.get(4096).is_ok());
+    agree(&rt, points.get(4096).is_ok(), true);
     Ok(())
 }
 
