@@ -105,8 +105,8 @@ HEAPS = [
     Broken(
         "get_is_gone_on_a_live_key",
         "sh_pass/src/state.rt",
-        "        get_key(&heap.table, &mut self.seat, &mut self.held, key, None).0\n",
-        """        let answer = get_key(&heap.table, &mut self.seat, &mut self.held, key, None).0;
+        "        get_key(&heap.table, seat, held, key, None).0\n",
+        """        let answer = get_key(&heap.table, seat, held, key, None).0;
         if BROKEN && answer.is_ok() { Err(Refusal::Gone) } else { answer }
 """,
     ),

@@ -6,6 +6,7 @@ ghost use Rattle.sh_pass.specs.Busy.{Acts, Ends};
 use crate::by_hand::BusyState;
 use crate::keeping::KeepsHeap;
 use crate::pass::PassOn;
+use crate::seated::Seated;
 use crate::state::PassState;
 use sh_key::KeyLayout;
 use sh_slots::Hand;
@@ -45,13 +46,13 @@ impl<L: KeyLayout, H: KeepsHeap<L>> PassOn<L, H> {
         ensures { result ≡ self }
     {
         let PassOn { heap, state } = self;
-        let PassState {
+        let Seated {
             seat,
             held,
             named,
             number,
-            layout: _,
-        } = state;
+            layout,
+        } = state.seated;
         BusyOn {
             heap,
             state: BusyState {
@@ -61,7 +62,7 @@ impl<L: KeyLayout, H: KeepsHeap<L>> PassOn<L, H> {
                 number,
                 hand: Hand::Idle,
             },
-            layout: PhantomData,
+            layout,
         }
     }
 }
@@ -85,7 +86,7 @@ impl<L: KeyLayout, H: KeepsHeap<L>> BusyOn<L, H> {
         let BusyOn {
             heap,
             state,
-            layout: _,
+            layout,
         } = self;
         let BusyState {
             seat,
@@ -98,11 +99,13 @@ impl<L: KeyLayout, H: KeepsHeap<L>> BusyOn<L, H> {
             Hand::Idle => Ok(PassOn {
                 heap,
                 state: PassState {
-                    seat,
-                    held,
-                    named,
-                    number,
-                    layout: PhantomData,
+                    seated: Seated {
+                        seat,
+                        held,
+                        named,
+                        number,
+                        layout,
+                    },
                 },
             }),
             hand => Err(BusyOn {
@@ -114,7 +117,7 @@ impl<L: KeyLayout, H: KeepsHeap<L>> BusyOn<L, H> {
                     number,
                     hand,
                 },
-                layout: PhantomData,
+                layout,
             }),
         }
     }

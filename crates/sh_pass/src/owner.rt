@@ -10,14 +10,12 @@ ghost use Rattle.sh_pass.specs.Owners.{heap_page, own_body, seen_page};
 
 use crate::keeping::KeepsHeap;
 use crate::pass::PassOn;
+use crate::seated::Seated;
 use crate::state::PassState;
-use arrayvec::ArrayVec;
 use sh_key::KeyLayout;
 use sh_shape::Shape;
 use sh_step::PageName;
-use sh_table::PassSeat;
-use sh_value::HOLDS_MAX;
-use std::marker::{Model, PhantomData};
+use std::marker::Model;
 
 /// A pass that may own a shard: what its shard is made with. An `Owner` is one that borrows its heap.
 ///
@@ -29,16 +27,9 @@ use std::marker::{Model, PhantomData};
 #[derive(Drop)]
 pub struct OwnerOn<L: KeyLayout, H: KeepsHeap<L>> {
     pub(crate) heap: H,
-    pub(crate) seat: PassSeat,
-    // The keys that it holds, in any order.
-    pub(crate) held: ArrayVec<u64, HOLDS_MAX>,
-    // A bit for each pass that its tale names.
-    pub(crate) named: u64,
-    // Its own number.
-    pub(crate) number: u32,
+    pub(crate) seated: Seated<L>,
     // The shard that it owns.
     pub(crate) owned: Option<u64>,
-    pub(crate) layout: PhantomData<L>,
 }
 
 impl<L: KeyLayout, H: KeepsHeap<L>> Model for OwnerOn<L, H> {
@@ -47,9 +38,10 @@ impl<L: KeyLayout, H: KeepsHeap<L>> Model for OwnerOn<L, H> {
 
     ghost Value = { Caller };
 
-    ghost view = { λ o. caller_of o.seat };
+    ghost view = { λ o. caller_of o.seated.seat };
 
-    ghost invariant = { λ o. IsOwner L.layout (H.heap o.heap) o.seat o.held.items o.named o.owned o.number };
+    ghost invariant = { λ o. IsOwner L.layout (H.heap o.heap) o.seated.seat o.seated.held.items o.seated.named o.owned
+        o.seated.number };
 }
 
 impl<L: KeyLayout, H: KeepsHeap<L>> OwnerOn<L, H> {
@@ -60,22 +52,10 @@ impl<L: KeyLayout, H: KeepsHeap<L>> OwnerOn<L, H> {
         ensures left { (own_body result).owned ≡ None }
         ensures stands { ViewStands L.layout result.view }
     {
-        let PassOn { heap, state } = pass;
-        let PassState {
-            seat,
-            held,
-            named,
-            number,
-            layout: _,
-        } = state;
         OwnerOn {
-            heap,
-            seat,
-            held,
-            named,
-            number,
+            heap: pass.heap,
+            seated: pass.state.seated,
             owned: None,
-            layout: PhantomData,
         }
     }
 
@@ -85,24 +65,10 @@ impl<L: KeyLayout, H: KeepsHeap<L>> OwnerOn<L, H> {
         requires left { (own_body self).owned ≡ None }
         ensures { result ≡ self }
     {
-        let OwnerOn {
-            heap,
-            seat,
-            held,
-            named,
-            number,
-            owned: _,
-            layout: _,
-        } = self;
+        let seated = self.seated;
         PassOn {
-            heap,
-            state: PassState {
-                seat,
-                held,
-                named,
-                number,
-                layout: PhantomData,
-            },
+            heap: self.heap,
+            state: PassState { seated },
         }
     }
 
@@ -157,7 +123,7 @@ impl<L: KeyLayout, H: KeepsHeap<L>> OwnerOn<L, H> {
         ensures arm { NoneArmed self.old self.new }
     {
         let heap = self.heap.kept();
-        let found = heap.table.adopt(&mut self.seat, shard);
+        let found = heap.table.adopt(&mut self.seated.seat, shard);
         if found == 0 {
             self.owned = Some(shard);
         }
@@ -174,7 +140,7 @@ impl<L: KeyLayout, H: KeepsHeap<L>> OwnerOn<L, H> {
         ensures left { Left self.old self.new }
     {
         let heap = self.heap.kept();
-        heap.table.leave(&mut self.seat, shard);
+        heap.table.leave(&mut self.seated.seat, shard);
         self.owned = None;
     }
 }

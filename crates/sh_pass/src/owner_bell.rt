@@ -26,7 +26,7 @@ impl<L: KeyLayout, H: KeepsHeap<L>> OwnerOn<L, H> {
         ensures arm { NoneArmed self.old self.new }
     {
         let heap = self.heap.kept();
-        heap.table.take_bell(&mut self.seat, shard)
+        heap.table.take_bell(&mut self.seated.seat, shard)
     }
 
     /// Reads the link of the page at the bell's cursor, and returns it.
@@ -45,6 +45,6 @@ impl<L: KeyLayout, H: KeepsHeap<L>> OwnerOn<L, H> {
     {
         let page = self.number(name);
         let heap = self.heap.kept();
-        heap.table.follow_bell(&mut self.seat, page)
+        heap.table.follow_bell(&mut self.seated.seat, page)
     }
 }

@@ -9,6 +9,7 @@ use crate::calls::{get_guard_of, get_key, read_key, read_value, release_key, rem
 use crate::guard::Guard;
 use crate::keeping::KeepsHeap;
 use crate::owner::OwnerOn;
+use crate::seated::Seated;
 use crate::warming::{warm_key, warm_value_of};
 use sh_key::KeyLayout;
 use sh_slots::SlotRef;
@@ -25,7 +26,8 @@ impl<L: KeyLayout, H: KeepsHeap<L>> OwnerOn<L, H> {
         ensures remains { Remains L.layout self.old self.new }
     {
         let heap = self.heap.kept();
-        get_key(&heap.table, &mut self.seat, &mut self.held, key, self.owned)
+        let Seated { seat, held, .. } = &mut self.seated;
+        get_key(&heap.table, seat, held, key, self.owned)
     }
 
     /// Loads the state word of a key's slot, so that the memory is on its way when a call of this key needs it. It does
@@ -53,7 +55,8 @@ impl<L: KeyLayout, H: KeepsHeap<L>> OwnerOn<L, H> {
         ensures remains { Remains L.layout self.old self.new }
     {
         let heap = self.heap.kept();
-        get_guard_of(&heap.table, &mut self.seat, &mut self.held, key, self.owned)
+        let Seated { seat, held, .. } = &mut self.seated;
+        get_guard_of(&heap.table, seat, held, key, self.owned)
     }
 
     /// Removes a key: no later get finds it, and its value stays until the last hold goes. Refused as `BadKey` or
@@ -65,7 +68,7 @@ impl<L: KeyLayout, H: KeepsHeap<L>> OwnerOn<L, H> {
         ensures remains { Remains L.layout self.old self.new }
     {
         let heap = self.heap.kept();
-        remove_key(&heap.table, &mut self.seat, key, self.owned)
+        remove_key(&heap.table, &mut self.seated.seat, key, self.owned)
     }
 
     /// Gives one hold on a key back. Refused as `NotHeld` exactly if the pass has no hold on the key.
@@ -76,13 +79,8 @@ impl<L: KeyLayout, H: KeepsHeap<L>> OwnerOn<L, H> {
         ensures remains { Remains L.layout self.old self.new }
     {
         let heap = self.heap.kept();
-        release_key(
-            &heap.table,
-            &mut self.seat,
-            &mut self.held,
-            &hold,
-            self.owned,
-        )
+        let Seated { seat, held, .. } = &mut self.seated;
+        release_key(&heap.table, seat, held, &hold, self.owned)
     }
 
     /// The same as `release`, of a hold that keeps its place.
@@ -94,13 +92,8 @@ impl<L: KeyLayout, H: KeepsHeap<L>> OwnerOn<L, H> {
         ensures remains { Remains L.layout self.old self.new }
     {
         let heap = self.heap.kept();
-        release_key(
-            &heap.table,
-            &mut self.seat,
-            &mut self.held,
-            &guard,
-            self.owned,
-        )
+        let Seated { seat, held, .. } = &mut self.seated;
+        release_key(&heap.table, seat, held, &guard, self.owned)
     }
 
     /// The value of a key that the pass holds. Refused as `NotHeld` exactly if it has no hold on the key.
@@ -111,7 +104,7 @@ impl<L: KeyLayout, H: KeepsHeap<L>> OwnerOn<L, H> {
         ensures remains { Remains L.layout self.old self.new }
     {
         let heap = self.heap.kept();
-        read_value(&heap.table, &mut self.seat, &self.held, &hold)
+        read_value(&heap.table, &mut self.seated.seat, &self.seated.held, &hold)
     }
 
     /// Reads the value of a key that the owner holds into a value of the caller's, replacing what that was, so that it
@@ -125,7 +118,8 @@ impl<L: KeyLayout, H: KeepsHeap<L>> OwnerOn<L, H> {
         ensures remains { Remains L.layout self.old self.new }
     {
         let heap = self.heap.kept();
-        read_key(&heap.table, &mut self.seat, &self.held, &hold, value)
+        let Seated { seat, held, .. } = &mut self.seated;
+        read_key(&heap.table, seat, held, &hold, value)
     }
 
     /// The same as `read_into`, by a hold that keeps its place.
@@ -137,6 +131,7 @@ impl<L: KeyLayout, H: KeepsHeap<L>> OwnerOn<L, H> {
         ensures remains { Remains L.layout self.old self.new }
     {
         let heap = self.heap.kept();
-        read_key(&heap.table, &mut self.seat, &self.held, guard, value)
+        let Seated { seat, held, .. } = &mut self.seated;
+        read_key(&heap.table, seat, held, guard, value)
     }
 }

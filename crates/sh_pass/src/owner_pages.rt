@@ -27,7 +27,7 @@ impl<L: KeyLayout, H: KeepsHeap<L>> OwnerOn<L, H> {
     {
         let page = self.number(name);
         let heap = self.heap.kept();
-        heap.table.read_page(&mut self.seat, name, page)
+        heap.table.read_page(&mut self.seated.seat, name, page)
     }
 
     /// Gives the page the class: a blank page, or one of another class all of whose slots are its own.
@@ -46,7 +46,8 @@ impl<L: KeyLayout, H: KeepsHeap<L>> OwnerOn<L, H> {
     {
         let page = self.number(name);
         let heap = self.heap.kept();
-        heap.table.set_class(&mut self.seat, name, page, class);
+        heap.table
+            .set_class(&mut self.seated.seat, name, page, class);
     }
 
     /// Takes what was put on the page. Returns the head word that it found.
@@ -65,7 +66,7 @@ impl<L: KeyLayout, H: KeepsHeap<L>> OwnerOn<L, H> {
     {
         let page = self.number(name);
         let heap = self.heap.kept();
-        heap.table.take(&mut self.seat, name, page)
+        heap.table.take(&mut self.seated.seat, name, page)
     }
 
     /// Asks for a ring at the next put on the page, and takes what was put there. Returns the head word that it found.
@@ -84,7 +85,7 @@ impl<L: KeyLayout, H: KeepsHeap<L>> OwnerOn<L, H> {
     {
         let page = self.number(name);
         let heap = self.heap.kept();
-        heap.table.arm(&mut self.seat, name, page)
+        heap.table.arm(&mut self.seated.seat, name, page)
     }
 
     /// Reads the link of the slot at the page's cursor, and returns it.
@@ -102,6 +103,6 @@ impl<L: KeyLayout, H: KeepsHeap<L>> OwnerOn<L, H> {
     {
         let page = self.number(name);
         let heap = self.heap.kept();
-        heap.table.follow(&mut self.seat, name, page, slot)
+        heap.table.follow(&mut self.seated.seat, name, page, slot)
     }
 }

@@ -74,7 +74,7 @@ impl<L: KeyLayout, H: KeepsHeap<L>> OwnerOn<L, H> {
         };
         let heap = self.heap.kept();
         heap.table
-            .fill_slot(&mut self.seat, slot_name, slot_ref, value);
+            .fill_slot(&mut self.seated.seat, slot_name, slot_ref, value);
         slot_ref
     }
 
@@ -92,8 +92,7 @@ impl<L: KeyLayout, H: KeepsHeap<L>> OwnerOn<L, H> {
         ensures put { NonePut self.old self.new }
     {
         let heap = self.heap.kept();
-        heap.table
-            .fill(&mut self.seat, slot_ref, value, i, class_word, first);
+        heap.table.fill(&mut self.seated.seat, slot_ref, value, i, class_word, first);
     }
 
     /// Makes the filled slot present. Returns the state word that it found.
@@ -108,7 +107,7 @@ impl<L: KeyLayout, H: KeepsHeap<L>> OwnerOn<L, H> {
         ensures put { NonePut self.old self.new }
     {
         let heap = self.heap.kept();
-        heap.table.publish(&mut self.seat, slot_ref, value)
+        heap.table.publish(&mut self.seated.seat, slot_ref, value)
     }
 
     /// Stores the value in a slot of its own, in a page of this class word: its length, each word, and then the slot is
@@ -163,7 +162,8 @@ impl<L: KeyLayout, H: KeepsHeap<L>> OwnerOn<L, H> {
             slot,
         };
         let heap = self.heap.kept();
-        heap.table.put_slot(&mut self.seat, slot_name, slot_ref)
+        heap.table
+            .put_slot(&mut self.seated.seat, slot_name, slot_ref)
     }
 
     /// Stores the link of the slot that it put. `ring` says whether the put found the page armed.
@@ -176,6 +176,6 @@ impl<L: KeyLayout, H: KeepsHeap<L>> OwnerOn<L, H> {
         ensures put { NonePut self.old self.new }
     {
         let heap = self.heap.kept();
-        heap.table.tie(&mut self.seat, slot_ref, link, ring);
+        heap.table.tie(&mut self.seated.seat, slot_ref, link, ring);
     }
 }

@@ -63,7 +63,7 @@ impl<L: KeyLayout> PassState<L> {
         ensures remains { Remains L.layout self.old self.new }
     {
         Receipt {
-            seat: heap.table.receipt(&mut self.seat),
+            seat: heap.table.receipt(&mut self.seated.seat),
         }
     }
 
@@ -75,7 +75,7 @@ impl<L: KeyLayout> PassState<L> {
         ensures remains { Remains L.layout self.old self.new }
     {
         let Receipt { seat } = receipt;
-        heap.table.heed(&mut self.seat, seat);
+        heap.table.heed(&mut self.seated.seat, seat);
     }
 }
 
@@ -109,7 +109,7 @@ impl<L: KeyLayout, H: KeepsHeap<L>> OwnerOn<L, H> {
     {
         let heap = self.heap.kept();
         Receipt {
-            seat: heap.table.receipt(&mut self.seat),
+            seat: heap.table.receipt(&mut self.seated.seat),
         }
     }
 
@@ -122,6 +122,6 @@ impl<L: KeyLayout, H: KeepsHeap<L>> OwnerOn<L, H> {
     {
         let Receipt { seat: told } = receipt;
         let heap = self.heap.kept();
-        heap.table.heed(&mut self.seat, told);
+        heap.table.heed(&mut self.seated.seat, told);
     }
 }

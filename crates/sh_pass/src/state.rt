@@ -7,13 +7,12 @@ ghost use Rattle.sh_pass.specs.Passes.{GetDoes, ReadDoes, ReadIntoDoes, RemoveDo
 use crate::calls::{get_guard_of, get_key, read_key, read_value, release_key, remove_key};
 use crate::guard::Guard;
 use crate::heap::Heap;
+use crate::seated::Seated;
 use crate::warming::{warm_key, warm_value_of};
-use arrayvec::ArrayVec;
 use sh_key::KeyLayout;
 use sh_shape::Shape;
-use sh_table::PassSeat;
-use sh_value::{HOLDS_MAX, Hold, Refusal, Value};
-use std::marker::{Model, PhantomData};
+use sh_value::{Hold, Refusal, Value};
+use std::marker::Model;
 
 /// A pass without its heap: it has no lifetime, and each call is given the heap that it is of.
 ///
@@ -21,14 +20,7 @@ use std::marker::{Model, PhantomData};
 /// loses.
 #[derive(Drop)]
 pub struct PassState<L: KeyLayout> {
-    pub(crate) seat: PassSeat,
-    // The keys that it holds, in any order.
-    pub(crate) held: ArrayVec<u64, HOLDS_MAX>,
-    // A bit for each pass that its tale names.
-    pub(crate) named: u64,
-    // Its own number.
-    pub(crate) number: u32,
-    pub(crate) layout: PhantomData<L>,
+    pub(crate) seated: Seated<L>,
 }
 
 impl<L: KeyLayout> Model for PassState<L> {
@@ -36,9 +28,9 @@ impl<L: KeyLayout> Model for PassState<L> {
 
     ghost Value = { Caller };
 
-    ghost view = { λ s. caller_of s.seat };
+    ghost view = { λ s. caller_of s.seated.seat };
 
-    ghost invariant = { λ s. IsPass L.layout s.seat s.held.items s.named s.number };
+    ghost invariant = { λ s. IsPass L.layout s.seated.seat s.seated.held.items s.seated.named s.seated.number };
 }
 
 impl<L: KeyLayout> PassState<L> {
@@ -51,7 +43,7 @@ impl<L: KeyLayout> PassState<L> {
         ensures stands { ViewStands L.layout self.now.view }
     {
         // What holds of every pass holds of this one.
-        let _known = &self.held;
+        let _known = &self.seated.held;
         heap.table.shape()
     }
 
@@ -59,7 +51,7 @@ impl<L: KeyLayout> PassState<L> {
     pub fn number(&self) -> u32
         ensures { result ≡ self.now.view.pass }
     {
-        self.number
+        self.seated.number
     }
 
     /// Takes a hold on a key, so that its value stays readable. Refused as `BadKey`, `HoldsFull`, `Gone` or `Crowded`,
@@ -70,7 +62,8 @@ impl<L: KeyLayout> PassState<L> {
         ensures does { GetDoes L.layout key self.old result self.new }
         ensures remains { Remains L.layout self.old self.new }
     {
-        get_key(&heap.table, &mut self.seat, &mut self.held, key, None).0
+        let Seated { seat, held, .. } = &mut self.seated;
+        get_key(&heap.table, seat, held, key, None).0
     }
 
     /// The same as `get`, but the hold keeps the place of the key's slot.
@@ -80,7 +73,8 @@ impl<L: KeyLayout> PassState<L> {
         ensures does { GetDoes L.layout key self.old result self.new }
         ensures remains { Remains L.layout self.old self.new }
     {
-        get_guard_of(&heap.table, &mut self.seat, &mut self.held, key, None).0
+        let Seated { seat, held, .. } = &mut self.seated;
+        get_guard_of(&heap.table, seat, held, key, None).0
     }
 
     /// Loads the state word of a key's slot, so that the memory is on its way when a call of this key needs it. It does
@@ -104,7 +98,7 @@ impl<L: KeyLayout> PassState<L> {
         ensures does { RemoveDoes L.layout key self.old result self.new }
         ensures remains { Remains L.layout self.old self.new }
     {
-        remove_key(&heap.table, &mut self.seat, key, None).0
+        remove_key(&heap.table, &mut self.seated.seat, key, None).0
     }
 
     /// Gives one hold on a key back. Refused as `NotHeld` exactly if the pass has no hold on the key.
@@ -114,7 +108,8 @@ impl<L: KeyLayout> PassState<L> {
         ensures does { ReleaseDoes L.layout hold.key self.old result self.new }
         ensures remains { Remains L.layout self.old self.new }
     {
-        release_key(&heap.table, &mut self.seat, &mut self.held, &hold, None).0
+        let Seated { seat, held, .. } = &mut self.seated;
+        release_key(&heap.table, seat, held, &hold, None).0
     }
 
     /// The same as `release`, of a hold that keeps its place.
@@ -124,7 +119,8 @@ impl<L: KeyLayout> PassState<L> {
         ensures does { ReleaseDoes L.layout guard.key self.old result self.new }
         ensures remains { Remains L.layout self.old self.new }
     {
-        release_key(&heap.table, &mut self.seat, &mut self.held, &guard, None).0
+        let Seated { seat, held, .. } = &mut self.seated;
+        release_key(&heap.table, seat, held, &guard, None).0
     }
 
     /// The value of a key that the pass holds. Refused as `NotHeld` exactly if it has no hold on the key.
@@ -134,7 +130,7 @@ impl<L: KeyLayout> PassState<L> {
         ensures does { ReadDoes hold.key self.old result self.new }
         ensures remains { Remains L.layout self.old self.new }
     {
-        read_value(&heap.table, &mut self.seat, &self.held, &hold)
+        read_value(&heap.table, &mut self.seated.seat, &self.seated.held, &hold)
     }
 
     /// Reads the value of a key that the pass holds into a value of the caller's, replacing what that was. Refused as
@@ -150,7 +146,8 @@ impl<L: KeyLayout> PassState<L> {
         ensures does { ReadIntoDoes hold.key self.old value.old result value.new self.new }
         ensures remains { Remains L.layout self.old self.new }
     {
-        read_key(&heap.table, &mut self.seat, &self.held, &hold, value)
+        let Seated { seat, held, .. } = &mut self.seated;
+        read_key(&heap.table, seat, held, &hold, value)
     }
 
     /// The same as `read_into`, by a hold that keeps its place.
@@ -165,6 +162,7 @@ impl<L: KeyLayout> PassState<L> {
         ensures does { ReadIntoDoes guard.now.key self.old value.old result value.new self.new }
         ensures remains { Remains L.layout self.old self.new }
     {
-        read_key(&heap.table, &mut self.seat, &self.held, guard, value)
+        let Seated { seat, held, .. } = &mut self.seated;
+        read_key(&heap.table, seat, held, guard, value)
     }
 }

@@ -14,8 +14,8 @@ arm-requires g c =
     let touch = c.requires.touch in
     let seat = seat_at (c.heap.view_is ∙ c.kept-heap.ensures) c.self.invariant.seat in
     let s = stood v c.self.view_is seat in
-    let P : ℕ → Type 0 = λ q. CanDo layout c.heap.inside.table (action.Arm c.args.name) (move.Arm q) c.self.inside.seat
-    in
+    let P : ℕ → Type 0 = λ q. CanDo layout c.heap.inside.table (action.Arm c.args.name) (move.Arm q)
+    c.self.inside.seated.seat in
     subst P (sym c.number-page.ensures) (can v _ _ c.self.view_is seat
     (may_arm layout v c.args.name touch (s.owner.owned c.args.name.shard touch.owned) c.requires.classed
     c.requires.none c.requires.calm))
@@ -28,7 +28,7 @@ returns g c =
     let seat = seat_at (c.heap.view_is ∙ c.kept-heap.ensures) c.self.invariant.seat in
     let s = stood v c.self.view_is seat in
     let P : ℕ → Type 0 = λ q. Did layout c.heap.inside.table (action.Arm c.args.name) (move.Arm q) c.arm.result
-    c.self.inside.seat c.arm.new.seat in
+    c.self.inside.seated.seat c.arm.new.seat in
     let d = does v c.self.view_is seat (subst P c.number-page.ensures c.arm.ensures) in
     let k = arm_does layout v _ c.args.name s.owner c.arm.result c.requires.none touch.idle d in
     record { does = d; acts = k.0; bells = k.1; page = k.2; put = k.3 }

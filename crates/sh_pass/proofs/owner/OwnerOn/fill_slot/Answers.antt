@@ -17,7 +17,7 @@ fill_slot-requires g c =
     let s = stood v c.self.view_is seat in
     let P : ℕ → Type 0 = λ q. CanDo layout c.heap.inside.table
     (action.FillSlot (slot_in c.args.name c.args.slot) c.args.value.now)
-    (move.FillSlot (record { page = q; slot = c.args.slot }) c.args.value.now) c.self.inside.seat in
+    (move.FillSlot (record { page = q; slot = c.args.slot }) c.args.value.now) c.self.inside.seated.seat in
     subst P (sym c.number.ensures) (can v _ _ c.self.view_is seat
     (may_fill_slot layout v c.args.name touch (s.owner.owned c.args.name.shard touch.owned) c.args.slot
     c.args.value.now (s.owner.mine (heap_slot v c.args.name c.args.slot) c.requires.mine).2 c.requires.mine
@@ -32,7 +32,7 @@ returns g c =
     let s = stood v c.self.view_is seat in
     let P : ℕ → Type 0 = λ q. Did layout c.heap.inside.table
     (action.FillSlot (slot_in c.args.name c.args.slot) c.args.value.now)
-    (move.FillSlot (record { page = q; slot = c.args.slot }) c.args.value.now) 0 c.self.inside.seat
+    (move.FillSlot (record { page = q; slot = c.args.slot }) c.args.value.now) 0 c.self.inside.seated.seat
     c.fill_slot.new.seat in
     let d = does v c.self.view_is seat (subst P c.number.ensures c.fill_slot.ensures) in
     let k = fill_slot_does layout v _ c.args.name s.owner c.args.slot c.args.value.now d in

@@ -16,8 +16,8 @@ follow_bell-requires g c =
     let touch = c.requires.touch in
     let seat = seat_at (c.heap.view_is ∙ c.kept-heap.ensures) c.self.invariant.seat in
     let s = stood v c.self.view_is seat in
-    let P : ℕ → Type 0 = λ q. CanDo layout c.heap.inside.table action.FollowBell (move.FollowBell q) c.self.inside.seat
-    in
+    let P : ℕ → Type 0 = λ q. CanDo layout c.heap.inside.table action.FollowBell (move.FollowBell q)
+    c.self.inside.seated.seat in
     subst P (sym c.number-page.ensures) (can v _ _ c.self.view_is seat
     (may_follow_bell layout v (heap_page v c.args.name) touch.idle c.requires.cursor))
 
@@ -29,7 +29,7 @@ returns g c =
     let seat = seat_at (c.heap.view_is ∙ c.kept-heap.ensures) c.self.invariant.seat in
     let s = stood v c.self.view_is seat in
     let P : ℕ → Type 0 = λ q. Did layout c.heap.inside.table action.FollowBell (move.FollowBell q) c.follow_bell.result
-    c.self.inside.seat c.follow_bell.new.seat in
+    c.self.inside.seated.seat c.follow_bell.new.seat in
     let d = does v c.self.view_is seat (subst P c.number-page.ensures c.follow_bell.ensures) in
     let k = follow_bell_does layout v _ c.args.name s.owner c.follow_bell.result touch.idle
     (home_is (plan_of layout v.view.shape) c.args.name.shard c.args.name.page touch.page) d in

@@ -16,7 +16,7 @@ put_slot-requires g c =
     let seat = seat_at (c.heap.view_is ∙ c.kept-heap.ensures) c.self.invariant.seat in
     let s = stood v c.self.view_is seat in
     let P : ℕ → Type 0 = λ q. CanDo layout c.heap.inside.table (action.PutSlot (slot_in c.args.name c.args.slot))
-    (move.PutSlot (record { page = q; slot = c.args.slot })) c.self.inside.seat in
+    (move.PutSlot (record { page = q; slot = c.args.slot })) c.self.inside.seated.seat in
     subst P (sym c.number.ensures) (can v _ _ c.self.view_is seat
     (may_put_slot layout v c.args.name touch (s.owner.owned c.args.name.shard touch.owned) c.args.slot
     (s.owner.mine (heap_slot v c.args.name c.args.slot) c.requires.mine).2 c.requires.mine))
@@ -29,7 +29,7 @@ returns g c =
     let seat = seat_at (c.heap.view_is ∙ c.kept-heap.ensures) c.self.invariant.seat in
     let s = stood v c.self.view_is seat in
     let P : ℕ → Type 0 = λ q. Did layout c.heap.inside.table (action.PutSlot (slot_in c.args.name c.args.slot))
-    (move.PutSlot (record { page = q; slot = c.args.slot })) c.put_slot.result c.self.inside.seat
+    (move.PutSlot (record { page = q; slot = c.args.slot })) c.put_slot.result c.self.inside.seated.seat
     c.put_slot.new.seat in
     let d = does v c.self.view_is seat (subst P c.number.ensures c.put_slot.ensures) in
     let k = put_does layout v _ c.args.name s.owner c.args.slot c.put_slot.result d in

@@ -15,7 +15,7 @@ read_page-requires g c =
     let seat = seat_at (c.heap.view_is ∙ c.kept-heap.ensures) c.self.invariant.seat in
     let s = stood v c.self.view_is seat in
     let P : ℕ → Type 0 = λ q. CanDo layout c.heap.inside.table (action.ReadPage c.args.name) (move.ReadPage q)
-    c.self.inside.seat in
+    c.self.inside.seated.seat in
     subst P (sym c.number-page.ensures) (can v _ _ c.self.view_is seat
     (may_read_page layout v c.args.name touch (s.owner.owned c.args.name.shard touch.owned)))
 
@@ -27,7 +27,7 @@ returns g c =
     let seat = seat_at (c.heap.view_is ∙ c.kept-heap.ensures) c.self.invariant.seat in
     let s = stood v c.self.view_is seat in
     let P : ℕ → Type 0 = λ q. Did layout c.heap.inside.table (action.ReadPage c.args.name) (move.ReadPage q)
-    c.read_page.result c.self.inside.seat c.read_page.new.seat in
+    c.read_page.result c.self.inside.seated.seat c.read_page.new.seat in
     let d = does v c.self.view_is seat (subst P c.number-page.ensures c.read_page.ensures) in
     let k = read_does layout v _ c.args.name s.owner c.read_page.result touch.idle d in
     record { does = d; acts = k.0; bells = k.1; page = k.2; few = d.says refl }

@@ -15,7 +15,7 @@ set_class-requires g c =
     let seat = seat_at (c.heap.view_is ∙ c.kept-heap.ensures) c.self.invariant.seat in
     let s = stood v c.self.view_is seat in
     let P : ℕ → Type 0 = λ q. CanDo layout c.heap.inside.table (action.SetClass c.args.name c.args.class)
-    (move.SetClass q c.args.class) c.self.inside.seat in
+    (move.SetClass q c.args.class) c.self.inside.seated.seat in
     subst P (sym c.number-page.ensures) (can v _ _ c.self.view_is seat
     (may_set_class layout v c.args.name touch (s.owner.owned c.args.name.shard touch.owned) c.args.class
     c.requires.class c.requires.may))
@@ -28,7 +28,7 @@ returns g c =
     let seat = seat_at (c.heap.view_is ∙ c.kept-heap.ensures) c.self.invariant.seat in
     let s = stood v c.self.view_is seat in
     let P : ℕ → Type 0 = λ q. Did layout c.heap.inside.table (action.SetClass c.args.name c.args.class)
-    (move.SetClass q c.args.class) 0 c.self.inside.seat c.set_class.new.seat in
+    (move.SetClass q c.args.class) 0 c.self.inside.seated.seat c.set_class.new.seat in
     let d = does v c.self.view_is seat (subst P c.number-page.ensures c.set_class.ensures) in
     let k = class_does layout v _ c.args.name s.owner c.args.class touch.idle d in
     record { does = d; acts = k.0; bells = k.1; page = k.2; put = k.3; arm = k.4 }
