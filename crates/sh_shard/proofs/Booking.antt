@@ -1,6 +1,6 @@
 -- A shard keeps the laws of a store.
 use Rattle.std.proofs.Common.{◌≡◌, ℕ, ◌==◌, List, Some, refl, ap, ◌∙◌, sym, subst}
-use Rattle.std.specs.Prelude.{Option, Result, Ok, Err}
+use Rattle.std.specs.Prelude.{Option, Result, Ok, Err, length, get_or}
 use Rattle.sh_key.specs.Layout.{Layout}
 use Rattle.sh_plain.specs.Store.{IsBook, InsertLeaves}
 use Rattle.sh_queue.specs.Queues.{PageQueues}
@@ -11,8 +11,12 @@ use Rattle.sh_pass.specs.Tales.{ViewStands}
 use Rattle.sh_pass.specs.Growing.{SameTale}
 use Rattle.sh_pass.specs.Owners.{Aside, own_body}
 use Rattle.sh_pass.specs.Passes.{Caller}
+use Rattle.sh_pass.specs.Receipts.{heeded}
 use Rattle.sh_pass.specs.Remaining.{Remains}
-use Rattle.sh_shard.specs.Pages.{Paged, GainsSlot, HoldsPages}
+use Rattle.sh_states.specs.States.{blank_state}
+use Rattle.sh_states.specs.declared.states.PageState.{PageState}
+use Rattle.sh_shard.specs.Kept.{KeepsPages}
+use Rattle.sh_shard.specs.Pages.{Paged, GainsSlot, HoldsPages, KnowsWords}
 use Rattle.sh_shard.specs.Shards.{Sharded, HoldsShard, StaysOwner, InsertServes, PrepareServes}
 use Rattle.sh_shard.specs.Stores.{shard_book, shard_setting}
 use Rattle.sh_shard.proofs.PageSteps.{paged_of}
@@ -82,16 +86,34 @@ remains_aside layout o n before after aside = record {
   stands = after.stands;
 }
 
+-- what is kept of the pages says how many there are, and the class word of each
+pub knows_words : {layout : Layout} {v : Caller} {shard : ℕ} {rings : Option ℕ} {states : List PageState}
+    → KeepsPages layout v shard rings states → KnowsWords (paged_of layout v shard (length states))
+knows_words {states = states} keeps = record {
+  count = keeps.few;
+  words = λ p l. ((get_or states p blank_state).class_word, (keeps.pages p l).class);
+}
+
+-- a receipt that is heeded changes nothing of the pages
+pub keeps_heeded : {layout : Layout} {v w : Caller} {shard : ℕ} {rings : Option ℕ} {states : List PageState}
+    (r : Caller) → w ≡ heeded v r → ViewStands layout w.view → KeepsPages layout v shard rings states
+    → KeepsPages layout w shard rings states
+keeps_heeded {layout} {v} {w} {shard} {rings} {states} r is stands k =
+    subst (λ (c : Caller). ViewStands layout c.view → KeepsPages layout c shard rings states) (sym is)
+    (λ s. record { stands = s; idle = k.idle; owned = k.owned; bell = k.bell; few = k.few; pages = k.pages }) stands
+
 -- what is known after a call of the owner
-pub holds_after : {layout : Layout} {v w : Caller} {shard : ℕ} (count : ℕ) → Remains layout v w
+pub holds_after : {layout : Layout} {v w : Caller} {shard : ℕ} {rings : Option ℕ} {states : List PageState}
+    → KeepsPages layout w shard rings states → Remains layout v w
     → (own_body v).owned ≡ Some shard → w.view.shape ≡ v.view.shape
-    → HoldsPages layout (paged_of layout w shard count)
-holds_after count remains owned shape = record {
+    → HoldsPages layout (paged_of layout w shard (length states))
+holds_after keeps remains owned shape = record {
   stands = remains.stands;
   idle = remains.idle;
   owned = remains.shard ∙ owned;
   shape = shape ∙ (remains.shape ∙ ap (λ (h : Heap). h.shape) (sym remains.heap));
   bell = refl;
+  known = knows_words keeps;
 }
 
 -- a call of the owner that at most gains a slot leaves it the shard

@@ -26,15 +26,6 @@ pub record Paged : Type 0 where
   pub count : ℕ
   pub bell : SeenBell
 
--- Nothing is begun, the shard is the owner's, and all that it knows is true in the heap's shape. The bell is that of
--- its shard as the owner sees it.
-pub record HoldsPages (layout : Layout) (v : Paged) : Type 0 where
-  pub stands : ViewStands layout v.owner.view
-  pub idle : (own_body v.owner).hand ≡ Idle
-  pub owned : (own_body v.owner).owned ≡ Some v.shard
-  pub shape : v.owner.view.shape ≡ v.owner.heap.shape
-  pub bell : v.bell ≡ seen_bell layout v.owner v.shard
-
 -- the pages, once their owner has heeded the receipt
 abbrev pub pages_heeded : Paged → Caller → Paged
 pages_heeded v r = record { owner = heeded v.owner r; shard = v.shard; count = v.count; bell = v.bell }
@@ -46,6 +37,21 @@ shard_page shard p = record { shard = shard; page = p }
 -- page p of the shard as the owner sees it
 abbrev pub page_at : Paged → ℕ → SeenPage
 page_at v p = seen_page v.owner (heap_page v.owner (shard_page v.shard p))
+
+-- The shard has as many pages as its heap's shape says, and the class word of each is known.
+pub record KnowsWords (v : Paged) : Type 0 where
+  pub count : v.count ≡ pages_of v.owner.view.shape
+  pub words : (p : ℕ) → p < v.count → (word : ℕ) × ((page_at v p).class ≡ Some word)
+
+-- Nothing is begun, the shard is the owner's, and all that it knows is true in the heap's shape. The bell is that of
+-- its shard as the owner sees it.
+pub record HoldsPages (layout : Layout) (v : Paged) : Type 0 where
+  pub stands : ViewStands layout v.owner.view
+  pub idle : (own_body v.owner).hand ≡ Idle
+  pub owned : (own_body v.owner).owned ≡ Some v.shard
+  pub shape : v.owner.view.shape ≡ v.owner.heap.shape
+  pub bell : v.bell ≡ seen_bell layout v.owner v.shard
+  pub known : KnowsWords v
 
 -- the page's class word, 0 if none is known
 abbrev pub seen_class : SeenPage → ℕ

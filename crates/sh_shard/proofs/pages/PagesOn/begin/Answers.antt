@@ -1,5 +1,7 @@
 use Rattle.std.proofs.Common.{length, refl, ap, ◌∙◌, sym, arith}
 use Rattle.std.proofs.lemmas.List.{length-set}
+use Rattle.sh_shape.specs.Places.{pages_of}
+use Rattle.sh_states.specs.States.{state_at}
 use Rattle.sh_pass.specs.Seats.{Heap}
 use Rattle.sh_shard.proofs.Beginning.{reading_more, state_of}
 use Rattle.sh_shard.proofs.pages.PagesOn.begin.Goals as goal
@@ -19,11 +21,17 @@ loop-page-preserved g c =
 
 pub returns-clause-holds : goal.returns-clause-holds
 returns-clause-holds g c =
-    let r = c.loop-page.invariant.reading in
+    let i = c.loop-page.invariant in
+    let r = i.reading in
     record {
       stands = r.stands;
       idle = r.idle;
       owned = r.owned;
       shape = r.aside.same.shape ∙ (c.pages-count.ensures.same ∙ ap (λ (h : Heap). h.shape) (sym r.aside.heap));
       bell = refl;
+      known = record {
+        count = i.all ∙ (c.pages-count.ensures.is ∙ ap pages_of (sym r.aside.same.shape));
+        words = λ p l. let h = r.pages p (let z = c.loop-page-test.false in let e = i.all in omega arith) in
+            ((state_at c.loop-page.states p).class_word, h.class);
+      };
     }

@@ -31,5 +31,5 @@ returns-clause-gained g c =
     c.push_gained-page.ensures).comes
 
 pub returns-clause-holds : goal.returns-clause-holds
-returns-clause-holds g c = holds_after (length c.push_gained-page.new.states) c.get_guard-answer.ensures.remains
+returns-clause-holds g c = holds_after (invariant_of-self g c) c.get_guard-answer.ensures.remains
     c.self.invariant.owned c.get_guard-answer.ensures.leaves.same.shape

@@ -17,5 +17,5 @@ returns-clause-gained g c =
     c.read_guard.ensures.leaves c.read_guard.ensures.remains.stands (refl, refl)).comes
 
 pub returns-clause-holds : goal.returns-clause-holds
-returns-clause-holds g c = holds_after (length c.self.inside.states) c.read_guard.ensures.remains
+returns-clause-holds g c = holds_after (invariant_of-self g c) c.read_guard.ensures.remains
     c.self.invariant.owned c.read_guard.ensures.leaves.same.shape

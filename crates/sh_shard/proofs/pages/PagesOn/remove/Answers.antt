@@ -27,5 +27,5 @@ returns-clause-gained g c =
     c.push_gained-page.ensures).comes
 
 pub returns-clause-holds : goal.returns-clause-holds
-returns-clause-holds g c = holds_after (length c.push_gained-page.new.states) c.remove-answer.ensures.remains
+returns-clause-holds g c = holds_after (invariant_of-self g c) c.remove-answer.ensures.remains
     c.self.invariant.owned c.remove-answer.ensures.leaves.same.shape

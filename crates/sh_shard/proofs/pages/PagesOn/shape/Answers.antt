@@ -1,5 +1,6 @@
 use Rattle.std.proofs.Common.{refl, subst}
 use Rattle.sh_shard.specs.Pages.{Paged, HoldsPages}
+use Rattle.sh_shard.proofs.Booking.{knows_words}
 use Rattle.sh_shard.proofs.pages.PagesOn.shape.Goals as goal
 
 pub returns-clause-holds : goal.returns-clause-holds
@@ -9,4 +10,5 @@ returns-clause-holds g c = subst (λ (v : Paged). HoldsPages g.L.KeyLayout.layou
   owned = c.self.invariant.owned;
   shape = c.shape.ensures.same;
   bell = refl;
+  known = knows_words c.self.invariant;
 })
