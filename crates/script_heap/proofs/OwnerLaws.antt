@@ -37,7 +37,8 @@ use Rattle.sh_member.specs.Leaving.{Waiting}
 use Rattle.sh_member.specs.Pages.{AdoptRefused}
 use Rattle.sh_member.specs.Shards.{Sharded}
 use Rattle.sh_quiet.proofs.Exact.{Goes}
-use Rattle.sh_quiet.proofs.Leaves.{SeesBell, never_waits}
+use Rattle.sh_quiet.proofs.Leaves.{never_waits}
+use Rattle.sh_quiet.proofs.Working.{SeesBell}
 use Rattle.sh_member.specs.declared.member.Side.TheVariants.{Pass, Shard, Moving}
 use Rattle.sh_member.specs.Sides.{SeenSide, SideAdopts, SideLeaves}
 use Rattle.sh_script.specs.declared.calls.Call.{Call}

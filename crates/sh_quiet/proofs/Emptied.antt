@@ -65,7 +65,8 @@ module _ (plan : Plan) (w : World) (l : PutLists) (all : Refines plan w l) (quie
   bell_chain_ends n owned none = no_first (l.bell_chain n)
       (λ q. sym (all.linked.1.cursors n q) ∙ no_bell_cursors n q owned none)
 
-  no_mine : (x : SlotRef) → own plan p x.page ≡ true → has (same_slot x) p.mine ≡ false → total (mine_at x) w.parts ≡ 0
+  pub no_mine : (x : SlotRef) → own plan p x.page ≡ true → has (same_slot x) p.mine ≡ false
+      → total (mine_at x) w.parts ≡ 0
   no_mine x mine none = none_of (mine_at x) w.parts (λ b u at_b. some_if (mine_at x u) (λ some.
       let same : u ≡ p = its_owner x.page b u mine at_b ((all.parts b u at_b).mine x some).1 in
       let zero : mine_at x u ≡ 0 = ap (mine_at x) same ∙ has_none (same_slot x) p.mine none in

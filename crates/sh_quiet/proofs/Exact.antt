@@ -1,6 +1,6 @@
--- What an owner that goes on alone has collected, and when it is told Full.
+-- What an owner that goes on alone has collected.
 use Rattle.std.proofs.Common.{◌≡◌, ◌≢◌, ℕ, ◌+◌, ◌<◌, ◌==◌, ◌||◌, ⊎_elim, Bool, true, false, List, [], ◌∷◌}
-use Rattle.std.proofs.Common.{◌++◌, length, refl, ap, sym, ◌∙◌, subst, arith, Option, Some, None, MatchOption}
+use Rattle.std.proofs.Common.{◌++◌, length, refl, ap, sym, ◌∙◌, subst, arith, Some}
 use Rattle.std.proofs.Common.{slice_get, eqb-true}
 use Rattle.std.proofs.lemmas.Bool.{cases_eq, false≢true}
 use Rattle.std.proofs.lemmas.Option.{slice_get_within}
@@ -11,12 +11,10 @@ use Rattle.sh_core.specs.SlotRef.{SlotRef}
 use Rattle.sh_core.specs.Slots.{slot_refs}
 use Rattle.sh_core.specs.Event.{Event}
 use Rattle.sh_core.specs.Body.{Body}
-use Rattle.sh_core.specs.Footstep.{Footstep}
-use Rattle.sh_core.specs.Collections.{total, has, noted}
+use Rattle.sh_core.specs.Collections.{total, has}
 use Rattle.sh_core.specs.Footsteps.{takes, bell_takes, met, bell_met, puts, arms}
-use Rattle.sh_core.specs.Plans.{Plan, plan_of, home}
+use Rattle.sh_core.specs.Plans.{Plan, plan_of}
 use Rattle.sh_core.specs.Rows.{own}
-use Rattle.sh_core.proofs.PartTests.{owns_is}
 use Rattle.sh_core.specs.Lists.{PutLists, lists_of, accounts, times, slots_under}
 use Rattle.sh_core.specs.Quiet.{Quiet, NothingQueued}
 use Rattle.sh_core.specs.Refines.{Refines}
@@ -24,21 +22,18 @@ use Rattle.sh_core.specs.Trails.{trail_of}
 use Rattle.sh_core.specs.Worlds.{World, run}
 use Rattle.sh_core.proofs.Clauses.RunTheorem.{theorem}
 use Rattle.sh_core.proofs.Quiet.{quiet_loses_nothing}
-use Rattle.sh_core.proofs.Sums.ListCounts.{has_some}
 use Rattle.sh_shard.specs.Own.{Own}
 use Rattle.sh_shard.specs.Told.{Told}
 use Rattle.sh_shard.specs.View.{View}
 use Rattle.sh_shard.specs.Reached.{HasOwn}
 use Rattle.sh_shard.specs.Views.{Each, names_told}
 use Rattle.sh_shard.specs.Growing.{SameTale}
-use Rattle.sh_shard.specs.Owners.{SeenBell, heap_page, own_body, seen_bell}
-use Rattle.sh_shard.specs.Passes.{Caller}
-use Rattle.sh_shard.specs.Pages.{shard_page}
+use Rattle.sh_shard.specs.Owners.{own_body}
 use Rattle.sh_gather.specs.Histories.{LeadsHere}
-use Rattle.sh_quiet.specs.Quiescence.{CollectedIsEmpty, FullIsExact, LastOnesAreQuiet, IsLastOne}
+use Rattle.sh_quiet.specs.Quiescence.{CollectedIsEmpty, LastOnesAreQuiet, IsLastOne}
 use Rattle.sh_quiet.proofs.Alone.{Alone}
 use Rattle.sh_quiet.proofs.GoesOn.{went_on}
-use Rattle.sh_quiet.proofs.Emptied.{chain_ends, bell_chain_ends, armed_is_empty, slot_is_used}
+use Rattle.sh_quiet.proofs.Emptied.{chain_ends}
 
 -- ---- a tale that names all passes
 
@@ -234,77 +229,3 @@ collected_is_empty layout v w q last same put idle mine taken none is_layout is_
     (taken_is_empty layout shape is_layout is_shape fits early more a v.view.own w.view.own g put q taken)
     (chain_ends plan (run plan late) (lists_of plan late) (theorem layout shape is_layout is_shape fits late) quiet a
     (own_body w) g.body q mine none)
-
--- ---- Full
-
--- the bell was taken, and followed to its end
-bell_is_empty : (layout : Layout) (shape : Numbers) (o n : Caller) (k : ℕ) (b d : SeenBell)
-    → o.view.shape ≡ shape → n.view.shape ≡ shape → b ≡ seen_bell layout o k → d ≡ seen_bell layout n k
-    → MatchOption d.cursor (b.takes < d.takes) (λ _. b.met < d.met)
-    → (bell_met (plan_of layout shape) k o.view.own.trail < bell_met (plan_of layout shape) k n.view.own.trail → ⊥)
-    → ((own_body n).bell_cursor ≡ None) × (bell_takes k o.view.own.trail < bell_takes k n.view.own.trail)
-bell_is_empty layout shape o n k b d same_o same_n is_b is_d done never =
-    let P : SeenBell × SeenBell → Type 0 = λ z. MatchOption z.1.cursor (z.0.takes < z.1.takes) (λ _. z.0.met < z.1.met)
-    in go (own_body n).bell_cursor refl (subst P (λ i. (is_b i, is_d i)) done) where
-      go : (c : Option ℕ) → (own_body n).bell_cursor ≡ c → MatchOption c
-          (bell_takes k o.view.own.trail < bell_takes k n.view.own.trail)
-          (λ _. bell_met (plan_of layout o.view.shape) k o.view.own.trail
-          < bell_met (plan_of layout n.view.shape) k n.view.own.trail)
-          → ((own_body n).bell_cursor ≡ None) × (bell_takes k o.view.own.trail < bell_takes k n.view.own.trail)
-      go None is more = (is, more)
-      go (Some r) is more =
-          let Q : Numbers × Numbers → Type 0 = λ z. bell_met (plan_of layout z.0) k o.view.own.trail
-          < bell_met (plan_of layout z.1) k n.view.own.trail in
-          absurd (never (subst Q (λ i. (same_o i, same_n i)) more))
-
-pub full_is_exact : FullIsExact
-full_is_exact layout c o n last had held full is_layout is_shape fits early more before after p s below class
-    slot =
-    let v = o.pages.owner in
-    let u = n.pages.owner in
-    let shape = v.view.shape in
-    let a = v.view.pass in
-    let plan = plan_of layout shape in
-    let late = early ++ more in
-    let g = goes layout v.view u.view is_layout is_shape fits last full.left.through.aside.same early more before after
-    in
-    let world = run plan late in
-    let l = lists_of plan late in
-    let through = full.left.through in
-    let put : puts u.view.own.trail ≡ puts v.view.own.trail = through.put in
-    let all = theorem layout shape is_layout is_shape fits late in
-    let quiet = quiet_still layout shape is_layout is_shape fits early more a v.view.own u.view.own g put held.idle in
-    let k = n.pages.shard in
-    let same_shard : n.pages.shard ≡ o.pages.shard = through.shard in
-    let bell = bell_is_empty layout shape v u k o.pages.bell n.pages.bell refl through.aside.same.shape
-    (had.bell ∙ ap (seen_bell layout v) (sym same_shard)) held.bell full.left.bell
-    (none_met_on_bell layout shape is_layout is_shape fits early more a v.view.own u.view.own g put k) in
-    let q = heap_page u (shard_page k p) in
-    let page_before : heap_page v (shard_page o.pages.shard p) ≡ q = λ i. heap_page
-    (record { heap = v.heap; view = record v.view { shape = sym through.aside.same.shape i } })
-    (shard_page (sym same_shard i) p) in
-    let done = full.left.done p below class in
-    let nothing = done.mine in
-    let cursor_and_armed : (noted q (own_body u).cursors ≡ None) × (has (λ r. r == q) (own_body u).armed ≡ true)
-    = end_of q v.view.own.trail u.view.own.trail (noted q (own_body u).cursors) refl page_before done.waits
-    (none_met layout shape is_layout is_shape fits early more a v.view.own u.view.own g put q) in
-    let body = own_body u in
-    let at = g.body in
-    let some = has_some (λ r. r == q) body.armed cursor_and_armed.1 in
-    let stands = all.parts a body at in
-    let mine : own plan body q ≡ true = (stands.armed q some).1 in
-    let owned : body.owned ≡ Some k = held.owned in
-    let both : Some k ≡ Some (home plan q) = sym owned ∙ owns_is plan body q mine in
-    let home_is : k ≡ home plan q = cc in
-    let bells = rung_is_empty layout shape is_layout is_shape fits early more a v.view.own u.view.own g put k bell.1 in
-    let bell_chain = bell_chain_ends plan world l all quiet a body at k owned bell.0 in
-    let stack = armed_is_empty plan world l all quiet a body at q mine cursor_and_armed.1
-    (subst (λ z. l.bells z ≡ []) home_is bells) (subst (λ z. l.bell_chain z ≡ []) home_is bell_chain) in
-    slot_is_used plan world l all quiet a body at q s c mine (stands.notes q (c + 1) mine class) slot (nothing s) stack
-    (chain_ends plan world l all quiet a body at q mine cursor_and_armed.0) where
-      end_of : {r : ℕ} {armed : Bool} {cursors : Option ℕ} (q : ℕ) (before after : List Footstep) (cur : Option ℕ)
-          → cursors ≡ cur → r ≡ q → MatchOption cur (armed ≡ true) (λ _. met r before < met q after)
-          → (met q before < met q after → ⊥) → (cursors ≡ None) × (armed ≡ true)
-      end_of q before after None is same armed never = (is, armed)
-      end_of q before after (Some t) is same more never =
-          absurd (never (subst (λ z. met z before < met q after) same more))

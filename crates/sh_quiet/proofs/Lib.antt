@@ -2,4 +2,6 @@ pub mod Alone
 pub mod GoesOn
 pub mod Emptied
 pub mod Exact
+pub mod Working
 pub mod Leaves
+pub mod Fulls

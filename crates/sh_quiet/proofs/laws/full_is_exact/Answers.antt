@@ -1,4 +1,4 @@
-use Rattle.sh_quiet.proofs.Exact.{full_is_exact}
+use Rattle.sh_quiet.proofs.Fulls.{full_is_exact}
 use Rattle.sh_quiet.proofs.laws.full_is_exact.Goals as goal
 
 pub returns : goal.returns
