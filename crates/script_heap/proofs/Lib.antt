@@ -6,6 +6,8 @@ pub mod FirstSteps
 pub mod LoneAdopt
 pub mod FoundWords
 pub mod OwnerLaws
+pub mod PageNumbers
+pub mod RoomLaws
 pub use Rattle.script_calls.proofs.GrowLemmas
 pub use Rattle.script_calls.proofs.LineLemmas
 pub use Rattle.script_calls.proofs.NameLemmas

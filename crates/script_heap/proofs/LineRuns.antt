@@ -7,6 +7,7 @@ use native.Mathlib.Decide.{ℕ_discrete}
 use Rattle.sh_key.specs.Layout.{Layout}
 use Rattle.sh_shape.specs.Shape.{Numbers}
 use Rattle.sh_core.specs.Hand.TheVariants.{Idle}
+use Rattle.sh_core.specs.Places.{pages_of}
 use Rattle.sh_core.specs.Event.{Event}
 use Rattle.sh_core.specs.Body.{Body}
 use Rattle.sh_core.specs.Footstep.{Footstep}
@@ -175,6 +176,7 @@ module _ (layout : Layout) (shape : Numbers) (tag : Option ℕ) (events : List E
         shard = s.shard;
         idle = s.idle;
         shards = ap (λ (n : Numbers). n.shards) s.shape_is;
+        pages = ap pages_of s.shape_is;
         bell = s.bell;
       }
 

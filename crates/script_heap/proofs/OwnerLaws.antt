@@ -131,7 +131,7 @@ module _ (layout : Layout) (shape : Numbers) (la : IsLayout layout) (ls : IsShap
         ∙ part_there before.parts l.pass q line.part ne
 
     -- the shard that it owns when it begins
-    owns : (s : SeenSide) → first_side ≡ s → owned_by before.parts l.pass ≡ shard_owned s
+    pub owns : (s : SeenSide) → first_side ≡ s → owned_by before.parts l.pass ≡ shard_owned s
     owns s e = sym heeded.shard ∙ ap shard_owned e
 
     -- how many shards it knows
@@ -257,7 +257,7 @@ module _ (layout : Layout) (shape : Numbers) (la : IsLayout layout) (ls : IsShap
 
     -- an owner that is told to wait: it had the bell of its steps, and alone went on
     module _ (o n : Sharded) (was : first_side ≡ Shard o) (is : ends ≡ Shard n) where
-      ends_is : (next.parts l.pass).stands ≡ Shard n
+      pub ends_is : (next.parts l.pass).stands ≡ Shard n
       ends_is = ap (λ (p : PassPart). p.stands) next_here ∙ is
 
       own_before : own_part (before.parts l.pass).stands ≡ o.pages.owner.view.own
@@ -266,7 +266,7 @@ module _ (layout : Layout) (shape : Numbers) (la : IsLayout layout) (ls : IsShap
       own_after : own_part (next.parts l.pass).stands ≡ n.pages.owner.view.own
       own_after = ap own_part ends_is
 
-      alone : Goes core_plan early own l.pass o.pages.owner.view.own n.pages.owner.view.own
+      pub alone : Goes core_plan early own l.pass o.pages.owner.view.own n.pages.owner.view.own
       alone = record {
         quiet = was_quiet;
         rest = λ q ne lt. ap (λ (t : List Footstep). length t) ((there q lt).trail
@@ -276,13 +276,13 @@ module _ (layout : Layout) (shape : Numbers) (la : IsLayout layout) (ls : IsShap
         body = (there l.pass inside).body ∙ ap (λ (z : Own). Some z.body) own_after;
       }
 
-      bell_before : SeesBell core_plan o.pages
+      pub bell_before : SeesBell core_plan o.pages
       bell_before =
           let k : KnowsBell core_plan (Shard o) = subst (λ (s : SeenSide). KnowsBell core_plan s) was
           (still_knows core_plan (before.parts l.pass) line.begins line.heeds (here l.pass inside).bell) in
           record { cursor = k.0; takes = k.1; met = k.2 }
 
-      bell_after : SeesBell core_plan n.pages
+      pub bell_after : SeesBell core_plan n.pages
       bell_after =
           let k : KnowsBell core_plan (Shard n) = subst (λ (s : SeenSide). KnowsBell core_plan s) ends_is
           (there l.pass inside).bell in
@@ -322,7 +322,7 @@ module _ (layout : Layout) (shape : Numbers) (la : IsLayout layout) (ls : IsShap
 
   -- ---- all lines
 
-  first_parts : (early late : List Event) (tag : Option ℕ) (before : CallsRun) (lines : List CallLine)
+  pub first_parts : (early late : List Event) (tag : Option ℕ) (before : CallsRun) (lines : List CallLine)
       (answers : List Answer) (after : CallsRun)
       → RunsByLine core_plan early late core_terms tag before lines answers after
       → HaveParts core_plan early before.parts

@@ -1,6 +1,7 @@
 -- The run of the core that the lines of a run in one thread are: their steps, one line after the other.
 use Rattle.std.specs.Prelude.{◌≡◌, ℕ, ◌<◌, List, [], ◌∷◌, ◌++◌, Option, Some, slice_get}
 use Rattle.sh_core.specs.Hand.TheVariants.{Idle}
+use Rattle.sh_core.specs.Places.{pages_of}
 use Rattle.sh_core.specs.Event.{Event}
 use Rattle.sh_core.specs.Footsteps.{bell_takes, bell_met}
 use Rattle.sh_core.specs.Plans.{Plan}
@@ -22,13 +23,14 @@ KnowsBell plan (Shard o) = (o.pages.bell.cursor ≡ o.pages.owner.view.own.body.
 KnowsBell plan _ = Unit {0}
 
 -- After these events the pass has just the body and the steps of this part. It has begun nothing, its body has the
--- shard that it owns, and it knows its bell and how many shards there are.
+-- shard that it owns, and it knows its bell and how many shards and pages there are.
 pub record HasPart (plan : Plan) (es : List Event) (pass : ℕ) (part : PassPart) : Type 0 where
   pub body : slice_get (run plan es).parts pass ≡ Some (own_part part.stands).body
   pub trail : trail_of plan es pass ≡ (own_part part.stands).trail
   pub shard : (own_part part.stands).body.owned ≡ shard_owned part.stands
   pub idle : (own_part part.stands).body.hand ≡ Idle
   pub shards : (shape_in part.stands).shards ≡ plan.shards
+  pub pages : pages_of (shape_in part.stands) ≡ plan.pages
   pub bell : KnowsBell plan part.stands
 
 -- so it is of each pass of the heap

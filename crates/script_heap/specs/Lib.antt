@@ -3,6 +3,7 @@ pub mod ByLine
 pub mod HeapOutput
 pub mod OwnSteps
 pub mod Owners
+pub mod Rooms
 pub use Rattle.sh_core.specs.KeyRef
 pub use Rattle.sh_pass.specs.Passes
 pub use Rattle.sh_pass.specs.Seats

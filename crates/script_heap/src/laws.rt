@@ -1,6 +1,7 @@
 //! What follows from the fact that a run has just the steps that its passes did.
 ghost use Rattle.script_heap.specs.OwnSteps.{LoneAdoptIsNotTaken};
 ghost use Rattle.script_heap.specs.Owners.{LinesKeepOwnersApart};
+ghost use Rattle.script_heap.specs.Rooms.{LinesFindRoom};
 
 /// If a script consists of one adopt, no other pass does a step. So the adopt finds no owner, and its answer is not
 /// `Taken`.
@@ -14,4 +15,11 @@ pub fn lone_adopt_is_not_taken()
 /// owns a shard, and never `Waiting`.
 pub fn lines_keep_owners_apart()
     ensures { LinesKeepOwnersApart }
+{}
+
+/// In a run of mode heap an insert is `Full` only if its pass owns a shard that has no room for the value's class. Each
+/// slot of each page of the class is live, marked or retired, and no page is blank. No page of another class is wholly
+/// the owner's. `Memory` comes only if all this is true, except that pages may be blank.
+pub fn lines_find_room()
+    ensures { LinesFindRoom }
 {}
