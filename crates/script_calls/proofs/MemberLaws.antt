@@ -10,6 +10,7 @@ use Rattle.sh_pass.specs.Tales.{ViewStands}
 use Rattle.sh_pass.specs.Passes.{Caller, GetDoes, ReadDoes, RemoveDoes, ReleaseDoes}
 use Rattle.sh_member.specs.Shards.{value_class}
 use Rattle.sh_member.specs.declared.member.Side.TheVariants.{Pass, Shard, Moving}
+use Rattle.sh_member.specs.SideBounds.{AdoptTakes}
 use Rattle.sh_member.specs.Sides.{SeenSide, SideDoes, SideInserts, SideAdopts, SideLeaves, SideStands, SideHeeds}
 use Rattle.sh_member.specs.Sides.{IsOfHeap, IsReceiptBy, MayJoin, SideJoins, SideGivesPass}
 use Rattle.script_calls.specs.Parts.{SeenPass, SamePass, heap_terms, shard_owned, tale_told}
@@ -108,20 +109,21 @@ member_key_is_small layout Moving n words r h = absurd h
 -- ---- adopting and leaving
 
 pub member_adopts : (layout : Layout) (m n : SeenSide) (k : ℕ) (r : Result (Unit {0}) Refusal) → SideAdopts k m r n
+    → AdoptTakes m n
     → AdoptAnswers (seen_of_member layout m).terms (seen_of_member layout m).part k r (seen_of_member layout n).part
     × SamePass (seen_of_member layout m) (seen_of_member layout n)
-member_adopts layout (Pass v) (Shard n) k (Ok u) h = adopt_answers layout v k (Ok n) h
-member_adopts layout (Pass v) (Pass w) k (Ok u) h = absurd h
-member_adopts layout (Pass v) Moving k (Ok u) h = absurd h
-member_adopts layout (Pass v) (Pass w) k (Err why) h = adopt_answers layout v k (Err (w, why)) h
-member_adopts layout (Pass v) (Shard n) k (Err why) h = absurd h
-member_adopts layout (Pass v) Moving k (Err why) h = absurd h
-member_adopts layout (Shard o) n k r h =
+member_adopts layout (Pass v) (Shard n) k (Ok u) h b = adopt_answers layout v k (Ok n) h b
+member_adopts layout (Pass v) (Pass w) k (Ok u) h b = absurd h
+member_adopts layout (Pass v) Moving k (Ok u) h b = absurd h
+member_adopts layout (Pass v) (Pass w) k (Err why) h b = adopt_answers layout v k (Err (w, why)) h b
+member_adopts layout (Pass v) (Shard n) k (Err why) h b = absurd h
+member_adopts layout (Pass v) Moving k (Err why) h b = absurd h
+member_adopts layout (Shard o) n k r h b =
     let s : SeenPass = seen_of_member layout (Shard o) in
     let P : SeenSide → Type 0 = λ x. AdoptAnswers s.terms s.part k r (seen_of_member layout x).part
     × SamePass s (seen_of_member layout x) in
-    subst P (sym h.1) (((h.0, refl), (h.0, refl)), refl)
-member_adopts layout Moving n k r h = absurd h
+    subst P (sym h.1) (((h.0, refl), (h.0, refl), refl), refl)
+member_adopts layout Moving n k r h b = absurd h
 
 pub member_leaves : (layout : Layout) (m n : SeenSide) (r : Result (Unit {0}) Refusal) → SideLeaves m r n
     → LeaveAnswers (seen_of_member layout m).part r (seen_of_member layout n).part

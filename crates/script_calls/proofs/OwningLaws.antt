@@ -10,6 +10,7 @@ use Rattle.sh_key.proofs.Packing.{keys_are_consecutive}
 use Rattle.sh_pass.specs.Owners.{IsKeyIn}
 use Rattle.sh_member.specs.Pages.{ShardLeft}
 use Rattle.sh_member.specs.Shards.{Sharded, AdoptServes, LeaveServes, InsertServes}
+use Rattle.sh_member.specs.SideBounds.{AdoptTakes}
 use Rattle.sh_pass.specs.Passes.{Caller}
 use Rattle.sh_member.specs.declared.member.Side.TheVariants.{Pass, Shard}
 use Rattle.script_calls.specs.Parts.{PassPart, SeenPass, SamePass, Becomes}
@@ -39,44 +40,49 @@ module _ (layout : Layout) (v : Caller) where
   part_as_was : (w : Caller) → ShardLeft v w → Becomes seen_caller.part (part_of_caller w (Pass w))
   part_as_was w l = λ i. record { log = l.log i; shard = None; stands = Pass w }
 
-  -- (what is served is the contract of adopting itself)
+  -- (what is served, and in how many steps, is the contract of adopting itself)
   pub adopt_answers : (k : ℕ) (r : Result Sharded (Caller × Refusal)) → AdoptServes k v r
+      → MatchResult r (λ n. AdoptTakes (Pass v) (Shard n)) (λ e. AdoptTakes (Pass v) (Pass e.0))
       → MatchResult r
       (λ n. AdoptAnswers seen_caller.terms seen_caller.part k (Ok tt) (seen_of_shard layout n).part
       × SamePass seen_caller (seen_of_shard layout n))
       (λ e. AdoptAnswers seen_caller.terms seen_caller.part k (Err e.1) (seen_of_caller layout e.0).part
       × SamePass seen_caller (seen_of_caller layout e.0))
-  adopt_answers k (Ok n) h = (
+  adopt_answers k (Ok n) h b = (
     (
       subst (AdoptIs k (Ok tt) (part_of_caller n.pages.owner (Shard n))) (sym (there_is k h.0))
           (λ i. record { log = h.1.log i; shard = Some (h.1.shard i); stands = Shard n }),
       h,
+      b,
     ),
     same_of layout v n.pages.owner (Pass v) (Shard n) h.1.heap h.1.same,
   )
-  adopt_answers k (Err (w, refusal.NoShard)) h = (
+  adopt_answers k (Err (w, refusal.NoShard)) h b = (
     (
       subst (AdoptIs k (Err refusal.NoShard) (part_of_caller w (Pass w))) (sym (there_is_not k h.0))
           (refl, ap (λ (c : Caller). part_of_caller c (Pass w)) h.1),
       h,
+      b,
     ),
     kept w h.1,
   )
-  adopt_answers k (Err (w, refusal.Taken)) h = (
+  adopt_answers k (Err (w, refusal.Taken)) h b = (
     (
       subst (AdoptIs k (Err refusal.Taken) (part_of_caller w (Pass w))) (sym (there_is k h.0)) (part_as_was w h.1),
       h,
+      b,
     ),
     same_of layout v w (Pass v) (Pass w) h.1.heap h.1.same,
   )
-  adopt_answers k (Err (w, refusal.Memory)) h = (
+  adopt_answers k (Err (w, refusal.Memory)) h b = (
     (
       subst (AdoptIs k (Err refusal.Memory) (part_of_caller w (Pass w))) (sym (there_is k h.0)) (part_as_was w h.1),
       h,
+      b,
     ),
     same_of layout v w (Pass v) (Pass w) h.1.heap h.1.same,
   )
-  adopt_answers k (Err (w, _)) h = absurd h
+  adopt_answers k (Err (w, _)) h b = absurd h
 
 -- ---- an owner
 

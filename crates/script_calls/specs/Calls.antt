@@ -20,6 +20,7 @@ use Rattle.script_output.specs.declared.answer.Answer.TheVariants as answer
 use Rattle.script_output.specs.Keys.{key_shown}
 use Rattle.script_output.specs.Results.{done_answer, value_answer, key_answer}
 use Rattle.sh_pass.specs.Passes.{GetDoes, ReadDoes, RemoveDoes, ReleaseDoes}
+use Rattle.sh_member.specs.SideBounds.{AdoptTakes}
 use Rattle.sh_member.specs.Sides.{SideDoes, SideAdopts, SideLeaves, SideInserts}
 use Rattle.script_calls.specs.Parts.{RunTerms, PassPart, Becomes, with_entry, is_placed_key, is_key_of_shard}
 
@@ -44,7 +45,7 @@ PartAdopted v shard (Err _) w = ⊥
 abbrev pub AdoptAnswers : RunTerms → PassPart → ℕ → Result (Unit {0}) Refusal → PassPart → Type 0
 AdoptAnswers terms v shard r w =
     UnlessRefused (adopt_refusal terms v.shard shard) r (Becomes v w) (PartAdopted v shard r w)
-    × SideAdopts shard v.stands r w.stands
+    × SideAdopts shard v.stands r w.stands × AdoptTakes v.stands w.stands
 
 -- ---- leave
 

@@ -19,7 +19,7 @@ pub trait Side: Drop {
     ghost seen: { Self → SeenPass };
 
     /// Adopts the shard. Refused as `Taken` if it owns one, as `NoShard` if there is no such shard, as `Taken` by one
-    /// step that met another owner, and as `Memory`.
+    /// step that met another owner, and as `Memory`. It takes at most two steps more than the shard has pages.
     fn adopt(&mut self, alloc: Global, shard: u64) -> Result<(), Refusal>
         ensures does { AdoptAnswers (seen self.old).terms (seen self.old).part shard result (seen self.new).part }
         ensures same { SamePass (seen self.old) (seen self.new) };
