@@ -8,6 +8,9 @@ pub mod FoundWords
 pub mod OwnerLaws
 pub mod PageNumbers
 pub mod RoomLaws
+pub mod ClassSteps
+pub mod PageSums
+pub mod FirstInsert
 pub use Rattle.script_calls.proofs.GrowLemmas
 pub use Rattle.script_calls.proofs.LineLemmas
 pub use Rattle.script_calls.proofs.NameLemmas

@@ -31,15 +31,15 @@ use Rattle.script_heap.proofs.FirstSteps.{only_step_meets_none}
 -- ---- the pass before its first call
 
 -- it owns no shard, and has done nothing
-record IsNew (v : PassPart) : Type 0 where
+pub record IsNew (v : PassPart) : Type 0 where
   pub caller : Caller
   pub stands : v.stands ≡ Pass caller
   pub own : caller.view.own ≡ fresh
 
-abbrev new_caller : Heap → ℕ → Caller
+abbrev pub new_caller : Heap → ℕ → Caller
 new_caller heap pass = record { heap = heap; view = newly heap.shape pass }
 
-begins_new : (heap : Heap) (pass : ℕ) (v : PassPart) → MayHeed (new_part (Some heap) pass) v → IsNew v
+pub begins_new : (heap : Heap) (pass : ℕ) (v : PassPart) → MayHeed (new_part (Some heap) pass) v → IsNew v
 begins_new heap pass v h = ⊎_elim as_new heeds h
   where
     as_new : v ≡ new_part (Some heap) pass → IsNew v
@@ -78,6 +78,9 @@ met_owner terms shard v w new does = stepped w.stands refl
         }
     stepped (Shard o) e h = absurd h
     stepped Moving e h = absurd h
+
+pub not_done : (why : Refusal) → answer.Done ≡ answer.Refused why → ⊥
+not_done why e = cc
 
 same_refusal : (e : Refusal) → answer.Refused refusal.Taken ≡ answer.Refused e → e ≡ refusal.Taken
 same_refusal e h = cc

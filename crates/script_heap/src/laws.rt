@@ -1,5 +1,5 @@
 //! What follows from the fact that a run has just the steps that its passes did.
-ghost use Rattle.script_heap.specs.OwnSteps.{LoneAdoptIsNotTaken};
+ghost use Rattle.script_heap.specs.OwnSteps.{LoneAdoptIsNotTaken, FirstInsertIsNotFull};
 ghost use Rattle.script_heap.specs.Owners.{LinesKeepOwnersApart};
 ghost use Rattle.script_heap.specs.Rooms.{LinesFindRoom};
 
@@ -22,4 +22,10 @@ pub fn lines_keep_owners_apart()
 /// the owner's. `Memory` comes only if all this is true, except that pages may be blank.
 pub fn lines_find_room()
     ensures { LinesFindRoom }
+{}
+
+/// If a pass adopts a shard of a fresh heap and inserts, the insert is not `Full`. The adopt took too few steps to give
+/// each page of the shard a class.
+pub fn first_insert_is_not_full()
+    ensures { FirstInsertIsNotFull }
 {}
