@@ -11,6 +11,7 @@ pub mod RoomLaws
 pub mod ClassSteps
 pub mod PageSums
 pub mod FirstInsert
+pub mod SmallScripts
 pub use Rattle.script_calls.proofs.GrowLemmas
 pub use Rattle.script_calls.proofs.LineLemmas
 pub use Rattle.script_calls.proofs.NameLemmas

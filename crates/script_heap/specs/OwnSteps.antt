@@ -16,6 +16,10 @@ adopt_line pass shard = record { pass = pass; call = call.Adopt shard }
 abbrev pub insert_line : (pass : ℕ) → (words : List ℕ) → CallLine
 insert_line pass words = record { pass = pass; call = call.Insert words }
 
+-- the line of this pass that leaves its shard
+abbrev pub leave_line : (pass : ℕ) → CallLine
+leave_line pass = record { pass = pass; call = call.Leave }
+
 -- the answer to a script that consists of one adopt is not Taken, in a heap with any number of passes
 abbrev pub LoneAdoptIsNotTaken : Type 0
 LoneAdoptIsNotTaken = (alone asked : Bool) (layout : Layout) (shape : Numbers) (tag : Option ℕ) (pass shard : ℕ)
@@ -29,3 +33,17 @@ FirstInsertIsNotFull = (asked : Bool) (layout : Layout) (shape : Numbers) (tag :
     (words output : List ℕ) → IsLayout layout → IsShape shape → Fits layout shape → pass < shape.passes
     → (h : IsHeapOutput true layout shape tag (adopt_line pass shard ∷ insert_line pass words ∷ []) asked output)
     → h.told.replies.answers ≢ answer.Done ∷ answer.Refused refusal.Full ∷ []
+
+-- if two passes adopt one shard, not both adopts are ok
+abbrev pub TwoAdoptsAreNotDone : Type 0
+TwoAdoptsAreNotDone = (asked : Bool) (layout : Layout) (shape : Numbers) (tag : Option ℕ) (p q shard : ℕ)
+    (output : List ℕ) → IsLayout layout → IsShape shape → Fits layout shape → p < shape.passes → q < shape.passes
+    → (h : IsHeapOutput true layout shape tag (adopt_line p shard ∷ adopt_line q shard ∷ []) asked output)
+    → h.told.replies.answers ≢ answer.Done ∷ answer.Done ∷ []
+
+-- a leave of the shard that a pass adopted is not Waiting
+abbrev pub LeaveIsNotWaiting : Type 0
+LeaveIsNotWaiting = (asked : Bool) (layout : Layout) (shape : Numbers) (tag : Option ℕ) (pass shard : ℕ)
+    (output : List ℕ) → IsLayout layout → IsShape shape → Fits layout shape → pass < shape.passes
+    → (h : IsHeapOutput true layout shape tag (adopt_line pass shard ∷ leave_line pass ∷ []) asked output)
+    → h.told.replies.answers ≢ answer.Done ∷ answer.Refused refusal.Waiting ∷ []

@@ -1,5 +1,6 @@
 //! What follows from the fact that a run has just the steps that its passes did.
-ghost use Rattle.script_heap.specs.OwnSteps.{LoneAdoptIsNotTaken, FirstInsertIsNotFull};
+ghost use Rattle.script_heap.specs.OwnSteps.{LoneAdoptIsNotTaken, FirstInsertIsNotFull, TwoAdoptsAreNotDone};
+ghost use Rattle.script_heap.specs.OwnSteps.{LeaveIsNotWaiting};
 ghost use Rattle.script_heap.specs.Owners.{LinesKeepOwnersApart};
 ghost use Rattle.script_heap.specs.Rooms.{LinesFindRoom};
 
@@ -28,4 +29,14 @@ pub fn lines_find_room()
 /// each page of the shard a class.
 pub fn first_insert_is_not_full()
     ensures { FirstInsertIsNotFull }
+{}
+
+/// If two passes adopt one shard, one after the other, not both adopts are ok.
+pub fn two_adopts_are_not_done()
+    ensures { TwoAdoptsAreNotDone }
+{}
+
+/// If a pass adopts a shard and leaves it, the leave is not `Waiting`.
+pub fn leave_is_not_waiting()
+    ensures { LeaveIsNotWaiting }
 {}
