@@ -6,7 +6,8 @@ use Rattle.std.proofs.lemmas.Bool.{cases_eq}
 use Rattle.script_orders.specs.declared.found.Found.{Found}
 use Rattle.script_orders.specs.Reached.{Has}
 use Rattle.script_orders.specs.Walks.{KeepsFound}
-use Rattle.script_orders.proofs.ListSteps.{get_set_same, get_set_other, get_push, get_last}
+use Rattle.script_orders.proofs.ListSteps.{get_set_same, get_set_other, get_push}
+use Rattle.sh_core.proofs.ByPlace.{get_last}
 
 -- an outcome that is the same takes the place of one
 pub keeps_set : (xs : List Found) (place : ℕ) (f g : Found) → slice_get xs place ≡ Some f

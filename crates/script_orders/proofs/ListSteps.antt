@@ -23,10 +23,6 @@ get_push [] i x y h = let z : None ≡ Some x = h in cc
 get_push (z ∷ xs) zero x y h = h
 get_push (z ∷ xs) (suc i) x y h = get_push xs i x y h
 
-pub get_last : {A : Type 0} (xs : List A) (y : A) → slice_get (xs ++ y ∷ []) (length xs) ≡ Some y
-get_last [] y = refl
-get_last (z ∷ xs) y = get_last xs y
-
 -- an element of a list with one more
 pub get_pushed : {A : Type 0} (xs : List A) (i : ℕ) (x y : A) → slice_get (xs ++ y ∷ []) i ≡ Some x
     → (slice_get xs i ≡ Some x) ⊎ ((i ≡ length xs) × (y ≡ x))

@@ -12,6 +12,7 @@ pub mod WaitFree
 pub mod Replays
 pub mod MapEntries
 pub mod AtomicMap
+pub use Rattle.sh_history.proofs.ByPlace
 pub use Rattle.sh_step.proofs.ConditionLaws
 pub use Rattle.sh_step.proofs.FootstepLaws
 pub use Rattle.sh_step.proofs.PartTests

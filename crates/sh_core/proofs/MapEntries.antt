@@ -5,15 +5,8 @@ use Rattle.std.specs.Prelude.{IsSome, if◌then◌else◌}
 use Rattle.sh_history.specs.declared.entry.Entry.{Entry}
 use Rattle.sh_history.specs.declared.entry.Entry.TheVariants.{Insert, Got, Gone, Crowded, Removed, Released}
 use Rattle.sh_history.specs.History.{value_of, is_removed, is_removal_of, present_value, Allowed}
-use Rattle.sh_history.proofs.LogLaws.{value_of-append_some, value_of-append_none}
+use Rattle.sh_history.proofs.LogLaws.{value_of-append_none, value_stays}
 use Rattle.sh_core.specs.AtomicMap.{Finds, made_by}
-
-value_snoc : (log : List Entry) (t : Entry) (j : ℕ) → value_of (t ∷ []) j ≡ None → value_of (log ++ t ∷ []) j
-    ≡ value_of log j
-value_snoc log t j none = go (value_of log j) refl where
-  go : (o : Option (List ℕ)) → value_of log j ≡ o → value_of (log ++ t ∷ []) j ≡ value_of log j
-  go (Some v) is = value_of-append_some log (t ∷ []) j v is ∙ sym is
-  go None is = value_of-append_none log (t ∷ []) j is ∙ (none ∙ sym is)
 
 or_false : (b : Bool) → (b || false) ≡ b
 or_false true = refl
@@ -33,7 +26,7 @@ removed_snoc (x ∷ log) t j = ap (λ b. is_removal_of j x || b) (removed_snoc l
 stays : (log : List Entry) (t : Entry) (j : ℕ) → value_of (t ∷ []) j ≡ None → is_removal_of j t ≡ false
     → present_value (log ++ t ∷ []) j ≡ present_value log j
 stays log t j none kept =
-    let v = value_snoc log t j none in
+    let v = value_stays log t j none in
     let r : is_removed (log ++ t ∷ []) j ≡ is_removed log j = removed_snoc log t j
     ∙ (ap (λ b. is_removed log j || b) kept ∙ or_false (is_removed log j)) in
     ap (λ b. if b then None else value_of (log ++ t ∷ []) j) r

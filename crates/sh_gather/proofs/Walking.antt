@@ -1,6 +1,6 @@
 -- The two loops: over the slots of a page, and along its stack.
-use Rattle.std.proofs.Common.{◌≡◌, ℕ, zero, suc, ◌+◌, ◌-◌, ◌/◌, ◌<◌, ◌≤◌, ◌&&◌, List, [], ◌∷◌, ◌++◌, length, sym, refl}
-use Rattle.std.proofs.Common.{ap, ◌∙◌, subst, append_assoc, arith, Option, Some, None, slice_get}
+use Rattle.std.proofs.Common.{◌≡◌, ℕ, ◌+◌, ◌-◌, ◌/◌, ◌<◌, ◌≤◌, ◌&&◌, List, [], ◌∷◌, ◌++◌, length, sym, refl}
+use Rattle.std.proofs.Common.{ap, ◌∙◌, subst, append_assoc, arith, Option, slice_get}
 use Rattle.std.specs.Prelude.{not}
 use Rattle.std.proofs.lemmas.List.{append-nil}
 use Rattle.sh_word.specs.Fields.{Fields, fields_of}
@@ -28,6 +28,7 @@ use Rattle.sh_gather.specs.Gathering.{IsGathered, NotedMore, NotesKeepHistories,
 use Rattle.sh_gather.specs.Gathering.{StatesAlone, with_state, WalkedTo}
 use Rattle.sh_gather.proofs.Leading.{Core, leads_before, leads_front, leading, laws, refined, rests, are_whole}
 use Rattle.sh_gather.proofs.PageNumbers.{walk_begins, walk_goes, walk_ends, walk_full}
+use Rattle.sh_table.proofs.ByPlace.{get_front, get_last}
 
 -- ---- a view that noted more
 
@@ -134,15 +135,6 @@ still_alone c a b st e h = subst (StatesAlone c) (sym e) (record
     { class = h.class; mine = h.mine; hand = h.hand; queued = h.queued })
 
 -- ---- what the walk notes
-
-get_front : {A : Type 0} (xs ys : List A) (i : ℕ) (x : A) → slice_get xs i ≡ Some x → slice_get (xs ++ ys) i ≡ Some x
-get_front [] ys i x e = absurd (let z : None ≡ Some x = e in cc)
-get_front (y ∷ xs) ys zero x e = e
-get_front (y ∷ xs) ys (suc i) x e = get_front xs ys i x e
-
-get_last : {A : Type 0} (xs : List A) (x : A) → slice_get (xs ++ x ∷ []) (length xs) ≡ Some x
-get_last [] x = refl
-get_last (y ∷ xs) x = get_last xs x
 
 still_noted : (v w : View) (place : Place) (n : ℕ) → NotedMore v w → IsNoted v place n → IsNoted w place n
 still_noted v w place n h k = (

@@ -42,6 +42,14 @@ value_of-append_none (Insert p k v ∷ xs) ys key h =
     (value_of-append_none xs ys key) h
 value_of-append_none (_ ∷ xs) ys key h = value_of-append_none xs ys key h
 
+-- an entry that says nothing of the key leaves its value
+pub value_stays : (log : List Entry) (e : Entry) (key : ℕ) → value_of (e ∷ []) key ≡ None
+    → value_of (log ++ e ∷ []) key ≡ value_of log key
+value_stays log e key none = go (value_of log key) refl where
+  go : (o : Option (List ℕ)) → value_of log key ≡ o → value_of (log ++ e ∷ []) key ≡ value_of log key
+  go (Some v) is = value_of-append_some log (e ∷ []) key v is ∙ sym is
+  go None is = value_of-append_none log (e ∷ []) key is ∙ (none ∙ sym is)
+
 -- a count, entry by entry
 pub count_by-cons : {X : Type 0} (p : X → Bool) (x : X) (xs : List X) → count_by p (x ∷ xs)
     ≡ cond (p x) 1 0 + count_by p xs

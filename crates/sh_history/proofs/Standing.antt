@@ -1,10 +1,10 @@
 -- What a history says of a key, by its entries.
 use Rattle.std.proofs.Common.{◌≡◌, ℕ, Bool, true, false, cond, List, [], ◌∷◌, ◌++◌, Some, suc, refl, sym, ◌∙◌, ap, take}
-use Rattle.std.proofs.Common.{drop, drop-cons, arith, rules, ◌+◌, ◌≤◌, append_assoc, zero-add}
+use Rattle.std.proofs.Common.{drop, drop-cons, arith, rules, ◌+◌, ◌≤◌, append_assoc, zero-add, map, subst}
 use Rattle.std.specs.Prelude.{◌==◌, ◌||◌, count_by}
 use Rattle.std.specs.List.{Contains}
 use Rattle.std.proofs.lemmas.List.Elements.{Contains-append_left, Contains-append_right, Contains-push}
-use Rattle.std.proofs.lemmas.List.{take-append-drop, append-nil}
+use Rattle.std.proofs.lemmas.List.{take-append-drop, append-nil, map-append}
 use Rattle.std.proofs.lemmas.List.Folds.{list_any_at}
 use Rattle.sh_history.specs.declared.entry.Entry.{Entry}
 use Rattle.sh_history.specs.declared.entry.Entry.TheVariants.{Insert, Got, Removed}
@@ -24,6 +24,14 @@ pub splits_at : {X : Type 0} (xs : List X) (x : X) → Contains xs x → (front 
     × (xs ≡ front ++ x ∷ rest)
 splits_at xs x (k, inside, is) =
     (take k xs, drop (suc k) xs, sym (take-append-drop k xs) ∙ rw (drop-cons xs k x inside, is) refl)
+
+-- what is in a list is, mapped, in the mapped list
+pub contains_map : {A B : Type 0} (f : A → B) (xs : List A) (x : A) → Contains xs x → Contains (map f xs) (f x)
+contains_map f xs x c =
+    let s = splits_at xs x c in
+    let is : map f xs ≡ map f s.0 ++ f x ∷ map f s.1 = ap (map f) s.2 ∙ map-append f s.0 (x ∷ s.1) in
+    subst (λ (l : List _). Contains l (f x)) (sym is) (Contains-append_right (map f s.0) (f x ∷ map f s.1) (f x)
+    (Contains-append_left (f x ∷ []) (map f s.1) (f x) (Contains-push [] (f x))))
 
 issued_later : (x : Entry) (xs : List Entry) (key : ℕ) (value : List ℕ) → IsIssuedWith xs key value
     → IsIssuedWith (x ∷ xs) key value
@@ -75,15 +83,15 @@ has_removal [] key is = absurd (let h : ⊥ = cc in h)
 has_removal (Removed p k ∷ xs) key is = removed_here (k == key) p k key xs refl (has_removal xs key) is
 has_removal (x ∷ xs) key is = removed_later x xs key (has_removal xs key is)
 
-key_itself : (key : ℕ) → (key == key) ≡ true
-key_itself key = search rules
+pub eqb_self : (key : ℕ) → (key == key) ≡ true
+eqb_self key = search rules
 
 pub removed_has_removal : RemovedHasRemoval
 removed_has_removal history key = (
   has_removal history key,
   λ h.
       let y = Removed h.0 key in
-      list_any_at (is_removal_of key) history h.1.0 y h.1.1 (ap (is_removal_of key) h.1.2 ∙ key_itself key),
+      list_any_at (is_removal_of key) history h.1.0 y h.1.1 (ap (is_removal_of key) h.1.2 ∙ eqb_self key),
 )
 
 pub releases_are_got : ReleasesAreGot

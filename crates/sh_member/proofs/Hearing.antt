@@ -2,9 +2,8 @@
 use Rattle.std.proofs.Common.{◌≡◌, ℕ, ◌++◌, ◌∷◌, [], List, refl, ap, sym, ◌∙◌, subst, arith, map, Result, Ok, Err}
 use Rattle.std.specs.Prelude.{IfOk}
 use Rattle.std.specs.List.{Contains}
-use Rattle.std.proofs.lemmas.List.{map-append}
 use Rattle.std.proofs.lemmas.List.Elements.{Contains-append_left, Contains-append_right, Contains-push}
-use Rattle.sh_table.proofs.Standing.{splits_at}
+use Rattle.sh_table.proofs.Standing.{contains_map}
 use Rattle.sh_table.specs.Entry.TheVariants as entry
 use Rattle.sh_table.specs.LogEntry.{LogEntry}
 use Rattle.sh_table.specs.LogEntry.TheVariants.{Known}
@@ -22,13 +21,6 @@ use Rattle.sh_pass.specs.Passes.{Caller}
 use Rattle.sh_pass.specs.Receipts.{receipt_by, heeded}
 use Rattle.sh_member.specs.Readers.{FetchDoes}
 use Rattle.sh_member.specs.ToldKeys.{CoversInsert, TellsOfInsert, IsAsInserted, GoneIfRemoved}
-
-contains_map : {A B : Type 0} (f : A → B) (xs : List A) (x : A) → Contains xs x → Contains (map f xs) (f x)
-contains_map f xs x c =
-    let s = splits_at xs x c in
-    let is : map f xs ≡ map f s.0 ++ f x ∷ map f s.1 = ap (map f) s.2 ∙ map-append f s.0 (x ∷ s.1) in
-    subst (λ (l : List _). Contains l (f x)) (sym is) (Contains-append_right (map f s.0) (f x ∷ map f s.1) (f x)
-    (Contains-append_left (f x ∷ []) (map f s.1) (f x) (Contains-push [] (f x))))
 
 -- a receipt of a pass whose last result is the key of an insert
 pub tells_own : (key : ℕ) (value : List ℕ) (v w : Caller) → w.view.own.log

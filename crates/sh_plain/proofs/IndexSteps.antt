@@ -1,5 +1,5 @@
 -- The index says what the entries say, also after an entry is added.
-use Rattle.std.proofs.Common.{◌≡◌, ◌≢◌, ℕ, ◌+◌, ◌-◌, ◌<◌, ◌≤◌, Bool, true, false, cond, List, [], ◌∷◌, ◌++◌, Option}
+use Rattle.std.proofs.Common.{◌≡◌, ◌≢◌, ℕ, ◌+◌, ◌-◌, ◌<◌, ◌≤◌, Bool, true, false, cond, List, [], ◌∷◌, ◌++◌}
 use Rattle.std.proofs.Common.{Some, None, refl, sym, ◌∙◌, ap, arith, rules, length, get_or, set}
 use Rattle.std.specs.Prelude.{◌==◌, ◌||◌, count_by}
 use Rattle.std.specs.List.{swap_remove}
@@ -10,7 +10,7 @@ use Rattle.sh_history.specs.declared.entry.Entry.{Entry}
 use Rattle.sh_history.specs.declared.entry.Entry.TheVariants.{Insert, Got, Gone, Crowded, Removed, Released}
 use Rattle.sh_history.specs.History.{value_of, is_removed, is_removal_of, is_got_by, is_release_by, is_got_of}
 use Rattle.sh_history.specs.History.{is_release_of, is_got_from, is_release_from}
-use Rattle.sh_history.proofs.LogLaws.{value_of-append_none, value_of-append_some, count_by-push}
+use Rattle.sh_history.proofs.LogLaws.{value_of-append_none, count_by-push, value_stays}
 use Rattle.sh_plain.specs.declared.index.Issued.{Issued}
 use Rattle.sh_plain.specs.declared.index.Held.{Held}
 use Rattle.sh_plain.specs.Index.{issued_at, issued_value, issued_removed, is_hold_by, is_hold_of, is_hold_on, IsIndex}
@@ -19,16 +19,6 @@ use Rattle.sh_plain.proofs.Issued.{past_is_not_issued, next_is_issued, others_st
 use Rattle.sh_plain.proofs.Issued.{others_stay_known}
 
 -- ---- what an entry adds to a history
-
-value_after : (entries : List Entry) (e : Entry) (key : ℕ) (o : Option (List ℕ)) → value_of entries key ≡ o
-    → value_of (e ∷ []) key ≡ None → value_of (entries ++ e ∷ []) key ≡ o
-value_after entries e key None is none = value_of-append_none entries (e ∷ []) key is ∙ none
-value_after entries e key (Some value) is none = value_of-append_some entries (e ∷ []) key value is
-
--- an entry that says nothing of the key leaves its value
-value_stays : (entries : List Entry) (e : Entry) (key : ℕ) → value_of (e ∷ []) key ≡ None
-    → value_of (entries ++ e ∷ []) key ≡ value_of entries key
-value_stays entries e key none = value_after entries e key (value_of entries key) refl none
 
 removed_after : (entries : List Entry) (e : Entry) (key : ℕ) → is_removed (entries ++ e ∷ []) key
     ≡ (is_removed entries key || is_removed (e ∷ []) key)

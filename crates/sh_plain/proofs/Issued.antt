@@ -5,6 +5,7 @@ use Rattle.std.specs.Prelude.{nat_lt, slice_get, IsSome}
 use Rattle.std.proofs.lemmas.Option.{slice_get_past, slice_get_within}
 use Rattle.sh_plain.specs.declared.index.Issued.{Issued}
 use Rattle.sh_plain.specs.Index.{issued_at, issued_value}
+use Rattle.sh_history.proofs.ByPlace.{get_last}
 
 slice_get_push_other : {X : Type 0} (xs : List X) (x : X) (i : ℕ) → i ≢ length xs → slice_get (xs ++ x ∷ []) i
     ≡ slice_get xs i
@@ -12,10 +13,6 @@ slice_get_push_other [] x zero ne = absurd (ne refl)
 slice_get_push_other [] x (suc i) ne = refl
 slice_get_push_other (y ∷ ys) x zero ne = refl
 slice_get_push_other (y ∷ ys) x (suc i) ne = slice_get_push_other ys x i (λ e. ne (ap suc e))
-
-slice_get_push_same : {X : Type 0} (xs : List X) (x : X) → slice_get (xs ++ x ∷ []) (length xs) ≡ Some x
-slice_get_push_same [] x = refl
-slice_get_push_same (y ∷ ys) x = slice_get_push_same ys x
 
 slice_get_set_other : {X : Type 0} (xs : List X) (x : X) (i j : ℕ) → j ≢ i → slice_get (set xs i x) j ≡ slice_get xs j
 slice_get_set_other [] x i j ne = refl
@@ -61,7 +58,7 @@ module _ (first : ℕ) (issued : List Issued) where
   pub next_is_issued : (x : Issued) → issued_at first (issued ++ x ∷ []) (first + length issued) ≡ Some x
   next_is_issued x =
       let at : first + length issued - first ≡ length issued = omega arith in
-      rw (at_place (issued ++ x ∷ []) (first + length issued) (omega arith), at) (slice_get_push_same issued x)
+      rw (at_place (issued ++ x ∷ []) (first + length issued) (omega arith), at) (get_last issued x)
 
   by_place : (b : Bool) (key : ℕ) (xs ys : List Issued) → nat_lt key first ≡ b
       → (first ≤ key → slice_get xs (key - first) ≡ slice_get ys (key - first))
