@@ -20,8 +20,9 @@ use Rattle.sh_table.specs.Tales.{OwnerStands}
 use Rattle.sh_pass.specs.Passes.{Caller}
 use Rattle.sh_pass.specs.Owners.{OwnerDid, OwnerActs, OnPage, SamePages, NonePut, NoneArmed, own_body, seen_page}
 use Rattle.sh_pass.specs.Owners.{seen_bell, heap_page, page_rung, bell_taken, bell_followed, page_on_bell}
-use Rattle.sh_pass.proofs.OwnNotes.{self, disarmed_else}
+use Rattle.sh_pass.proofs.OwnNotes.{disarmed_else}
 use Rattle.sh_pass.proofs.OwnSteps.{still, more, acts, bell_after, page_after, pages_same}
+use Rattle.sh_table.proofs.Standing.{eqb_self}
 
 -- the item that a word of a bell names, over the heap and in its shard
 item_named : (plan : Plan) (n k word : ℕ) → cond (nat_lt (over_heap plan n k word) k) None
@@ -47,7 +48,8 @@ module _ (layout : Layout) (v w : Caller) where
       let b : Body = record p { bell_cursor = top_item (over_heap plan shard 1 n) } in (
         acts layout action.TakeBell m n v w d b refl Idle [] refl refl idle refl refl,
         bell_after layout action.TakeBell m n v w d b refl shard (page_on_bell v shard 1 n) _ _
-            (item_named plan shard 1 n) (more layout action.TakeBell m n v w d b refl (takes_bell shard) (self shard))
+            (item_named plan shard 1 n)
+            (more layout action.TakeBell m n v w d b refl (takes_bell shard) (eqb_self shard))
             (still layout action.TakeBell m n v w d b refl (meets_bell plan shard) refl),
         pages_same layout action.TakeBell m n v w d b refl refl refl refl refl (λ r. refl) (λ r. refl),
         still layout action.TakeBell m n v w d b refl puts_slot refl,
@@ -76,7 +78,7 @@ module _ (layout : Layout) (v w : Caller) (x : PageName) (own : OwnerStands (pla
           bell_after layout action.FollowBell m n v w d p is x.shard p.bell_cursor _ _ refl
               (still layout action.FollowBell m n v w d p is (takes_bell x.shard) refl)
               (more layout action.FollowBell m n v w d p is (meets_bell plan x.shard)
-              (and_from (home plan q == x.shard) (n == 0) (ap (λ k. k == x.shard) at ∙ self x.shard) none)),
+              (and_from (home plan q == x.shard) (n == 0) (ap (λ k. k == x.shard) at ∙ eqb_self x.shard) none)),
           record {
             here = pages_same layout action.FollowBell m n v w d p is refl refl refl refl (λ r. refl) (λ r. refl) q;
             others = λ r ne. pages_same layout action.FollowBell m n v w d p is refl refl refl refl (λ r. refl)

@@ -1,5 +1,5 @@
 -- What a call leaves of what an owner knows.
-use Rattle.std.proofs.Common.{◌≡◌, ℕ, zero, suc, ◌+◌, ◌*◌, ◌/◌, ◌%◌, ◌<◌, ◌==◌, ◌&&◌, Bool, true, false, Option, Some}
+use Rattle.std.proofs.Common.{◌≡◌, ℕ, ◌+◌, ◌*◌, ◌/◌, ◌%◌, ◌<◌, ◌==◌, ◌&&◌, Bool, true, false, Option, Some}
 use Rattle.std.proofs.Common.{None, List, ◌∷◌, refl, ap, ◌∙◌, sym, subst, arith, mod-lt}
 use Rattle.std.proofs.lemmas.Bool.{false≢true}
 use Rattle.sh_table.specs.LogEntry.{LogEntry}
@@ -20,11 +20,13 @@ use Rattle.sh_step.specs.Kinds.{kind_of_action}
 use Rattle.sh_step.specs.Plans.{Plan, plan_of, home, local}
 use Rattle.sh_step.proofs.PartTests.{owns_is}
 use Rattle.sh_step.proofs.ListLaws.{has_front, without_front}
+use Rattle.sh_step.proofs.PageLaws.{shards_have_pages}
 use Rattle.sh_table.specs.Tales.{OwnerStands, ViewStands}
 use Rattle.sh_pass.specs.Growing.{Grows, SameTale, SameOwn, CallsAlone, IsOfShard, is_of_call, with_slot}
 use Rattle.sh_pass.specs.Passes.{Caller}
 use Rattle.sh_pass.specs.Owners.{CallLeaves, SlotCame, SameBells, SeenPage, own_body, seen_page, page_with}
-use Rattle.sh_pass.proofs.OwnNotes.{self, one_more, one_more_else}
+use Rattle.sh_pass.proofs.OwnNotes.{one_more, one_more_else}
+use Rattle.sh_table.proofs.Standing.{eqb_self}
 
 -- ---- no step of a call takes from a page or from a bell, follows or arms
 
@@ -75,10 +77,6 @@ no_arm t e = of_arm t.action e
 page_split : (pages q : ℕ) → 0 < pages → q ≡ q / pages * pages + q % pages
 page_split pages q some = omega arith
 
-shards_have_pages : (s p q : ℕ) → q < s * p → 0 < p
-shards_have_pages s zero q less = absurd (omega arith)
-shards_have_pages s (suc p) q less = omega arith
-
 local_lt : (plan : Plan) (q : ℕ) → 0 < plan.pages → local plan q < plan.pages
 unfolding local
 local_lt plan q some = mod-lt q some
@@ -120,7 +118,7 @@ module _ (layout : Layout) (v w : Caller) (same : SameTale v.view w.view) (alone
   slot (Some x) own idle at stands =
       let p : Body = own_body v in
       let mine : (own_body w).mine ≡ x ∷ p.mine = own.mine in
-      let here : same_slot x x ≡ true = rw (self x.page, self x.slot) refl in
+      let here : same_slot x x ≡ true = rw (eqb_self x.page, eqb_self x.slot) refl in
       let m = stands.mine x (ap (has (same_slot x)) mine ∙ has_front (same_slot x) x p.mine here) in
       let before : has (same_slot x) p.mine ≡ false =
       ap (has (same_slot x)) (sym (without_front (same_slot x) x p.mine here))

@@ -1,6 +1,6 @@
 -- What is noted of pages and slots after a change of the lists.
 use Rattle.std.proofs.Common.{◌≡◌, ◌≢◌, ℕ, zero, suc, ◌+◌, ◌-◌, ◌==◌, ◌&&◌, ◌||◌, Bool, true, false, cond, Some, None}
-use Rattle.std.proofs.Common.{List, [], ◌∷◌, ◌++◌, refl, ap, ◌∙◌, sym, subst, arith, eqb-true, eq-eqb, ne_eqb}
+use Rattle.std.proofs.Common.{List, [], ◌∷◌, ◌++◌, refl, ap, ◌∙◌, sym, subst, arith, eqb-true, ne_eqb}
 use Rattle.std.proofs.Common.{true≢false}
 use Rattle.std.specs.Prelude.{nat_lt, nat_le, not}
 use Rattle.std.proofs.lemmas.Bool.{and_parts, and_right}
@@ -11,9 +11,7 @@ use Rattle.sh_slots.specs.Slots.{same_slot, slot_refs}
 use Rattle.sh_step.specs.Collections.{has, noted, without, off}
 use Rattle.sh_step.specs.Rows.{point, unpoint}
 use Rattle.sh_step.proofs.ListLaws.{has_in_both}
-
-pub self : (n : ℕ) → (n == n) ≡ true
-self n = eq-eqb n n refl
+use Rattle.sh_table.proofs.Standing.{eqb_self}
 
 pub noted_point : (k q n : ℕ) (xs : List (ℕ × ℕ)) → noted q xs ≡ None → noted q (point k q n xs)
     ≡ cond (nat_lt n k) None (Some (n - k))
@@ -21,7 +19,7 @@ unfolding noted
 noted_point k q n xs e = go (nat_lt n k) where
   go : (b : Bool) → noted q (cond b xs ((q, n - k) ∷ xs)) ≡ cond b None (Some (n - k))
   go true = e
-  go false = ap (λ b. cond b (Some (n - k)) (noted q xs)) (self q)
+  go false = ap (λ b. cond b (Some (n - k)) (noted q xs)) (eqb_self q)
 
 pub noted_point_else : (k q n r : ℕ) (xs : List (ℕ × ℕ)) → r ≢ q → noted r (point k q n xs) ≡ noted r xs
 unfolding noted
@@ -71,7 +69,7 @@ at q s = record { page = q; slot = s }
 pub one_more : (q s t : ℕ) (xs : List SlotRef) → has (same_slot (at q t)) (at q s ∷ xs)
     ≡ ((t == s) || has (same_slot (at q t)) xs)
 unfolding has
-one_more q s t xs = ap (λ b. (b && (t == s)) || has (same_slot (at q t)) xs) (self q)
+one_more q s t xs = ap (λ b. (b && (t == s)) || has (same_slot (at q t)) xs) (eqb_self q)
 
 pub one_more_else : (q r s t : ℕ) (xs : List SlotRef) → r ≢ q → has (same_slot (at r t)) (at q s ∷ xs)
     ≡ has (same_slot (at r t)) xs
@@ -109,7 +107,7 @@ none_off q t (x ∷ xs) = go (x.page == q) refl (none_off q t xs) where
       → has (same_slot (at q t)) (cond b (off (λ x. x.page == q) xs) (x ∷ off (λ x. x.page == q) xs)) ≡ false
   go true e rest = rest
   go false e rest = ap (λ b. (b && (t == x.slot)) || has (same_slot (at q t)) (off (λ x. x.page == q) xs))
-      (ne_eqb q x.page (λ k. let z : true ≡ false = (sym (self q) ∙ ap (λ i. i == q) k) ∙ e in cc)) ∙ rest
+      (ne_eqb q x.page (λ k. let z : true ≡ false = (sym (eqb_self q) ∙ ap (λ i. i == q) k) ∙ e in cc)) ∙ rest
 
 off_else : (q r t : ℕ) (xs : List SlotRef) → r ≢ q → has (same_slot (at r t)) (off (λ x. x.page == q) xs)
     ≡ has (same_slot (at r t)) xs
@@ -130,7 +128,7 @@ slots_have q t s zero = go (nat_le s t) refl where
   go : (b : Bool) → nat_le s t ≡ b → false ≡ (b && nat_lt t (s + 0))
   go true e = let z : nat_lt t (s + 0) ≡ false = grind (arith, nat_tests) in sym z
   go false e = refl
-slots_have q t s (suc n) = ap (λ b. (b && (t == s)) || has (same_slot (at q t)) (slot_refs q (s + 1) n)) (self q)
+slots_have q t s (suc n) = ap (λ b. (b && (t == s)) || has (same_slot (at q t)) (slot_refs q (s + 1) n)) (eqb_self q)
     ∙ (ap (λ b. (t == s) || b) (slots_have q t (s + 1) n) ∙ go (t == s) refl) where
       two : (b : Bool) → nat_le (s + 1) t ≡ b → (t == s) ≡ false → (b && nat_lt t (s + 1 + n))
           ≡ (nat_le s t && nat_lt t (s + suc n))
@@ -181,15 +179,15 @@ noted_else q r n xs ne = ap (λ b. cond b (Some n) (noted r xs)) (ne_eqb q r (λ
 pub none_mine : (xs : List SlotRef) → ((x : SlotRef) → has (same_slot x) xs ≡ false) → xs ≡ []
 unfolding has
 none_mine [] h = refl
-none_mine (x ∷ xs) h = absurd (true≢false (sym (rw (self x.page, self x.slot) refl) ∙ h x))
+none_mine (x ∷ xs) h = absurd (true≢false (sym (rw (eqb_self x.page, eqb_self x.slot) refl) ∙ h x))
 
 pub none_noted_at : (xs : List (ℕ × ℕ)) → ((q : ℕ) → noted q xs ≡ None) → xs ≡ []
 unfolding noted
 none_noted_at [] h = refl
-none_noted_at (x ∷ xs) h = absurd (let e : Some x.1 ≡ None = sym (ap (λ b. cond b (Some x.1) (noted x.0 xs)) (self x.0))
-    ∙ h x.0 in cc)
+none_noted_at (x ∷ xs) h =
+    absurd (let e : Some x.1 ≡ None = sym (ap (λ b. cond b (Some x.1) (noted x.0 xs)) (eqb_self x.0)) ∙ h x.0 in cc)
 
 pub none_armed : (xs : List ℕ) → ((q : ℕ) → has (λ x. x == q) xs ≡ false) → xs ≡ []
 unfolding has
 none_armed [] h = refl
-none_armed (x ∷ xs) h = absurd (true≢false (sym (ap (λ b. b || has (λ y. y == x) xs) (self x)) ∙ h x))
+none_armed (x ∷ xs) h = absurd (true≢false (sym (ap (λ b. b || has (λ y. y == x) xs) (eqb_self x)) ∙ h x))

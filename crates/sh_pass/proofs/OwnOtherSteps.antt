@@ -22,8 +22,8 @@ use Rattle.sh_table.specs.Views.{key_read, logged_of}
 use Rattle.sh_pass.specs.Passes.{Caller}
 use Rattle.sh_pass.specs.Owners.{OwnerDid, OwnerActs, SamePages, SameBells, NonePut, NoneArmed, OwnerTries, OwnerAdopts}
 use Rattle.sh_pass.specs.Owners.{Left, own_body, seen_page, published}
-use Rattle.sh_pass.proofs.OwnNotes.{self}
 use Rattle.sh_pass.proofs.OwnSteps.{body_is, still, more, same_tale, log_is, acts, bells_same, page_after, pages_same}
+use Rattle.sh_table.proofs.Standing.{eqb_self}
 
 module _ (layout : Layout) (v w : Caller) where
   pub fill_does : (x : SlotRef) (value : List ℕ) (i class_word : ℕ) → OwnerDid layout action.Fill
@@ -95,7 +95,7 @@ module _ (layout : Layout) (v w : Caller) where
             step = footstep_of a (row_by layout v.view m) 0;
             more = [];
             is = ap (λ (u : View). u.own.trail) d.view;
-            free = and_from (k == k) (0 == 0) (self k) refl;
+            free = and_from (k == k) (0 == 0) (eqb_self k) refl;
           };
           owned = ap (λ (c : Body). c.owned) is;
           bell = ap (λ (c : Body). c.bell_cursor) is;
@@ -117,7 +117,7 @@ module _ (layout : Layout) (v w : Caller) where
       (record p { owned = Some k; classes = []; mine = []; cursors = []; armed = []; bell_cursor = None }) p)
       (ne_eqb n 0 (λ e. omega arith)) in
       let met = more layout a m n v w d p is (meets_owner k)
-      (and_from (k == k) (n == 1) (self k) (ap (λ z. z == 1) one)) in (
+      (and_from (k == k) (n == 1) (eqb_self k) (ap (λ z. z == 1) one)) in (
         tries a m n d p is refl idle refl refl,
         (
           ap (λ (c : Body). c.owned) (body_is layout a m n v w d p is) ∙ left,

@@ -26,10 +26,11 @@ use Rattle.sh_pass.specs.Passes.{Caller}
 use Rattle.sh_pass.specs.Owners.{OwnerDid, OwnerActs, OnPage, SameBells, NonePut, NoneArmed, own_body, seen_page}
 use Rattle.sh_pass.specs.Owners.{heap_page, heap_slot, slot_in, page_taken, page_armed, page_followed, page_without}
 use Rattle.sh_pass.specs.Owners.{page_given, page_noted}
-use Rattle.sh_pass.proofs.OwnNotes.{self, noted_point, noted_point_else, noted_unpoint_else, disarmed, disarmed_else}
+use Rattle.sh_pass.proofs.OwnNotes.{noted_point, noted_point_else, noted_unpoint_else, disarmed, disarmed_else}
 use Rattle.sh_pass.proofs.OwnNotes.{armed_else, one_more, one_more_else, one_less, one_less_else, all_given, given_else}
 use Rattle.sh_pass.proofs.OwnNotes.{noted_else}
 use Rattle.sh_pass.proofs.OwnSteps.{still, more, acts, bells_same, page_after}
+use Rattle.sh_table.proofs.Standing.{eqb_self}
 
 module _ (layout : Layout) (v w : Caller) (x : PageName) (own : OwnerStands (plan_of layout v.view.shape) (own_body v))
   where
@@ -104,7 +105,7 @@ module _ (layout : Layout) (v w : Caller) (x : PageName) (own : OwnerStands (pla
           record {
             here = page_after layout a m n v w d b refl q (page_taken (seen_page v q) n) (λ s. refl)
                 (noted_point 1 q (top_of n) p.cursors none) (disarmed q p.armed (is_armed n) (own.armed_once q)) refl
-                (more layout a m n v w d b refl (takes_page q) (self q))
+                (more layout a m n v w d b refl (takes_page q) (eqb_self q))
                 (still layout a m n v w d b refl (meets_page q) refl);
             others = λ r ne. page_after layout a m n v w d b refl r (seen_page v r) (λ s. refl)
                 (noted_point_else 1 q (top_of n) r p.cursors ne) (disarmed_else q r p.armed (is_armed n) ne) refl
@@ -127,8 +128,8 @@ module _ (layout : Layout) (v w : Caller) (x : PageName) (own : OwnerStands (pla
           bells_same layout a m n v w d b refl refl (λ k. refl) (λ k. refl),
           record {
             here = page_after layout a m n v w d b refl q (page_armed (seen_page v q) n) (λ s. refl)
-                (noted_point 1 q (top_of n) p.cursors none) (has_front (λ y. y == q) q p.armed (self q)) refl
-                (more layout a m n v w d b refl (takes_page q) (self q))
+                (noted_point 1 q (top_of n) p.cursors none) (has_front (λ y. y == q) q p.armed (eqb_self q)) refl
+                (more layout a m n v w d b refl (takes_page q) (eqb_self q))
                 (still layout a m n v w d b refl (meets_page q) refl);
             others = λ r ne. page_after layout a m n v w d b refl r (seen_page v r) (λ s. refl)
                 (noted_point_else 1 q (top_of n) r p.cursors ne) (armed_else q r p.armed ne) refl
@@ -154,7 +155,7 @@ module _ (layout : Layout) (v w : Caller) (x : PageName) (own : OwnerStands (pla
           record {
             here = page_after layout a m n v w d p is q (record (seen_page v q) { met = met q v.view.own.trail + 1 })
                 (λ t. refl) refl refl refl (still layout a m n v w d p is (takes_page q) refl)
-                (more layout a m n v w d p is (meets_page q) (and_from (q == q) (n == 0) (self q) none));
+                (more layout a m n v w d p is (meets_page q) (and_from (q == q) (n == 0) (eqb_self q) none));
             others = λ r ne. page_after layout a m n v w d p is r (seen_page v r) (λ t. refl) refl refl refl
                 (still layout a m n v w d p is (takes_page r) refl)
                 (still layout a m n v w d p is (meets_page r) (and_left (q == r) (n == 0) (other r ne)));

@@ -23,19 +23,19 @@ page_number_lt plan n p a b =
 pub page_within : (plan : Plan) (y : PageName) → HasPage plan y → page_of plan y < heap_pages plan
 page_within plan y h = page_number_lt plan y.shard y.page h.shard h.page
 
-some_pages : (shards pages q : ℕ) → q < shards * pages → 0 < pages
-some_pages shards zero q below = absurd (omega arith)
-some_pages shards (suc pages) q below = omega arith
+pub shards_have_pages : (shards pages q : ℕ) → q < shards * pages → 0 < pages
+shards_have_pages shards zero q below = absurd (omega arith)
+shards_have_pages shards (suc pages) q below = omega arith
 
 pub local_lt : (plan : Plan) (q : ℕ) → q < heap_pages plan → local plan q < plan.pages
 unfolding local
-local_lt plan q below = mod_below q plan.pages (some_pages plan.shards plan.pages q below)
+local_lt plan q below = mod_below q plan.pages (shards_have_pages plan.shards plan.pages q below)
 
 -- a page of the heap has a name, which names it
 pub has_page : (plan : Plan) (q : ℕ) → q < heap_pages plan → HasPage plan (page_name plan q)
 unfolding home
 has_page plan q below = record {
-  shard = home_is_shard plan.pages plan.shards q (some_pages plan.shards plan.pages q below) below;
+  shard = home_is_shard plan.pages plan.shards q (shards_have_pages plan.shards plan.pages q below) below;
   page = local_lt plan q below;
 }
 

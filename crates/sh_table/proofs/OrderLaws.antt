@@ -31,7 +31,7 @@ each_at : {A : Type 0} (P : A → Type 0) (front : List A) (x : A) (rest : List 
 each_at P [] x rest h = h.0
 each_at P (y ∷ ys) x rest h = each_at P ys x rest h.1
 
-each_in : {A : Type 0} (P : A → Type 0) (xs : List A) (x : A) → Contains xs x → Each P xs → P x
+pub each_in : {A : Type 0} (P : A → Type 0) (xs : List A) (x : A) → Contains xs x → Each P xs → P x
 each_in P xs x c h = let s = splits_at xs x c in each_at P s.0 x s.1 (subst (Each P) s.2 h)
 
 zip_cut : {A B : Type 0} (R : A → B → Type 0) (front : List A) (x : A) (rest : List A) (ys : List B)
