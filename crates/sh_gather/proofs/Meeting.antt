@@ -3,20 +3,16 @@ use Rattle.std.proofs.Common.{◌≡◌, ℕ, ◌<◌, ◌||◌, ◌==◌, Bool,
 use Rattle.std.proofs.Common.{subst}
 use Rattle.std.proofs.Math.Bool.{or_assoc, or_comm}
 use Rattle.sh_table.specs.Seats.{Heap}
-use Rattle.sh_table.specs.declared.view.Told.{Told}
 use Rattle.sh_table.specs.declared.view.View.{View}
 use Rattle.sh_table.specs.Views.{joined_view, names, names_told, told_of}
 use Rattle.sh_table.specs.Whole.{IsWhole}
 use Rattle.sh_pass.specs.Passes.{AreAll, AreOf, Caller, named_by}
 use Rattle.sh_gather.specs.Gathering.{met_view}
-
-names_told_append : (a : ℕ) (ts us : List Told) → names_told a (ts ++ us) ≡ names_told a ts || names_told a us
-names_told_append a [] us = refl
-names_told_append a (t ∷ ts) us = ap (λ b. (t.pass == a) || b) (names_told_append a ts us)
-    ∙ sym (or_assoc (t.pass == a) (names_told a ts) (names_told a us))
+use Rattle.sh_pass.proofs.Tales.{names_append}
+use Rattle.sh_pass.proofs.Together.{named_behind}
 
 names_joined : (a : ℕ) (v w : View) → names (joined_view v w) a ≡ names v a || names w a
-names_joined a v w = ap (λ b. (v.pass == a) || b) (names_told_append a v.told (told_of w ∷ w.told))
+names_joined a v w = ap (λ b. (v.pass == a) || b) (names_append a v.told (told_of w ∷ w.told))
     ∙ sym (or_assoc (v.pass == a) (names_told a v.told) (names w a))
 
 or_false : (b : Bool) → b || false ≡ b
@@ -27,11 +23,6 @@ names_met : (a : ℕ) (v : View) (ps : List Caller) → names (met_view v ps) a 
 names_met a v [] = sym (or_false (names v a))
 names_met a v (p ∷ ps) = names_met a (joined_view v p.view) ps ∙ (ap (λ b. b || named_by ps a) (names_joined a v p.view)
     ∙ or_assoc (names v a) (names p.view a) (named_by ps a))
-
-named_behind : (ps : List Caller) (p : Caller) (a : ℕ) → named_by (ps ++ p ∷ []) a ≡ named_by ps a || names p.view a
-named_behind [] p a = or_false (names p.view a)
-named_behind (q ∷ ps) p a = ap (λ b. names q.view a || b) (named_behind ps p a)
-    ∙ sym (or_assoc (names q.view a) (named_by ps a) (names p.view a))
 
 shape_met : (v : View) (ps : List Caller) → (met_view v ps).shape ≡ v.shape
 shape_met v [] = refl

@@ -10,7 +10,7 @@ use Rattle.sh_table.specs.Views.{Each, names}
 use Rattle.sh_pass.specs.Passes.{AreOf, Caller, IsTally, named_by, newcomers}
 use Rattle.sh_pass.proofs.Tales.{max_or}
 
-named_behind : (ps : List Caller) (p : Caller) (a : ℕ) → named_by (ps ++ p ∷ []) a ≡ named_by ps a || names p.view a
+pub named_behind : (ps : List Caller) (p : Caller) (a : ℕ) → named_by (ps ++ p ∷ []) a ≡ named_by ps a || names p.view a
 named_behind [] p a = or-false (names p.view a)
 named_behind (q ∷ ps) p a = ap (λ b. names q.view a || b) (named_behind ps p a)
     ∙ sym (or_assoc (names q.view a) (named_by ps a) (names p.view a))
