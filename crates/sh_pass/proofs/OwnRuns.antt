@@ -23,8 +23,8 @@ use Rattle.sh_pass.specs.Owners.{heap_page, heap_slot}
 use Rattle.sh_pass.proofs.OwnMay.{home_is}
 use Rattle.sh_pass.proofs.SameTales.{later_same}
 
-aside_on : {v w u : Caller} → Aside v w → Aside w u → Aside v u
-aside_on a b = record {
+pub aside_then : {v w u : Caller} → Aside v w → Aside w u → Aside v u
+aside_then a b = record {
   heap = b.heap ∙ a.heap;
   same = later_same a.same b.same;
   owned = b.owned
@@ -35,7 +35,7 @@ aside_on a b = record {
 pub acts_on : {h k : Hand} {es fs : List LogEntry} {n m : ℕ} {v w u : Caller} (l : ℕ) → OwnerActs h es n v w
     → OwnerActs k fs m w u → n + m ≡ l → OwnerActs k (es ++ fs) l v u
 acts_on {es = es} {fs = fs} {v = v} l x y is = record {
-  aside = aside_on x.aside y.aside;
+  aside = aside_then x.aside y.aside;
   hand = y.hand;
   log = y.log ∙ (ap (λ (ls : List LogEntry). ls ++ fs) x.log ∙ append_assoc v.view.own.log es fs);
   steps = let a = x.steps in let b = y.steps in omega arith;

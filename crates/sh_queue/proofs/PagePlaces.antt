@@ -12,7 +12,7 @@ use Rattle.sh_queue.proofs.Times.{Distinct-from_times, times-le_concat, times-tw
 use Rattle.sh_queue.proofs.StandOnce.{times-all, times-opened}
 
 -- the numbers of a list are below n
-AllBelow-from_has : (n : ℕ) (xs : List ℕ) → ((k : ℕ) → has_number k xs ≡ true → k < n) → AllBelow n xs
+pub AllBelow-from_has : (n : ℕ) (xs : List ℕ) → ((k : ℕ) → has_number k xs ≡ true → k < n) → AllBelow n xs
 AllBelow-from_has n [] below = tt
 AllBelow-from_has n (x ∷ xs) below = (
   below x (has_number-here x xs),

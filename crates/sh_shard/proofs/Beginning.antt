@@ -17,8 +17,9 @@ use Rattle.sh_shard.specs.Pages.{shard_page, AdoptsShard}
 use Rattle.sh_shard.specs.Steps.{StepsAtMost}
 use Rattle.sh_shard.specs.Kept.{KeepsPage, KeepsPages}
 use Rattle.sh_shard.proofs.Keeping.{page_of, here_at, others_at}
-use Rattle.sh_shard.proofs.Sides.{aside_none, aside_then}
+use Rattle.sh_shard.proofs.Sides.{aside_none}
 use Rattle.sh_shard.proofs.PageSteps.{paged_of}
+use Rattle.sh_pass.proofs.OwnRuns.{aside_then}
 
 abbrev pub state_of : ℕ → PageState
 state_of n = record { lists = bare_lists; class_word = n; armed = false }

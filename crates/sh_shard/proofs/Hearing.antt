@@ -14,10 +14,11 @@ use Rattle.sh_shard.specs.Shards.{Sharded}
 use Rattle.sh_shard.specs.Searches.{Heard, Hears}
 use Rattle.sh_shard.specs.Works.{WorksThroughout, ReadFromBell}
 use Rattle.sh_shard.proofs.ClassWords.{word_of}
-use Rattle.sh_shard.proofs.Sides.{aside_none, aside_then}
+use Rattle.sh_shard.proofs.Sides.{aside_none}
 use Rattle.sh_shard.proofs.Works.{through_none, through_reads, through_stops, read_more, read_of}
 use Rattle.sh_shard.proofs.BellOrder.{stays_there, comes_there, each_same, any_same, each_append, any_append}
 use Rattle.sh_shard.proofs.BellOrder.{alone_none, alone_stops, reads_then, reads_last}
+use Rattle.sh_pass.proofs.OwnRuns.{aside_then}
 
 pub through_hears : (c : ℕ) (read : Bool) (o n : Sharded) → Hears c read o n → WorksThroughout o.pages n.pages
 through_hears c read o n h = record {

@@ -6,12 +6,12 @@ use Rattle.std.proofs.Math.Numerals.{lt_of_le_of_ne}
 use Rattle.sh_pass.specs.Passes.{Caller}
 use Rattle.sh_pass.specs.Owners.{SeenBell, Aside}
 use Rattle.sh_pass.proofs.SameTales.{later_same}
+use Rattle.sh_pass.proofs.OwnRuns.{aside_then}
 use Rattle.sh_shard.specs.Pages.{Paged, page_at, CursorStands, ShardLeft, StepsForRings, BlankFrom, BlankHasNothing}
 use Rattle.sh_shard.specs.Steps.{StepsAtMost}
 use Rattle.sh_shard.specs.Bounds.{leave_steps}
 use Rattle.sh_shard.specs.Works.{BellDone}
 use Rattle.sh_shard.specs.Leaving.{Collecting, PagesEmptied, AtRest, NotAtRest, Waiting, PutsAllBack}
-use Rattle.sh_shard.proofs.Sides.{aside_then}
 use Rattle.sh_shard.proofs.Bounding.{rings_most}
 use Rattle.sh_shard.proofs.BellEmptying.{collecting_more}
 

@@ -18,6 +18,7 @@ use Rattle.sh_states.specs.declared.states.PageState.{PageState}
 use Rattle.sh_shard.specs.Pages.{seen_class}
 use Rattle.sh_shard.specs.Kept.{KeepsPage}
 use Rattle.sh_shard.proofs.ClassWords.{word_of}
+use Rattle.sh_pass.proofs.Sums.Tests.{eqb-comm}
 
 pub class_kept : (st : PageState) (g : SeenPage) → KeepsPage st g → seen_class g ≡ st.class_word
 class_kept st g a = word_of g st.class_word a.class
@@ -62,12 +63,6 @@ or_under true true c = refl
 or_under true false c = refl
 or_under false b c = refl
 
-pub eqb_sym : (a b : ℕ) → (a == b) ≡ (b == a)
-eqb_sym a b = go (a == b) refl where
-  go : (t : Bool) → (a == b) ≡ t → t ≡ (b == a)
-  go true e = let z : (b == a) ≡ true = grind (arith, nat_tests) in sym z
-  go false e = let z : (b == a) ≡ false = grind (arith, nat_tests) in sym z
-
 pub kept_followed : (st : PageState) (g : SeenPage) (s n : ℕ) (l : Lists) → KeepsPage st g → (n ≡ 0 → ⊥)
     → g.cursor ≡ Some s → l ≡ record { free = st.lists.free ++ s ∷ []; local = st.lists.local; cursor = link_item n }
     → KeepsPage (record { lists = l; class_word = st.class_word; armed = st.armed }) (page_followed g s n)
@@ -84,7 +79,7 @@ kept_followed st g s n l a some at e = go (n == 0) refl where
         ∙ (has_number-append t (st.lists.free ++ s ∷ []) st.lists.local
         ∙ (ap (λ b. b || has_number t st.lists.local) (has_number-append t st.lists.free (s ∷ []))
         ∙ (or_swap (has_number t st.lists.free) (s == t) (has_number t st.lists.local)
-        ∙ (ap (λ b. b || (has_number t st.lists.free || has_number t st.lists.local)) (eqb_sym s t)
+        ∙ (ap (λ b. b || (has_number t st.lists.free || has_number t st.lists.local)) (eqb-comm s t)
         ∙ ap (λ b. (t == s) || b) (sym (has_number-append t st.lists.free st.lists.local) ∙ a.mine t)))));
     blank = a.blank;
     unread = λ z. let none : None ≡ Some s = sym (a.unread z) ∙ (sym a.cursor ∙ at) in cc;
@@ -117,7 +112,7 @@ kept_with st g s l a e = record {
   mine = λ t. ap (λ (z : Lists). has_number t (z.free ++ z.local)) e
       ∙ (has_number-append t st.lists.free (s ∷ st.lists.local)
       ∙ (or_under (has_number t st.lists.free) (s == t) (has_number t st.lists.local)
-      ∙ (ap (λ b. b || (has_number t st.lists.free || has_number t st.lists.local)) (eqb_sym s t)
+      ∙ (ap (λ b. b || (has_number t st.lists.free || has_number t st.lists.local)) (eqb-comm s t)
       ∙ ap (λ b. (t == s) || b) (sym (has_number-append t st.lists.free st.lists.local) ∙ a.mine t))));
   blank = a.blank;
   unread = λ z. ap (λ (z : Lists). z.cursor) e ∙ a.unread z;
@@ -167,7 +162,7 @@ kept_without st g x l a u = record {
   go : (t : ℕ) (b : Bool) → (t == x) ≡ b → has_number t (l.free ++ l.local) ≡ (g.mine t && not b)
   go t true e = let is : t ≡ x = grind (arith, nat_tests) in subst (λ z. has_number z (l.free ++ l.local) ≡ false)
       (sym is) (has_number-from_Misses x (l.free ++ l.local) u.apart) ∙ sym (and-false (g.mine t))
-  go t false e = ap (λ b. b || has_number t (l.free ++ l.local)) (sym (eqb_sym x t ∙ e))
+  go t false e = ap (λ b. b || has_number t (l.free ++ l.local)) (sym (eqb-comm x t ∙ e))
       ∙ (whole t ∙ sym (and-true (g.mine t)))
 
 -- the slot that is used is the owner's

@@ -9,9 +9,10 @@ use Rattle.sh_pass.specs.Owners.{SeenPage, SeenBell, Aside, page_without}
 use Rattle.sh_shard.specs.Pages.{Paged, page_at, own_slots, NothingMine, TakesSteps, BlankFrom, BlankHasNothing}
 use Rattle.sh_shard.specs.Steps.{StepsAtMost}
 use Rattle.sh_shard.specs.Leaving.{AtRest, AllAtRest, PutsOne, PutsBack, PutsAllBack}
-use Rattle.sh_shard.proofs.Sides.{aside_none, aside_then}
+use Rattle.sh_shard.proofs.Sides.{aside_none}
 use Rattle.sh_shard.proofs.Bounding.{plain_then, steps_none}
 use Rattle.sh_shard.proofs.Counts.{count_less, own_few}
+use Rattle.sh_pass.proofs.OwnRuns.{aside_then}
 
 pub puts_one : (o n : Paged) (p s : ℕ) → Aside o.owner n.owner → n.bell ≡ o.bell → n.owner.view.own.log
     ≡ o.owner.view.own.log → n.shard ≡ o.shard → n.count ≡ o.count → TakesSteps 2 o n

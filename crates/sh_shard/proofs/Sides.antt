@@ -4,7 +4,7 @@ use Rattle.sh_step.specs.declared.footstep.Footstep.{Footstep}
 use Rattle.sh_pass.specs.Growing.{SameTale}
 use Rattle.sh_pass.specs.Passes.{Caller}
 use Rattle.sh_pass.specs.Owners.{Aside, FoundFree}
-use Rattle.sh_pass.proofs.SameTales.{same_now, later_same}
+use Rattle.sh_pass.proofs.SameTales.{same_now}
 
 pub aside_none : (v : Caller) → Aside v v
 aside_none v = record {
@@ -13,14 +13,6 @@ aside_none v = record {
   owned =
       refl;
   holds = refl;
-}
-
-pub aside_then : {v w u : Caller} → Aside v w → Aside w u → Aside v u
-aside_then a b = record {
-  heap = b.heap ∙ a.heap;
-  same = later_same a.same b.same;
-  owned = b.owned ∙ a.owned;
-  holds = b.holds ∙ a.holds;
 }
 
 -- more steps leave the first one

@@ -7,12 +7,12 @@ use Rattle.sh_queue.specs.ListNumbers.{Distinct, AllBelow}
 use Rattle.sh_queue.proofs.Distincts.{length-le_from_Distinct}
 use Rattle.sh_queue.specs.Numbers.{has_number}
 use Rattle.sh_queue.proofs.Numbers.{has_number-here, has_number-else, has_number-from_Misses}
+use Rattle.sh_queue.proofs.PagePlaces.{AllBelow-from_has}
 use Rattle.sh_shape.specs.Classes.{slots}
 use Rattle.sh_pass.specs.Owners.{SeenPage}
 use Rattle.sh_states.specs.declared.states.PageState.{PageState}
 use Rattle.sh_shard.specs.Kept.{KeepsPage}
 use Rattle.sh_shard.specs.Pages.{count_below, sum_below, own_slots, page_out, seen_class, word_slots}
-use Rattle.sh_shard.proofs.Wholly.{below_all}
 use Rattle.sh_shard.proofs.ClassWords.{word_of}
 use Rattle.sh_shard.proofs.Counts.{count_alike, count_none, count_less}
 
@@ -53,10 +53,10 @@ owned st g a once small most = record {
     size = length-append st.lists.free st.lists.local
 
     below : AllBelow (slots (st.class_word - 1)) xs
-    below = below_all (slots (st.class_word - 1)) xs (λ s h. small s (sym (a.mine s) ∙ h))
+    below = AllBelow-from_has (slots (st.class_word - 1)) xs (λ s h. small s (sym (a.mine s) ∙ h))
 
     below48 : AllBelow 48 xs
-    below48 = below_all 48 xs (λ s h. let l = small s (sym (a.mine s) ∙ h) in omega (arith, l, most))
+    below48 = AllBelow-from_has 48 xs (λ s h. let l = small s (sym (a.mine s) ∙ h) in omega (arith, l, most))
 
 slots_of_word : (c : ℕ) → (c ≡ 0 → ⊥) → word_slots c ≡ slots (c - 1)
 slots_of_word zero some = absurd (some refl)

@@ -16,10 +16,10 @@ use Rattle.sh_shard.specs.Steps.{StepsAtMost}
 use Rattle.sh_shard.specs.Works.{WorksThroughout}
 use Rattle.sh_shard.specs.Finding.{StoresIn, StoresInQueue}
 use Rattle.sh_shard.specs.Searches.{Searching}
-use Rattle.sh_shard.proofs.Sides.{aside_then}
 use Rattle.sh_shard.proofs.Working.{names_before}
 use Rattle.sh_shard.proofs.Turning.{turned_same, apart_ahead}
 use Rattle.sh_shard.proofs.Searching.{front_is, front_has, done_still}
+use Rattle.sh_pass.proofs.OwnRuns.{aside_then}
 
 pub added_here : (p key : ℕ) (value : List ℕ) (o n : Paged) → PageInserts p value key o n → Added value key o n
 added_here p key value o n i = record { aside = i.aside; put = i.put; log = i.log; shard = i.shard; count = i.count }

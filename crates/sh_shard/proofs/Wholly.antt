@@ -8,7 +8,8 @@ use Rattle.sh_queue.specs.Lists.{SlotsOnce}
 use Rattle.sh_queue.specs.ListNumbers.{Distinct, AllBelow}
 use Rattle.sh_queue.proofs.Distincts.{length-le_from_Distinct}
 use Rattle.sh_queue.specs.Numbers.{has_number}
-use Rattle.sh_queue.proofs.Numbers.{has_number-here, has_number-there, has_number-else, Misses-from_has}
+use Rattle.sh_queue.proofs.Numbers.{has_number-here, has_number-else, Misses-from_has}
+use Rattle.sh_queue.proofs.PagePlaces.{AllBelow-from_has}
 use Rattle.sh_shape.specs.Classes.{slots}
 use Rattle.sh_key.specs.Layout.{Layout}
 use Rattle.sh_pass.specs.Passes.{Caller}
@@ -21,10 +22,6 @@ use Rattle.sh_shard.proofs.Keeping.{page_of, below_class}
 use Rattle.sh_shard.proofs.Counts.{count_none, count_all, count_one_more}
 
 -- ---- numbers of a list
-
-pub below_all : (n : ℕ) (xs : List ℕ) → ((s : ℕ) → has_number s xs ≡ true → s < n) → AllBelow n xs
-below_all n [] h = tt
-below_all n (x ∷ xs) h = (h x (has_number-here x xs), below_all n xs (λ s e. h s (has_number-there s x xs e)))
 
 -- n distinct numbers below n are all of them
 pub all_there : (n s : ℕ) (xs : List ℕ) → Distinct xs → AllBelow n xs → n ≤ length xs → s < n → has_number s xs ≡ true
@@ -73,7 +70,7 @@ wholly st g a once few w = record {
   is = let h = w.classed in omega arith
 
   below : AllBelow (slots w.class) (st.lists.free ++ st.lists.local)
-  below = below_all (slots w.class) (st.lists.free ++ st.lists.local)
+  below = AllBelow-from_has (slots w.class) (st.lists.free ++ st.lists.local)
       (λ s h. subst (λ c. s < slots c) (sym is)
       (few (λ z. let h = w.classed in absurd (omega arith)) s (sym (a.mine s) ∙ h)))
 

@@ -15,10 +15,11 @@ use Rattle.sh_pass.specs.Owners.{SeenPage, Aside, NoneArmed}
 use Rattle.sh_shard.specs.Kept.{KeepsPage}
 use Rattle.sh_shard.specs.Pages.{Paged, page_at, own_slots, NothingMine, WorksOn, TakesPage, CursorStops, CollectsPage}
 use Rattle.sh_shard.specs.Pages.{ArmsAndFollows, PageDone, PageInserts, NamesSlot, StepsForSlots}
-use Rattle.sh_shard.proofs.Sides.{aside_none, aside_then}
+use Rattle.sh_shard.proofs.Sides.{aside_none}
 use Rattle.sh_shard.proofs.Bounding.{slots_none, slots_then}
 use Rattle.sh_shard.proofs.Counts.{own_few}
 use Rattle.sh_shard.proofs.Waits.{waits_since}
+use Rattle.sh_pass.proofs.OwnRuns.{aside_then}
 
 pub works_none : (p : ℕ) (o : Paged) → WorksOn p o o
 works_none p o = record {

@@ -4,7 +4,8 @@ use Rattle.std.proofs.lemmas.Bool.{cases_eq}
 use Rattle.sh_pass.specs.Owners.{SeenPage, SeenBell}
 use Rattle.sh_shard.specs.Pages.{Paged, page_at, WorksOn, BellTakes, BellStops, BellReads}
 use Rattle.sh_shard.specs.Works.{WorksThroughout, ReadFromBell}
-use Rattle.sh_shard.proofs.Sides.{aside_none, aside_then}
+use Rattle.sh_shard.proofs.Sides.{aside_none}
+use Rattle.sh_pass.proofs.OwnRuns.{aside_then}
 
 pub through_none : (o : Paged) → WorksThroughout o o
 through_none o = record {
