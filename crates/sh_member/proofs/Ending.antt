@@ -17,18 +17,13 @@ use Rattle.sh_table.specs.LogEntry.TheVariants.{Known, Unread}
 use Rattle.sh_table.specs.Log.{filled, AllHaveValue}
 use Rattle.sh_table.specs.Footstep.{Footstep}
 use Rattle.sh_table.specs.Collections.{without}
-use Rattle.sh_pass.specs.Growing.{SameTale}
 use Rattle.sh_pass.proofs.SameTales.{later_same}
 use Rattle.sh_pass.specs.Deciding.{InOneStep, DropsHold, RemovalDecided}
 use Rattle.sh_pass.specs.Passes.{Caller, holds, CallAdds, CallReads, GetDoes, ReadDoes, ReleaseDoes, RemoveDoes}
 use Rattle.sh_pass.specs.Passes.{plan_for}
 use Rattle.sh_pass.specs.Remaining.{Remains}
-use Rattle.sh_table.specs.declared.view.View.{View}
 use Rattle.sh_member.specs.Readers.{ReadsAndAdds, FetchDoes, TakeDoes}
 use Rattle.sh_member.proofs.Holding.{without_first}
-
-pub same_along : (u v w : View) → SameTale u v → SameTale v w → SameTale u w
-same_along u v w s t = later_same s t
 
 pub remains_along : (layout : Layout) (u v w : Caller) → Remains layout u v → Remains layout v w → Remains layout u w
 remains_along layout u v w before last = record {
@@ -72,7 +67,7 @@ fetches k value First Last v a b c got read released =
     let then = read.steps in
     let last = released.steps in
     record {
-      same = same_along v.view a.view c.view got.same (same_along a.view b.view c.view read.same released.same);
+      same = later_same got.same (later_same read.same released.same);
       log = released.log
           ∙ (ap (λ l. l ++ Known (entry.Released b.view.pass k) ∷ []) log
           ∙ (ap (λ p. (map (filled k value) v.view.own.log ++ Known (entry.Got v.view.pass k value) ∷ [])
@@ -111,8 +106,8 @@ takes k value E First Mid Last v a b c d got removed read released =
     let then = read.steps in
     let last = released.steps in
     record {
-      same = same_along v.view a.view d.view got.same (same_along a.view b.view d.view removed.same
-          (same_along b.view c.view d.view read.same released.same));
+      same = later_same got.same (later_same removed.same
+          (later_same read.same released.same));
       log = released.log
           ∙ (ap (λ l. l ++ Known (entry.Released c.view.pass k) ∷ []) log
           ∙ (ap (λ p. ((M ++ g ∷ []) ++ Known (E v.view.pass) ∷ []) ++ Known (entry.Released p k) ∷ []) pass

@@ -20,8 +20,9 @@ use Rattle.sh_shard.specs.Places.{IsKeyAtPlace, place_count}
 use Rattle.sh_shard.specs.Shards.{Sharded, StaysOwner}
 use Rattle.sh_member.specs.OwnKeys.{Adds, AreBetween, AreOfLive, FindsKey, PassesOver, StepsForPlaces}
 use Rattle.sh_member.specs.OwnKeys.{gone_entries}
-use Rattle.sh_member.proofs.Ending.{same_along, remains_along}
+use Rattle.sh_member.proofs.Ending.{remains_along}
 use Rattle.sh_member.proofs.Holding.{without_first}
+use Rattle.sh_pass.proofs.SameTales.{later_same}
 
 -- a get and a release
 pub got_released : (layout : Layout) (k : ℕ) (hold : Hold) (v a b : Caller) → GetDoes layout k v (Ok hold) a
@@ -41,7 +42,7 @@ got_released layout k hold v a b got released =
         inl refl,
         record {
           heap = r.heap ∙ g.heap;
-          same = same_along v.view a.view b.view g.same r.same;
+          same = later_same g.same r.same;
           log = r.log
               ∙ (ap (λ l. l ++ Known (entry.Released a.view.pass k) ∷ []) g.log
               ∙ (append_assoc log (Unread v.view.pass k ∷ []) (Known (entry.Released a.view.pass k) ∷ [])
@@ -59,7 +60,7 @@ along {es} {fs} {m} {k} {v} {a} {b} x y =
     let last = y.steps in
     record {
       heap = y.heap ∙ x.heap;
-      same = same_along v.view a.view b.view x.same y.same;
+      same = later_same x.same y.same;
       log = y.log ∙ (ap (λ l. l ++ fs) x.log ∙ append_assoc v.view.own.log es fs);
       holds = y.holds ∙ x.holds;
       steps = omega arith;
@@ -70,7 +71,7 @@ pub stays_along : (layout : Layout) (o m n : Sharded) → StaysOwner layout o m 
 stays_along layout o m n a b = record {
   holds = b.holds;
   shard = b.shard ∙ a.shard;
-  same = same_along o.pages.owner.view m.pages.owner.view n.pages.owner.view a.same b.same;
+  same = later_same a.same b.same;
   remains = remains_along layout o.pages.owner m.pages.owner n.pages.owner a.remains b.remains;
 }
 

@@ -19,8 +19,9 @@ use Rattle.sh_pass.specs.Deciding.{InOneStep, DropsHold, RemovalDecided}
 use Rattle.sh_pass.specs.Passes.{Caller, holds, CallAdds, CallReads, GetDoes, ReadDoes, ReleaseDoes, RemoveDoes}
 use Rattle.sh_pass.specs.Passes.{plan_for}
 use Rattle.sh_member.specs.Readers.{ReadsAndAdds, TakeDoes, TakeFitsDoes, TakeIntoDoes}
-use Rattle.sh_member.proofs.Ending.{got_read, has_behind, no_key, same_along}
+use Rattle.sh_member.proofs.Ending.{got_read, has_behind, no_key}
 use Rattle.sh_member.proofs.Holding.{without_first}
+use Rattle.sh_pass.proofs.SameTales.{later_same}
 
 -- a get, a read, a removal that was lost or won, and a release
 reads_first : (k : ℕ) (value : List ℕ) (E : ℕ → Entry) (First Mid Last : List Footstep → Type 0) (v a b c d : Caller)
@@ -47,8 +48,8 @@ reads_first k value E First Mid Last v a b c d plain got read removed released =
     let three = removed.steps in
     let four = released.steps in
     record {
-      same = same_along v.view a.view d.view got.same (same_along a.view b.view d.view read.same
-          (same_along b.view c.view d.view removed.same released.same));
+      same = later_same got.same (later_same read.same
+          (later_same removed.same released.same));
       log = released.log
           ∙ (ap (λ l. l ++ Known (entry.Released c.view.pass k) ∷ []) then
           ∙ (ap (λ p. ((M ++ g ∷ []) ++ Known (E v.view.pass) ∷ []) ++ Known (entry.Released p k) ∷ []) pass
