@@ -4,7 +4,7 @@ use Rattle.std.proofs.Common.{length, take, set, map, slice_get, Option, Some, N
 use Rattle.std.proofs.Common.{append_assoc, append-nil, length-append, ◌⊎◌, inl, inr, ⊎_elim, add-one}
 use Rattle.std.specs.List.{Contains}
 use Rattle.std.proofs.lemmas.List.Elements.{Contains-append_left, Contains-append_right, Contains-push}
-use Rattle.std.proofs.lemmas.Option.{none-some}
+use Rattle.std.proofs.lemmas.Option.{none-some, slice_get_within}
 use mathlib.Core.Logic.{dite}
 use native.Mathlib.Decide.{ℕ_discrete}
 use Rattle.sh_pass.specs.Entry.{Entry}
@@ -27,7 +27,7 @@ use Rattle.script_calls.specs.InOrder.{adds_entry, adding_passes, times, Cut, Al
 use Rattle.script_calls.specs.Alone.{seen_with_part, OrderedSoFar, HeedsLast, IsLastOf, LastTells}
 use Rattle.script_calls.specs.Meeting.{KeepsOrders, orders_of}
 use Rattle.script_calls.specs.Stepping.{LinesHeard}
-use Rattle.script_calls.proofs.ListLemmas.{get_set_same, take_at, within, get_snoc, contains_map, each_in, each_left}
+use Rattle.script_calls.proofs.ListLemmas.{take_at, get_snoc, each_left}
 use Rattle.script_calls.proofs.ListLemmas.{each_right}
 use Rattle.script_calls.proofs.NameLemmas.{numbers_after, meant_at, heard_more, heard_kept, orders_at, orders_set}
 use Rattle.script_calls.proofs.NameLemmas.{heard_by_heeding, tells_on, tells_own, may_log}
@@ -44,6 +44,9 @@ use Rattle.sh_pass.specs.Seats.{Heap}
 use Rattle.sh_pass.specs.Tales.{by, HasFirst, Before}
 use Rattle.sh_pass.specs.Views.{Each, heard_in}
 use Rattle.sh_pass.proofs.Zips.{zip_length}
+use Rattle.sh_pass.proofs.Sums.Totals.{get_set_here}
+use Rattle.sh_pass.proofs.Standing.{contains_map}
+use Rattle.sh_pass.proofs.OrderLaws.{each_in}
 
 -- ---- elements of lists
 
@@ -218,7 +221,7 @@ module _ (heap : Option Heap) (terms : RunTerms) (tag : Option ℕ) (lines : Lis
       ∙ sym (ap (λ (u : PassPart). length u.log) (part_there was.so_far.run.parts l.pass p now.part ne))))
 
   few_more : (p : ℕ) → terms.shape.passes ≤ p → times p who' ≡ []
-  few_more p le = let w = within sides l.pass side own in let n = was.so_far.all in
+  few_more p le = let w = slice_get_within sides l.pass side own in let n = was.so_far.all in
       told_other p (λ e. omega (arith, w, n, le, e)) ∙ was.few p le
 
   mid_has : (o : Order) → Contains mid.orders o → Contains (receipt_seen now).heard o.heard
@@ -311,7 +314,7 @@ module _ (heap : Option Heap) (terms : RunTerms) (tag : Option ℕ) (lines : Lis
       heard_more terms tag (opening_calls heap) was.so_far.run (take i lines) was.so_far.answers
       (orders_of sides) (orders_of (set sides l.pass now)) l a was.so_far.ran was.so_far.heard keeps
       (heard_kept tag now.orders (orders_of (set sides l.pass now)) l.pass (length (times l.pass who)) n
-      (orders_at (set sides l.pass now) l.pass now (get_set_same sides l.pass side now own)) here)
+      (orders_at (set sides l.pass now) l.pass now (get_set_here sides l.pass side now own)) here)
 
   tells_old : (last : Option Caller) → LastTells tag numbers last → HeedsLast last side mid → (k n : ℕ)
       → slice_get numbers k ≡ Some (Some n) → tells_number tag (receipt_seen now).heard (Some n) ≡ true

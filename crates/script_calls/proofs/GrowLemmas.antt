@@ -26,8 +26,8 @@ use Rattle.script_calls.specs.Calls.{adopt_refusal, needs_shard, words_refusal, 
 use Rattle.script_calls.specs.Calls.{remove_refusal}
 use Rattle.script_calls.specs.InOrder.{adds_entry, is_done_gone_or_crowded, is_done_or_gone, is_done, is_key}
 use Rattle.std.proofs.lemmas.Option.{none-some, same_Some}
-use Rattle.script_calls.proofs.ListLemmas.{get_left}
 use Rattle.script_calls.proofs.Newcomers.{length_map}
+use Rattle.sh_pass.proofs.ByPlace.{get_front}
 
 -- what was known stays, in its place
 abbrev pub KeepsKnown : List LogEntry → List LogEntry → Type 0
@@ -53,7 +53,7 @@ entry_more : (v w : PassPart) (e : LogEntry) → Becomes (with_entry v e) w → 
 entry_more v w e is = (
   ap (λ (p : PassPart). length p.log) is ∙ length-append v.log (e ∷ []),
   λ k x at. subst (λ (p : PassPart). slice_get p.log k ≡ Some (Known x)) (sym is)
-      (get_left v.log (e ∷ []) k (Known x) at),
+      (get_front v.log (e ∷ []) k (Known x) at),
 )
 
 filled_keeps : (key : ℕ) (value : List ℕ) (xs : List LogEntry) → KeepsKnown xs (map (filled key value) xs)

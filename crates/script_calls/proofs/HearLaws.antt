@@ -4,7 +4,7 @@ use Rattle.std.proofs.Common.{map, slice_get, Option, Some, None, sym, refl, ap,
 use Rattle.std.proofs.Common.{length-set, add-one, inl, inr, ⊎_elim}
 use Rattle.std.specs.List.{Contains}
 use Rattle.std.proofs.lemmas.List.Elements.{Contains-append_left, Contains-append_right, Contains-push}
-use Rattle.std.proofs.lemmas.Option.{none-some, same_Some}
+use Rattle.std.proofs.lemmas.Option.{none-some, same_Some, slice_get_within}
 use mathlib.Core.Logic.{dite}
 use native.Mathlib.Decide.{ℕ_discrete}
 use Rattle.sh_pass.specs.Entry.{Entry}
@@ -14,6 +14,10 @@ use Rattle.sh_pass.specs.Seats.{Heap}
 use Rattle.sh_pass.specs.Tales.{by, HasFirst, Before}
 use Rattle.sh_pass.specs.Views.{heard_in}
 use Rattle.sh_pass.proofs.Hearing.{heard_before}
+use Rattle.sh_pass.proofs.Sums.Totals.{get_set_here}
+use Rattle.sh_pass.proofs.Zips.{set_other}
+use Rattle.sh_pass.proofs.Standing.{contains_map}
+use Rattle.sh_pass.proofs.OrderLaws.{each_in}
 use Rattle.sh_pass.specs.Passes.{Caller}
 use Rattle.script_calls.specs.OwnParts.{own_part}
 use Rattle.script_calls.specs.Parts.{RunTerms, SeenPass}
@@ -23,8 +27,7 @@ use Rattle.script_calls.specs.Meeting.{AllOfHeap, KeepsOrders}
 use Rattle.script_calls.specs.Alone.{HeedsLast, IsLastOf}
 use Rattle.script_calls.specs.Hearing.{HearsReceipt, Hears, AllHear, AreInHistory, KnowsReceipt, LastKnows, HeardSoFar}
 use Rattle.script_calls.proofs.EndLaws.{side_heeds}
-use Rattle.script_calls.proofs.ListLemmas.{get_some, get_set_same, get_set_other, get_snoc, take_at, take_past, within}
-use Rattle.script_calls.proofs.ListLemmas.{contains_map, each_in}
+use Rattle.script_calls.proofs.ListLemmas.{get_some, get_snoc, take_at, take_past}
 use Rattle.script_calls.proofs.NameLemmas.{heeds_keeps, heeded_order, may_log}
 
 -- ---- heeding a receipt
@@ -93,7 +96,7 @@ module _ (heap : Option Heap) (terms : RunTerms) (first : Option Caller) (ss : L
     (all : AllOfHeap heap terms ss) (side : SeenPass) (at : slice_get ts n ≡ Some side) where
   pub side_at : slice_get ss n ≡ Some side
   side_at =
-      let inside = within ts n side at in
+      let inside = slice_get_within ts n side at in
       let many = was.all in
       let its = get_some ss n (omega (arith, inside, many)) in
       its.1 ∙ ap (λ (z : SeenPass). Some z) (sym (was.left n its.0 side (omega arith) its.1 at))
@@ -184,10 +187,10 @@ module _ (heap : Option Heap) (terms : RunTerms) (first : Option Caller) (ss : L
       done = λ p s t less e f.
           let g : slice_get (set ts n mid) p ≡ Some t = ap (λ (z : List SeenPass). slice_get z p) (sym put) ∙ f in
           dite (ℕ_discrete p n) (λ is. here p s t is e g)
-          (λ ne. was.done p s t (omega (arith, less, ne)) e (sym (get_set_other ts n p mid ne) ∙ g));
+          (λ ne. was.done p s t (omega (arith, less, ne)) e (sym (set_other ts n p mid ne) ∙ g));
       left = λ p s t le e f.
           let g : slice_get (set ts n mid) p ≡ Some t = ap (λ (z : List SeenPass). slice_get z p) (sym put) ∙ f in
-          was.left p s t (omega (arith, le)) e (sym (get_set_other ts n p mid (λ is. omega (arith, le, is))) ∙ g);
+          was.left p s t (omega (arith, le)) e (sym (set_other ts n p mid (λ is. omega (arith, le, is))) ∙ g);
       of = ap (λ (z : SeenReceipt). z.heap) tells ∙ mid_of.0;
       knows = knows_more r tells;
       history = inr (history_more stands);
@@ -197,7 +200,7 @@ module _ (heap : Option Heap) (terms : RunTerms) (first : Option Caller) (ss : L
             → Hears first s t
         here p s t is e g =
             let its : side ≡ s = same_Some side s (sym side_at ∙ (ap (slice_get ss) (sym is) ∙ e)) in
-            let now : mid ≡ t = same_Some mid t (sym (get_set_same ts n side mid at)
+            let now : mid ≡ t = same_Some mid t (sym (get_set_here ts n side mid at)
             ∙ (ap (slice_get (set ts n mid)) (sym is) ∙ g)) in
             let H : SeenPass × SeenPass → Type 0 = λ z. Hears first z.0 z.1 in
             subst H (λ j. (its j, now j)) hears
@@ -224,7 +227,7 @@ pub hearing_ends : (heap : Option Heap) (terms : RunTerms) (first : Option Calle
     → AllHear first ss ts
 hearing_ends heap terms first ss n ts last past was = record {
   all = was.all;
-  each = λ p s t e f. let inside = within ss p s e in was.done p s t (omega (arith, inside, past)) e f;
+  each = λ p s t e f. let inside = slice_get_within ss p s e in was.done p s t (omega (arith, inside, past)) e f;
 }
 
 pub hearing_told : (heap : Option Heap) (terms : RunTerms) (first : Option Caller) (ss : List SeenPass) (n : ℕ)

@@ -16,8 +16,8 @@ use Rattle.script_calls.specs.Receipts.{seen_of_receipt}
 use Rattle.script_calls.specs.Meeting.{AllOfHeap, HasMet, KeepsOrders, orders_of, tales_told}
 use Rattle.script_calls.specs.Hearing.{Hears, AllHear}
 use Rattle.script_calls.specs.InOrder.{AllHeard, LastHeard}
-use Rattle.script_calls.proofs.ListLemmas.{each_in}
 use Rattle.script_calls.proofs.NameLemmas.{may_log}
+use Rattle.sh_pass.proofs.OrderLaws.{each_in}
 
 -- ---- each of them
 

@@ -1,11 +1,11 @@
 -- All passes in one thread: one more line, and the end.
-use Rattle.std.proofs.Common.{◌≡◌, ◌≢◌, ℕ, zero, suc, ◌+◌, ◌<◌, ◌≤◌, Bool, true, false, List, [], ◌∷◌, ◌++◌, length}
+use Rattle.std.proofs.Common.{◌≡◌, ◌≢◌, ℕ, zero, suc, ◌+◌, ◌<◌, ◌≤◌, Bool, true, List, [], ◌∷◌, ◌++◌, length}
 use Rattle.std.proofs.Common.{set, map, slice_get, Option, Some, None, sym, refl, ap, ◌∙◌, subst, arith, IfSome}
 use Rattle.std.proofs.Common.{length-set, ◌⊎◌, inl, inr, ⊎_elim, add-one, take}
 use Rattle.std.specs.Prelude.{IfNone}
 use Rattle.std.specs.List.{All}
 use Rattle.std.specs.Option.{option_map}
-use Rattle.std.proofs.lemmas.Option.{none-some, same_Some, slice_get-map}
+use Rattle.std.proofs.lemmas.Option.{none-some, same_Some, slice_get-map, slice_get_within}
 use mathlib.Core.Logic.{dite}
 use native.Mathlib.Decide.{ℕ_discrete}
 use Rattle.sh_script.specs.declared.calls.CallLine.{CallLine}
@@ -26,7 +26,7 @@ use Rattle.script_calls.proofs.EndLaws.{parts_ended}
 use Rattle.script_calls.specs.Named.{NamesWereHeard}
 use Rattle.script_calls.specs.Alone.{seen_with_part, AnsweredSoFar}
 use Rattle.script_calls.specs.Finished.{CarrierRan, AreWaiting, LinesRan, IsNamedBy, IsOrderedBy}
-use Rattle.script_calls.proofs.ListLemmas.{get_some, get_set_same, get_set_other, take_at, take_past, up_length, within}
+use Rattle.script_calls.proofs.ListLemmas.{get_some, take_at, take_past, up_length}
 use Rattle.script_calls.proofs.ListLemmas.{up_get}
 use Rattle.script_calls.proofs.HeardAll.{met_of_heard}
 use Rattle.script_calls.proofs.NameLaws.{named_by}
@@ -35,6 +35,8 @@ use Rattle.script_calls.proofs.Newcomers.{newcomers_length, newcomers_get, lengt
 use Rattle.sh_pass.specs.Seats.{Heap}
 use Rattle.sh_pass.specs.Tales.{HasFirst}
 use Rattle.sh_pass.specs.Passes.{Caller}
+use Rattle.sh_pass.proofs.Sums.Totals.{get_set_here}
+use Rattle.sh_pass.proofs.Zips.{set_other}
 
 -- ---- one more line
 
@@ -90,7 +92,7 @@ module _ (heap : Option Heap) (terms : RunTerms) (tag : Option ℕ) (lines : Lis
   pub here : (p : ℕ) (s : SeenPass) → p ≡ l.pass → slice_get (set sides l.pass now) p ≡ Some s → s
       ≡ record (seen_with_part heap terms (with_part was.run.parts l.pass now.part) p) { orders = s.orders }
   here p s e at_p =
-      let eq : now ≡ s = same_Some now s (sym (get_set_same sides l.pass side now own)
+      let eq : now ≡ s = same_Some now s (sym (get_set_here sides l.pass side now own)
       ∙ (ap (slice_get (set sides l.pass now)) (sym e) ∙ at_p)) in
       let Q : ℕ × PassPart × SeenPass → SeenPass = λ z. record (new_pass heap terms z.0)
       { part = z.1; orders = z.2.orders } in
@@ -100,7 +102,7 @@ module _ (heap : Option Heap) (terms : RunTerms) (tag : Option ℕ) (lines : Lis
       ≡ record (seen_with_part heap terms (with_part was.run.parts l.pass now.part) p) { orders = s.orders }
   there p s ne at_p =
       let Q : PassPart → SeenPass = λ z. record (new_pass heap terms p) { part = z; orders = s.orders } in
-      was.each p s (sym (get_set_other sides l.pass p now ne) ∙ at_p)
+      was.each p s (sym (set_other sides l.pass p now ne) ∙ at_p)
       ∙ ap Q (sym (part_there was.run.parts l.pass p now.part ne))
 
   abbrev pub answered_more : (after : List (Option ℕ)) (new : List SeenPass) (longer : List ℕ) → after
@@ -160,7 +162,7 @@ sides_are heap terms parts sides long each =
     let n : ℕ = terms.shape.passes in
     ext bare sides (map (seen_with_part heap terms parts) (passes_below n))
     (long ∙ sym (length_map (seen_with_part heap terms parts) (passes_below n) ∙ up_length n)) (λ k s e.
-    let few : k < n = let w = within sides k s e in omega (arith, w, long) in
+    let few : k < n = let w = slice_get_within sides k s e in omega (arith, w, long) in
     slice_get-map (seen_with_part heap terms parts) (passes_below n) k
     ∙ (ap (option_map (seen_with_part heap terms parts)) (up_get n k few)
     ∙ ap (λ (z : SeenPass). Some z) (sym (ap bare (each k s e)))))
@@ -203,9 +205,6 @@ pub tale_of_parts : (heap : Option Heap) (terms : RunTerms) (tag : Option ℕ) (
 tale_of_parts heap terms tag lines i numbers sides output h = sym (bare_tales sides)
     ∙ (ap tales_told (sides_are heap terms h.run.parts sides h.all h.each) ∙ tales_are heap terms h.run.parts
     (passes_below terms.shape.passes))
-
-pub apart : {A : Type 0} → false ≡ true → A
-apart e = absurd (let z : false ≡ true = e in cc)
 
 carrier_ran : (alone : Bool) (heap : Option Heap) (terms : RunTerms) (tag : Option ℕ) (lines : List CallLine) (i : ℕ)
     (numbers : List (Option ℕ)) (sides : List SeenPass) (output : List ℕ) (c : SeenPass) (last : Option Caller)
@@ -260,7 +259,7 @@ module _ (heap : Option Heap) (terms : RunTerms) (tag : Option ℕ) (lines : Lis
   -- the leave of this pass was refused
   waits_so : SomeWaits ts → AreWaiting heap terms tag lines output
   waits_so o =
-      let inside = within ts o.0 o.1 o.2 in
+      let inside = slice_get_within ts o.0 o.1 o.2 in
       let same : length ts ≡ length sides = hear.all in
       let few : o.0 < length sides = omega (arith, inside, same) in
       let was = get_some sides o.0 few in
@@ -331,7 +330,7 @@ pub terms_at : (heap : Option Heap) (terms : RunTerms) (tag : Option ℕ) (lines
     → s.terms ≡ terms
 terms_at heap terms tag lines i numbers sides output h p s e = ap (λ (z : SeenPass). z.terms) (h.each p s e)
 
-passes_are : (parts : ℕ → PassPart) (ns : List ℕ) → map told_pass (map (part_told parts) ns) ≡ ns
+pub passes_are : (parts : ℕ → PassPart) (ns : List ℕ) → map told_pass (map (part_told parts) ns) ≡ ns
 passes_are parts [] = refl
 passes_are parts (n ∷ ns) = ap (λ (z : List ℕ). n ∷ z) (passes_are parts ns)
 

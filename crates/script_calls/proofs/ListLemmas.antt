@@ -1,12 +1,9 @@
 -- Lists by their numbers, and the beginnings of lists.
-use Rattle.std.proofs.Common.{◌≡◌, ◌≢◌, ℕ, zero, suc, ◌<◌, ◌≤◌, ◌⊎◌, List, [], ◌∷◌, ◌++◌, length, map, take, set}
-use Rattle.std.proofs.Common.{slice_get, Some, refl, ap, sym, ◌∙◌, subst, inl, inr, ⊎_elim, arith, length-append}
-use Rattle.std.specs.List.{Contains}
-use Rattle.std.proofs.lemmas.List.{map-append}
-use Rattle.std.proofs.lemmas.List.Elements.{Contains-append_left, Contains-append_right, Contains-push}
+use Rattle.std.proofs.Common.{◌≡◌, ℕ, zero, suc, ◌<◌, ◌≤◌, ◌⊎◌, List, [], ◌∷◌, ◌++◌, length, map, take}
+use Rattle.std.proofs.Common.{slice_get, Some, refl, ap, sym, ◌∙◌, inl, inr, ⊎_elim, arith, length-append}
 use mathlib.Core.Logic.{dite}
 use native.Mathlib.Decide.{ℕ_discrete}
-use Rattle.sh_pass.proofs.Standing.{splits_at}
+use Rattle.sh_pass.proofs.ByPlace.{get_front, get_last}
 use Rattle.sh_pass.specs.Views.{Each}
 use Rattle.std.proofs.lemmas.Option.{none-some, same_Some}
 use Rattle.script_calls.specs.Parts.{passes_below}
@@ -15,19 +12,6 @@ pub get_some : {A : Type 0} (xs : List A) (k : ℕ) → k < length xs → (x : A
 get_some [] k lt = absurd (omega (arith, lt))
 get_some (x ∷ xs) zero lt = (x, refl)
 get_some (x ∷ xs) (suc k) lt = get_some xs k (omega (arith, lt))
-
-pub get_set_same : {A : Type 0} (xs : List A) (k : ℕ) (x y : A) → slice_get xs k ≡ Some x → slice_get (set xs k y) k
-    ≡ Some y
-get_set_same [] k x y e = absurd (none-some x e)
-get_set_same (z ∷ zs) zero x y e = refl
-get_set_same (z ∷ zs) (suc k) x y e = get_set_same zs k x y e
-
-pub get_set_other : {A : Type 0} (xs : List A) (k j : ℕ) (y : A) → j ≢ k → slice_get (set xs k y) j ≡ slice_get xs j
-get_set_other [] k j y ne = refl
-get_set_other (z ∷ zs) zero zero y ne = absurd (ne refl)
-get_set_other (z ∷ zs) zero (suc j) y ne = refl
-get_set_other (z ∷ zs) (suc k) zero y ne = refl
-get_set_other (z ∷ zs) (suc k) (suc j) y ne = get_set_other zs k j y (λ e. ne (ap suc e))
 
 pub take_at : {A : Type 0} (xs : List A) (i : ℕ) (x : A) → slice_get xs i ≡ Some x → take (suc i) xs ≡ take i xs
     ++ x ∷ []
@@ -57,20 +41,6 @@ pub map_more : {A B : Type 0} (f : A → B) (xs : List A) (x : A) → map f (xs 
 map_more f [] x = refl
 map_more f (y ∷ ys) x = ap (λ l. f y ∷ l) (map_more f ys x)
 
-pub contains_map : {A B : Type 0} (f : A → B) (xs : List A) (x : A) → Contains xs x → Contains (map f xs) (f x)
-contains_map f xs x c =
-    let s = splits_at xs x c in
-    let is : map f xs ≡ map f s.0 ++ f x ∷ map f s.1 = ap (map f) s.2 ∙ map-append f s.0 (x ∷ s.1) in
-    subst (λ (l : List _). Contains l (f x)) (sym is) (Contains-append_right (map f s.0) (f x ∷ map f s.1) (f x)
-    (Contains-append_left (f x ∷ []) (map f s.1) (f x) (Contains-push [] (f x))))
-
-each_at : {A : Type 0} (P : A → Type 0) (front : List A) (x : A) (rest : List A) → Each P (front ++ x ∷ rest) → P x
-each_at P [] x rest h = h.0
-each_at P (y ∷ ys) x rest h = each_at P ys x rest h.1
-
-pub each_in : {A : Type 0} (P : A → Type 0) (xs : List A) (x : A) → Contains xs x → Each P xs → P x
-each_in P xs x c h = let s = splits_at xs x c in each_at P s.0 x s.1 (subst (Each P) s.2 h)
-
 pub each_left : {A : Type 0} (P : A → Type 0) (xs ys : List A) → Each P (xs ++ ys) → Each P xs
 each_left P [] ys h = tt
 each_left P (x ∷ xs) ys h = (h.0, each_left P xs ys h.1)
@@ -79,23 +49,9 @@ pub each_right : {A : Type 0} (P : A → Type 0) (xs ys : List A) → Each P (xs
 each_right P [] ys h = h
 each_right P (x ∷ xs) ys h = each_right P xs ys h.1
 
-pub get_left : {A : Type 0} (xs ys : List A) (k : ℕ) (x : A) → slice_get xs k ≡ Some x → slice_get (xs ++ ys) k ≡ Some x
-get_left [] ys k x e = absurd (none-some x e)
-get_left (z ∷ zs) ys zero x e = e
-get_left (z ∷ zs) ys (suc k) x e = get_left zs ys k x e
-
-get_last : {A : Type 0} (xs : List A) (x : A) → slice_get (xs ++ x ∷ []) (length xs) ≡ Some x
-get_last [] x = refl
-get_last (z ∷ zs) x = get_last zs x
-
 pub up_get : (n p : ℕ) → p < n → slice_get (passes_below n) p ≡ Some p
 up_get zero p l = absurd (omega arith)
 up_get (suc n) p l = dite (ℕ_discrete p n)
     (λ e. ap (slice_get (passes_below n ++ n ∷ [])) (e ∙ sym (up_length n))
     ∙ (get_last (passes_below n) n ∙ ap (λ (z : ℕ). Some z) (sym e)))
-    (λ ne. get_left (passes_below n) (n ∷ []) p p (up_get n p (omega arith)))
-
-pub within : {A : Type 0} (xs : List A) (k : ℕ) (x : A) → slice_get xs k ≡ Some x → k < length xs
-within [] k x e = absurd (none-some x e)
-within (y ∷ ys) zero x e = omega arith
-within (y ∷ ys) (suc k) x e = let h = within ys k x e in omega (arith, h)
+    (λ ne. get_front (passes_below n) (n ∷ []) p p (up_get n p (omega arith)))

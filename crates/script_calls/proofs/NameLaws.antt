@@ -4,7 +4,7 @@ use Rattle.std.proofs.Common.{length, take, map, slice_get, Option, Some, None, 
 use Rattle.std.proofs.Common.{append_assoc, eqb-true, ⊎_elim}
 use Rattle.std.specs.List.{All, AllZip, Contains}
 use Rattle.std.proofs.lemmas.List.Elements.{Contains-append_left, Contains-append_right, Contains-append_cases}
-use Rattle.std.proofs.lemmas.Option.{none-some, same_Some, get_or_from_slice_get}
+use Rattle.std.proofs.lemmas.Option.{none-some, same_Some, get_or_from_slice_get, slice_get_within}
 use mathlib.Core.Logic.{dite}
 use native.Mathlib.Decide.{ℕ_discrete}
 use Rattle.sh_pass.specs.Entry.{Entry}
@@ -18,6 +18,7 @@ use Rattle.sh_pass.specs.Order.{Order}
 use Rattle.sh_pass.specs.Seats.{Heap}
 use Rattle.sh_pass.specs.Tales.{by, Before}
 use Rattle.sh_pass.proofs.Zips.{zip_length}
+use Rattle.sh_pass.proofs.OrderLaws.{each_in}
 use Rattle.sh_script.specs.declared.calls.CallLine.{CallLine}
 use Rattle.script_output.specs.declared.answer.Answer.{Answer}
 use Rattle.script_output.specs.Keys.{key_shown}
@@ -30,7 +31,7 @@ use Rattle.script_calls.specs.Named.{FollowsInsert, NamesComeFirst, is_insert_of
 use Rattle.script_calls.specs.Named.{HeardOfNumber, NamesWereHeard}
 use Rattle.script_calls.specs.Alone.{AnsweredSoFar}
 use Rattle.script_calls.specs.Finished.{IsNamedBy}
-use Rattle.script_calls.proofs.ListLemmas.{take_past, each_in, within, up_get}
+use Rattle.script_calls.proofs.ListLemmas.{take_past, up_get}
 use Rattle.script_calls.proofs.OrderLemmas.{times_length, times_here, by_length, by_else}
 use Rattle.script_calls.proofs.NameLemmas.{some_passes, first_in, counts_after}
 
@@ -196,7 +197,7 @@ named_by heap terms tag lines i numbers sides output was past fits c tale keeps 
     (λ o there. each_in (Before history) c.orders o (keeps o there) each)
     (λ k l at.
     let less : l.pass < n = subst (λ (z : CallLine). z.pass < n) (get_or_from_slice_get lines k l l at)
-    (fits k l (within lines k l at)) in
+    (fits k l (slice_get_within lines k l at)) in
     let counted = counts_after terms tag (opening_calls heap) was.run (take i lines) was.answers was.ran l.pass in
     let same : length (times l.pass (adding_passes (take i lines) was.answers))
     ≡ length (times l.pass (adding_passes lines was.answers)) =

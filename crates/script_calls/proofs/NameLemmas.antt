@@ -6,7 +6,7 @@ use Rattle.std.specs.List.{Contains, list_any}
 use Rattle.std.proofs.lemmas.List.Elements.{Contains-append_left, Contains-append_right, Contains-push}
 use Rattle.std.proofs.lemmas.List.Elements.{Contains-append_cases}
 use Rattle.std.proofs.lemmas.List.Folds.{Any-from_list_any, list_any-from_Any}
-use Rattle.std.proofs.lemmas.Option.{none-some, same_Some}
+use Rattle.std.proofs.lemmas.Option.{none-some, same_Some, slice_get_within}
 use mathlib.Core.Logic.{dite}
 use native.Mathlib.Decide.{ℕ_discrete}
 use Rattle.sh_value.specs.declared.refusal.Refusal.{Refusal}
@@ -36,10 +36,11 @@ use Rattle.script_calls.specs.InOrder.{adds_entry, adding_passes, times}
 use Rattle.script_calls.specs.Meeting.{KeepsOrders, orders_of}
 use Rattle.script_calls.specs.Named.{numbers_told, is_insert_of, has_insert, tells_number, HeardOfNumber}
 use Rattle.script_calls.specs.Named.{NamesWereHeard}
-use Rattle.script_calls.proofs.ListLemmas.{get_snoc, take_past, contains_map, within}
+use Rattle.script_calls.proofs.ListLemmas.{get_snoc, take_past}
 use Rattle.script_calls.proofs.LineLemmas.{part_here, part_there}
 use Rattle.script_calls.proofs.OrderLemmas.{times_length, times_here, times_else}
 use Rattle.script_calls.proofs.GrowLemmas.{grows}
+use Rattle.sh_pass.proofs.Standing.{contains_map}
 
 -- ---- lists
 
@@ -235,7 +236,7 @@ heard_more terms tag before run ls bs orders more l a ran was keeps new i m at =
     old : slice_get ls i ≡ Some m
         → HeardAt tag more (m, adding_passes lines (bs ++ a ∷ []), numbers_told lines (bs ++ a ∷ []))
     old e =
-        let few = within ls i m e in
+        let few = slice_get_within ls i m e in
         let short = take_few ls i in
         as_was (take i ls) (take_left ls (l ∷ []) i (omega (arith, few))) (omega (arith, short, long)) m refl
         (heard_kept tag orders more m.pass (length (times m.pass (adding_passes (take i ls) bs)))

@@ -22,8 +22,9 @@ use Rattle.script_calls.specs.Stepping.{HeardOfSteps, LinesHeard, StepsInTurn, L
 use Rattle.script_calls.proofs.HeardAll.{heard_orders}
 use Rattle.script_calls.proofs.HearLaws.{orders_only, ordered_heard, own_heard}
 use Rattle.script_calls.proofs.LineLemmas.{part_here, part_there}
-use Rattle.script_calls.proofs.ListLemmas.{get_some, get_set_same, take_past}
+use Rattle.script_calls.proofs.ListLemmas.{get_some, take_past}
 use Rattle.script_calls.proofs.NameLemmas.{heeded_order, orders_at, orders_set}
+use Rattle.sh_pass.proofs.Sums.Totals.{get_set_here}
 
 -- ---- more orders, and one more line
 
@@ -122,7 +123,7 @@ module _ (heap : Option Heap) (terms : RunTerms) (tag : Option ℕ) (lines : Lis
   lines_more a next is keeps line stands heard =
       let more : List Order = orders_of (set sides l.pass now) in
       let there : KeepsOrders now.orders more =
-      orders_at (set sides l.pass now) l.pass now (get_set_same sides l.pass side now own) in
+      orders_at (set sides l.pass now) l.pass now (get_set_here sides l.pass side now own) in
       let part : next.parts l.pass ≡ now.part = ap (λ (r : CallsRun). r.parts l.pass) is
       ∙ part_here parts l.pass l.pass now.part refl in
       let S : RunTerms × PassPart → Type 0 = λ z. SideStands z.0.layout z.1.stands in

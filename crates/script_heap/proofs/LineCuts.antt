@@ -11,7 +11,7 @@ use Rattle.sh_core.proofs.Words.Trails.{trails_lengthen}
 use Rattle.sh_pass.specs.Order.{Order}
 use Rattle.sh_pass.specs.Reached.{StepsBefore}
 use Rattle.sh_pass.specs.Views.{Each}
-use Rattle.script_calls.proofs.ListLemmas.{each_in}
+use Rattle.sh_pass.proofs.OrderLaws.{each_in}
 
 -- ---- two cuts of one list
 

@@ -28,9 +28,10 @@ use Rattle.sh_gather.proofs.Walking.{later_leads, later_shape}
 use Rattle.sh_member.specs.Sides.{SeenSide}
 use Rattle.script_calls.specs.Parts.{HasWholeTale, tale_told, new_pass, new_passes, heap_terms}
 use Rattle.script_calls.specs.Running.{as_member, seen_of_caller, seen_of_member}
-use Rattle.script_calls.specs.Parts.{PassPart, RunTerms, told_pass, passes_below}
-use Rattle.script_calls.specs.Told.{part_told, IsTold}
+use Rattle.script_calls.specs.Parts.{RunTerms, told_pass, passes_below}
+use Rattle.script_calls.specs.Told.{IsTold}
 use Rattle.script_calls.proofs.TaleLaws.{whole_told, tale_is_whole}
+use Rattle.script_calls.proofs.InTurn.{passes_are}
 use Rattle.script_output.specs.AccountLines.{Later, ShardsSaid, accounts_after, accounts_text}
 use Rattle.script_heap.specs.WholeAccounts.{LeadsToWhole, PageSaid, HasNumbers}
 use Rattle.script_heap.specs.HeapOutput.{TellsTale, IsHeapOutput, EndsInRun}
@@ -173,10 +174,6 @@ members_are layout heap n passes members is all = ap (map (λ (m : SeenSide). se
 
 -- ---- the pass that carries the tale of all
 
-parts_passes : (parts : ℕ → PassPart) (xs : List ℕ) → map told_pass (map (part_told parts) xs) ≡ xs
-parts_passes parts [] = refl
-parts_passes parts (x ∷ xs) = ap (λ l. x ∷ l) (parts_passes parts xs)
-
 module _ (alone : Bool) (layout : Layout) (heap : Heap) (tag : Option ℕ) (lines : List CallLine) (output : List ℕ)
     (v : Caller)
     (ran : CarrierRan alone (Some heap) (heap_terms layout heap.shape) tag lines output (seen_of_caller layout v)) where
@@ -188,7 +185,7 @@ module _ (alone : Bool) (layout : Layout) (heap : Heap) (tag : Option ℕ) (line
       let shape : v.view.shape ≡ heap.shape = ap (λ (t : RunTerms). t.shape) ran.carries.1 in
       let passes : map told_pass (tale_told (seen_of_caller layout v)) ≡ passes_below heap.shape.passes =
       ap (map told_pass) ran.told.tale_is
-      ∙ parts_passes ran.told.replies.after.parts (passes_below heap.shape.passes) in
+      ∙ passes_are ran.told.replies.after.parts (passes_below heap.shape.passes) in
       tale_is_whole layout v (passes ∙ ap (λ (n : Numbers). passes_below n.passes) (sym shape))
 
   -- the tale by one of its histories

@@ -13,6 +13,7 @@ use Rattle.sh_core.specs.Kept.{HoldsWords}
 use Rattle.sh_core.specs.Outcomes.{row_of_event, outcome_of}
 use Rattle.sh_core.specs.Worlds.{World, step, run_from}
 use Rattle.sh_core.proofs.Words.Stepping.{outcome_skipped}
+use Rattle.sh_core.proofs.WaitFree.{skipped}
 use Rattle.script_orders.specs.declared.found.Program.{Program}
 use Rattle.script_orders.specs.declared.state.State.{State}
 use Rattle.script_orders.specs.Lanes.{Did, and_then}
@@ -26,7 +27,7 @@ use Rattle.script_orders.proofs.LineLists.{not_both, event_one}
 use Rattle.script_orders.proofs.LineOptions.{may_do, is_of_at, due_at, other_not_due, due_by_part}
 use Rattle.script_orders.proofs.ListSteps.{get_set_same, get_set_other}
 use Rattle.script_orders.proofs.Parts.{step_other, parts_same}
-use Rattle.script_orders.proofs.Skipped.{skipped_at, step_skipped}
+use Rattle.script_orders.proofs.Skipped.{skipped_at}
 
 -- ---- the order that leads to a state comes to it, and an order that comes to a state comes to one that is alike
 
@@ -129,7 +130,7 @@ module _ (layout : Layout) (p : Program) (order : List ℕ) (n : ℕ) (rest : Li
         ∙ sym (due_at the_plan so_far.parts the_lines a n (Some e) at) ∙ not)
 
     same_world : world_by layout p with_line ≡ so_far
-    same_world = world_with ∙ step_skipped the_plan so_far e not_done
+    same_world = world_with ∙ skipped the_plan so_far e not_done
 
     still : (b m : ℕ) → is_due the_plan so_far.parts the_lines b m ≡ false
         → is_due the_plan (world_by layout p with_line).parts the_lines b m ≡ false

@@ -13,6 +13,7 @@ use Rattle.sh_step.specs.Rows.{Row}
 use Rattle.sh_core.specs.Outcomes.{row_of_event, outcome_of}
 use Rattle.sh_core.specs.Worlds.{World, step, apply, run_from}
 use Rattle.sh_core.proofs.Words.Stepping.{outcome_skipped}
+use Rattle.sh_core.proofs.WaitFree.{skipped}
 use Rattle.script_orders.specs.Orders.{is_of, events_of, reply_line, replies_from}
 use Rattle.script_orders.specs.Reached.{is_due}
 use Rattle.script_orders.proofs.LineOptions.{pass_is, may_do, due, due_event}
@@ -54,14 +55,11 @@ step_is plan w e = go (slice_get w.parts e.pass) where
   go (Some p) = refl
   go None = refl
 
-pub step_skipped : (plan : Plan) (w : World) (e : Event) → row_of_event plan w e ≡ None → step plan w e ≡ w
-step_skipped plan w e none = step_is plan w e ∙ ap (step_option plan w e) none
-
 pub skips_run : (plan : Plan) (w : World) (es : List Event) → Skips plan w es → run_from plan w es ≡ w
 unfolding Skips run_from
 skips_run plan w [] h = refl
 skips_run plan w (e ∷ es) h =
-    ap (λ (v : World). run_from plan v es) (step_skipped plan w e h.0) ∙ skips_run plan w es h.1
+    ap (λ (v : World). run_from plan v es) (skipped plan w e h.0) ∙ skips_run plan w es h.1
 
 pub skips_reply : (plan : Plan) (w : World) (es : List Event) (a : ℕ) → Skips plan w es → replies_from plan w es a ≡ []
 unfolding Skips replies_from
@@ -69,7 +67,7 @@ skips_reply plan w [] a h = refl
 skips_reply plan w (e ∷ es) a h =
     let none : reply_line e (outcome_of plan w e) ≡ [] = ap (reply_line e) (outcome_skipped plan w e h.0) in
     go (e.pass == a) (reply_line e (outcome_of plan w e)) none
-    ∙ ap (λ (v : World). replies_from plan v es a) (step_skipped plan w e h.0) ∙ skips_reply plan w es a h.1
+    ∙ ap (λ (v : World). replies_from plan v es a) (skipped plan w e h.0) ∙ skips_reply plan w es a h.1
   where
     go : (b : Bool) (t : List ℕ) → t ≡ [] → {r : List ℕ} → cond b t [] ++ r ≡ r
     go true t h {r} = ap (λ (s : List ℕ). s ++ r) h

@@ -1,8 +1,8 @@
 -- One more line, whose answer is put among the replies.
-use Rattle.std.proofs.Common.{◌≡◌, ◌≢◌, ℕ, zero, suc, ◌+◌, ◌<◌, ◌≤◌, eq-eqb, ne_eqb, Bool, cond, List, [], ◌∷◌, ◌++◌}
+use Rattle.std.proofs.Common.{◌≡◌, ◌≢◌, ℕ, zero, suc, ◌+◌, ◌≤◌, eq-eqb, ne_eqb, Bool, cond, List, [], ◌∷◌, ◌++◌}
 use Rattle.std.proofs.Common.{length, take, drop, set, slice_get, Option, Some, sym, refl, ap, ◌∙◌, subst, arith}
 use Rattle.std.proofs.Common.{length-set, add-one}
-use Rattle.std.proofs.lemmas.Option.{none-some, same_Some}
+use Rattle.std.proofs.lemmas.Option.{none-some, same_Some, slice_get_within}
 use mathlib.Core.Logic.{dite}
 use native.Mathlib.Decide.{ℕ_discrete}
 use Rattle.sh_script.specs.declared.calls.Call.{Call}
@@ -18,13 +18,15 @@ use Rattle.script_calls.specs.InOrder.{adding_passes, times}
 use Rattle.script_calls.specs.Meeting.{orders_of}
 use Rattle.script_calls.specs.Named.{numbers_told, HeardOfNumber, NamesWereHeard}
 use Rattle.script_calls.proofs.NameLemmas.{numbers_after, counts_after, heard_more, heard_kept, orders_at}
-use Rattle.script_calls.proofs.ListLemmas.{get_some, get_set_same, get_set_other, take_at, take_past}
+use Rattle.script_calls.proofs.ListLemmas.{get_some, take_at, take_past}
 use Rattle.script_calls.proofs.LineLemmas.{OneMore, one_more, part_here, part_there}
 use Rattle.script_workers.specs.declared.worker.Made.{Made}
 use Rattle.script_workers.specs.Works.{own_calls, CallMade, CallsMade, IsWork}
 use Rattle.script_workers.specs.Gathers.{HaveEnded}
 use Rattle.script_workers.specs.Merges.{MergedSoFar, AllAnswered}
 use Rattle.sh_pass.specs.Seats.{Heap}
+use Rattle.sh_pass.proofs.Sums.Totals.{get_set_here}
+use Rattle.sh_pass.proofs.Zips.{set_other}
 
 -- ---- lists
 
@@ -38,11 +40,6 @@ drop_past [] zero h = refl
 drop_past [] (suc n) h = refl
 drop_past (x ∷ xs) zero h = absurd (omega arith)
 drop_past (x ∷ xs) (suc n) h = drop_past xs n (omega arith)
-
-within : {A : Type 0} (xs : List A) (k : ℕ) (x : A) → slice_get xs k ≡ Some x → k < length xs
-within [] k x e = absurd (none-some x e)
-within (y ∷ ys) zero x e = omega arith
-within (y ∷ ys) (suc k) x e = let h = within ys k x e in omega (arith, h)
 
 -- ---- a pass's own calls among the lines that are left
 
@@ -91,7 +88,7 @@ module _ (heap : Option Heap) (terms : RunTerms) (tag : Option ℕ) (lines : Lis
   took = ap (λ (k : ℕ). take k lines) (add-one i) ∙ take_at lines i l at
 
   owner : (side : SeenPass) × (slice_get sides l.pass ≡ Some side)
-  owner = let few = within rests l.pass (m ∷ ms) own in get_some sides l.pass (omega (
+  owner = let few = slice_get_within rests l.pass (m ∷ ms) own in get_some sides l.pass (omega (
     arith,
     few,
     was.sides_all,
@@ -125,7 +122,7 @@ module _ (heap : Option Heap) (terms : RunTerms) (tag : Option ℕ) (lines : Lis
       → slice_get (set rests l.pass ms) p ≡ Some qs
       → IsWork heap terms tag rest p (with_part was.run.parts l.pass one.part p) side qs
   here p side qs is e f =
-      let same : ms ≡ qs = same_Some ms qs (sym (get_set_same rests l.pass (m ∷ ms) ms own)
+      let same : ms ≡ qs = same_Some ms qs (sym (get_set_here rests l.pass (m ∷ ms) ms own)
       ∙ (ap (slice_get (set rests l.pass ms)) (sym is) ∙ f)) in
       let it : owner.0 ≡ side = same_Some owner.0 side (sym owner.1 ∙ (ap (slice_get sides) (sym is) ∙ e)) in
       let Q : ℕ × PassPart × SeenPass × List Made → Type 0 = λ z. IsWork heap terms tag rest z.0 z.1 z.2 z.3 in
@@ -135,7 +132,7 @@ module _ (heap : Option Heap) (terms : RunTerms) (tag : Option ℕ) (lines : Lis
       → slice_get (set rests l.pass ms) p ≡ Some qs
       → IsWork heap terms tag rest p (with_part was.run.parts l.pass one.part p) side qs
   there p side qs ne e f =
-      let at_p : slice_get rests p ≡ Some qs = sym (get_set_other rests l.pass p ms ne) ∙ f in
+      let at_p : slice_get rests p ≡ Some qs = sym (set_other rests l.pass p ms ne) ∙ f in
       let Q : List CallLine → Type 0 = λ ls. IsWork heap terms tag ls p (was.run.parts p) side qs in
       let left = passed heap terms tag rest l p (was.run.parts p) side qs (λ s. ne (sym s))
       (subst Q dropped (was.each p side qs e at_p)) in
@@ -187,7 +184,7 @@ pub never_empty : (heap : Option Heap) (terms : RunTerms) (tag : Option ℕ) (li
     → MergedSoFar heap terms tag lines i numbers sides rests output → (l : CallLine) → slice_get lines i ≡ Some l
     → slice_get rests l.pass ≡ Some [] → ⊥
 never_empty heap terms tag lines i numbers sides rests output was l at own =
-    let few = within rests l.pass [] own in
+    let few = slice_get_within rests l.pass [] own in
     let owner = get_some sides l.pass (omega (arith, few, was.sides_all, was.rests_all)) in
     let h = was.each l.pass owner.0 [] owner.1 own in
     let dropped : drop i lines ≡ l ∷ drop (suc i) lines = drop_at lines i l at in
@@ -237,7 +234,7 @@ merging_ends heap terms tag lines i numbers sides rests output past h =
         text = h.text ∙ ap (λ ls. replies_text ls h.answers) whole;
         all = h.sides_all;
         each = λ p s e.
-            let few = within sides p s e in
+            let few = slice_get_within sides p s e in
             let made = get_some rests p (omega (arith, few, h.sides_all, h.rests_all)) in
             let Q : List CallLine → Type 0 = λ ls. IsWork heap terms tag ls p (h.run.parts p) s made.0 in
             none_left heap terms tag p h.run.parts s made.0

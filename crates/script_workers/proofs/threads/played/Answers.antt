@@ -3,10 +3,11 @@ use Rattle.std.specs.Option.{option_map}
 use Rattle.script_calls.specs.Finished.{LinesRan}
 use Rattle.script_calls.specs.Parts.{told_pass}
 use Rattle.script_calls.proofs.HeardAll.{heard_of_heap, heard_tales}
-use Rattle.script_calls.proofs.InTurn.{all_are, all_speak, apart, lines_ran}
+use Rattle.script_calls.proofs.InTurn.{all_are, all_speak, lines_ran}
 use Rattle.script_calls.proofs.ListLemmas.{up_length}
 use Rattle.script_calls.proofs.Newcomers.{length_map, newcomers_length}
 use Rattle.script_workers.proofs.threads.played.Goals as goal
+use Rattle.sh_pass.proofs.Truths.{no_bool}
 
 pub all_ended-requires-clause-space : goal.all_ended-requires-clause-space
 all_ended-requires-clause-space g c =
@@ -70,4 +71,4 @@ returns-clause-ran g c =
     (option_map seen c.met.result) in
     subst R (sym c.requires.tag) (lines_ran seen false room.heap room.terms room.tag lines (length lines) answered.0
     sides output c.met.result None ts past c.requires.passes answered.1 c.all_hear.ensures.hear
-    c.all_hear.ensures.told (λ s m. apart) c.met.ensures.met c.met.ensures.ended c.met.ensures.stays)
+    c.all_hear.ensures.told (λ s m. no_bool) c.met.ensures.met c.met.ensures.ended c.met.ensures.stays)
