@@ -10,6 +10,7 @@ pub mod Quiet
 pub mod Collects
 pub mod WaitFree
 pub mod Replays
+pub mod Entries
 pub mod MapEntries
 pub mod AtomicMap
 pub use Rattle.sh_history.proofs.ByPlace

@@ -37,22 +37,24 @@ by_one_more plan p (s ∷ steps) t = by_one_more plan (body_then plan p s) steps
 abbrev part_by : Action → Row → ℕ → Operation → Body
 part_by x r n o = r.part (word_found (record { action = x; place = r.place; answer = answer o n }))
 
+-- a step that stores, and so returns no word, is blind to the word that it found
+pub blind_step : (plan : Plan) (p : Body) (x : Action) (r : Row) → row plan p x ≡ Some r → (new : ℕ)
+    → r.operation ≡ Store new → IsBlind r
+blind_step plan p x r is new e =
+    let m = move_of_row plan p x r is in
+    subst IsBlind (sym m.4) (stores_blind plan p m.0 new (ap (λ (z : Row). z.operation) (sym m.4) ∙ e))
+
 -- a step that returns no word leaves the same part, whatever word it found
 part_found : (plan : Plan) (p : Body) (x : Action) (r : Row) (n : ℕ) → row plan p x ≡ Some r
     → r.part (word_found (footstep_of x r n)) ≡ r.part n
 part_found plan p x r n is = go r.operation refl
   where
-    blind : (new : ℕ) → r.operation ≡ Store new → IsBlind r
-    blind new e =
-        let m = move_of_row plan p x r is in
-        subst IsBlind (sym m.4) (stores_blind plan p m.0 new (ap (λ (z : Row). z.operation) (sym m.4) ∙ e))
-
     go : (o : Operation) → r.operation ≡ o → part_by x r n r.operation ≡ r.part n
     go (FetchAdd m) e = ap (part_by x r n) e
     go (FetchSub m) e = ap (part_by x r n) e
     go (FetchOr m) e = ap (part_by x r n) e
     go (Swap m) e = ap (part_by x r n) e
-    go (Store new) e = (blind new e (word_found (footstep_of x r n)) n).0
+    go (Store new) e = (blind_step plan p x r is new e (word_found (footstep_of x r n)) n).0
     go (CompareExchange old new) e = ap (part_by x r n) e
     go Load e = ap (part_by x r n) e
 

@@ -1,12 +1,14 @@
 -- What a pass did, step by step: a trail is part of no world, and no condition reads it. What is counted over it is in
 -- sh_step's Footsteps.
-use Rattle.std.specs.Prelude.{ℕ, ◌≡◌, ◌≢◌, ◌<◌, ◌==◌, List, [], ◌∷◌, ◌++◌, Some, None, cond, filter, slice_get}
+use Rattle.std.specs.Prelude.{ℕ, ◌≡◌, ◌≢◌, ◌<◌, ◌==◌, Bool, List, [], ◌∷◌, ◌++◌, Some, None, cond, count_by, filter}
+use Rattle.std.specs.Prelude.{length, slice_get}
 use Rattle.sh_history.specs.declared.entry.Entry.{Entry}
 use Rattle.sh_history.specs.Log.{pass_of}
 use Rattle.sh_step.specs.declared.action.Action.{Action}
 use Rattle.sh_step.specs.declared.action.Event.{Event}
 use Rattle.sh_step.specs.declared.body.Body.{Body}
 use Rattle.sh_step.specs.declared.footstep.Footstep.{Footstep}
+use Rattle.sh_step.specs.Deciding.{decides}
 use Rattle.sh_step.specs.Footsteps.{footstep_of}
 use Rattle.sh_step.specs.Parts.{newcomer}
 use Rattle.sh_step.specs.Plans.{Plan}
@@ -34,6 +36,14 @@ trail_of plan es a = trail_from plan (open_world plan) a [] es
 -- the word that a step found, or 0 if its operation returns none
 abbrev pub word_found : Footstep → ℕ
 word_found t = elim (t.answer) [ Some n ↦ n | None ↦ 0 ]
+
+-- whether the step decided a call, by the word that it found
+abbrev pub decides_call : Plan → Footstep → Bool
+decides_call plan t = decides plan t.action (word_found t)
+
+-- how many of these steps decided a call
+abbrev pub decided : Plan → List Footstep → ℕ
+decided plan trail = count_by (decides_call plan) trail
 
 -- what one step leaves of a part
 unfoldable pub body_then : Plan → Body → Footstep → Body
@@ -65,6 +75,11 @@ OthersTrailsStay = (plan : Plan) (es : List Event) (e : Event) (a : ℕ) → e.p
 abbrev pub StepsMakeParts : Type 0
 StepsMakeParts = (plan : Plan) (es : List Event) (a : ℕ) → a < plan.passes
     → slice_get (run plan es).parts a ≡ Some (body_by plan newcomer (trail_of plan es a))
+
+-- a pass has as many entries in the log as steps that decided a call: each of these added one
+abbrev pub StepsMakeEntries : Type 0
+StepsMakeEntries = (plan : Plan) (es : List Event) (a : ℕ)
+    → length (log_of a (run plan es)) ≡ decided plan (trail_of plan es a)
 
 -- an event that is skipped leaves all trails as they were
 abbrev pub SkipsLeaveTrails : Type 0

@@ -1,18 +1,21 @@
 //! Laws of what passes did and were replied, and of the places and words that they step on.
 ghost use Rattle.sh_core.specs.Outcomes.{DecidingEventsReply};
 ghost use Rattle.sh_core.specs.Trails.{TrailGrows, OthersTrailsStay, SkipsLeaveTrails, StepsMakeParts};
+ghost use Rattle.sh_core.specs.Trails.{StepsMakeEntries};
 ghost use Rattle.sh_core.specs.AtomicMap.{EventsAreOperations, OpensEmpty};
 ghost use Rattle.sh_core.specs.WaitFree.{WaitFree};
 ghost use Rattle.sh_core.specs.Quiet.{QuietLosesNothing, CollectingFindsAll};
 ghost use Rattle.sh_core.specs.InHeap.{PlansHaveShapesPlaces, CountsLeaveRoom};
 
 /// What one more event adds to the trails of the passes: a step to that of the pass that did it, and nothing to
-/// another's. The part of a pass is what the steps of its trail leave of a newcomer's.
+/// another's. The part of a pass is what the steps of its trail leave of a newcomer's. A pass has as many entries in the
+/// log as steps that decided a call.
 pub fn trails_grow()
     ensures own { TrailGrows }
     ensures others { OthersTrailsStay }
     ensures skipped { SkipsLeaveTrails }
     ensures parts { StepsMakeParts }
+    ensures entries { StepsMakeEntries }
 {}
 
 /// An event whose word decides a call replies: one entry of its pass joins the log then, and only then.

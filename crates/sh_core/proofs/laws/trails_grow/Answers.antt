@@ -1,3 +1,4 @@
+use Rattle.sh_core.proofs.Entries.{steps_make_entries}
 use Rattle.sh_core.proofs.Replays.{steps_make_parts}
 use Rattle.sh_core.proofs.Words.Steps.{trail_grows, others_trails_stay, skips_leave_trails}
 use Rattle.sh_core.proofs.laws.trails_grow.Goals as goal
@@ -13,3 +14,6 @@ returns-clause-skipped c = skips_leave_trails
 
 pub returns-clause-parts : goal.returns-clause-parts
 returns-clause-parts c = steps_make_parts
+
+pub returns-clause-entries : goal.returns-clause-entries
+returns-clause-entries c = steps_make_entries
