@@ -15,7 +15,7 @@ use Rattle.script_output.specs.declared.answer.Answer.{Answer}
 use Rattle.script_output.specs.Keys.{HasTagRoom}
 use Rattle.script_output.specs.Replies.{reply_line}
 use Rattle.sh_pass.specs.Passes.{Caller}
-use Rattle.sh_member.specs.Sides.{SideStands}
+use Rattle.script_calls.specs.OwnParts.{PartIsTrue}
 use Rattle.script_calls.specs.Parts.{RunTerms, PassPart, SeenPass, SamePass, new_passes}
 use Rattle.script_calls.specs.Calls.{CallAnswers, binds, number_told}
 use Rattle.script_calls.specs.Named.{numbers_told, tells_number, HeardOfNumber, NamesWereHeard}
@@ -140,7 +140,7 @@ module _ (heap : Option Heap) (terms : RunTerms) (tag : Option ℕ) (lines : Lis
     (heeds : HeedsLast last side mid) (same : SamePass mid now) (a : Answer)
     (room : HasTagRoom terms.layout tag)
     (does : CallAnswers mid.terms tag mid.pass mid.part l.call (number_meant numbers l.call) a now.part)
-    (stands : SideStands now.terms.layout now.part.stands) where
+    (stands : PartIsTrue now.terms.layout now.part) where
   abbrev who : List ℕ
   who = adding_passes (take i lines) was.so_far.answers
 

@@ -147,7 +147,7 @@ on_some_name numbers c n e = go (name_used c) refl e where
 
 -- ---- a line among the others
 
-line_keeps : (terms : RunTerms) (tag : Option ℕ) (run next : CallsRun) (l : CallLine) (a : Answer)
+pub line_keeps : (terms : RunTerms) (tag : Option ℕ) (run next : CallsRun) (l : CallLine) (a : Answer)
     → LineAnswered terms tag run l a next → (p : ℕ) → KeepsKnown (run.parts p).log (next.parts p).log
 line_keeps terms tag run next l a s p k e at = dite (ℕ_discrete p l.pass)
     (λ (is : p ≡ l.pass).
@@ -221,7 +221,7 @@ line_at terms tag before after (k ∷ ks) (b ∷ bs) (suc i) l a h at said =
 
 -- ---- its entry in the history
 
-zip_known : (xs : List LogEntry) (ys : List Entry) → AllZip Agrees xs ys → (k : ℕ) (e : Entry)
+pub zip_known : (xs : List LogEntry) (ys : List Entry) → AllZip Agrees xs ys → (k : ℕ) (e : Entry)
     → slice_get xs k ≡ Some (Known e) → slice_get ys k ≡ Some e
 zip_known [] ys h k e at = absurd (none-some (Known e) at)
 zip_known (x ∷ xs) [] h k e at = absurd h

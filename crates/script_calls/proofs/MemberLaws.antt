@@ -13,6 +13,7 @@ use Rattle.sh_member.specs.declared.member.Side.TheVariants.{Pass, Shard, Moving
 use Rattle.sh_member.specs.SideBounds.{AdoptTakes}
 use Rattle.sh_member.specs.Sides.{SeenSide, SideDoes, SideInserts, SideAdopts, SideLeaves, SideStands, SideHeeds}
 use Rattle.sh_member.specs.Sides.{IsOfHeap, IsReceiptBy, MayJoin, SideJoins, SideGivesPass}
+use Rattle.script_calls.specs.OwnParts.{PartIsTrue}
 use Rattle.script_calls.specs.Parts.{SeenPass, SamePass, heap_terms, shard_owned, tale_told}
 use Rattle.script_calls.specs.Calls.{AdoptAnswers, LeaveAnswers, InsertAnswers}
 use Rattle.script_calls.specs.Calls.{GetAnswers, ReadAnswers, RemoveAnswers, ReleaseAnswers}
@@ -173,9 +174,9 @@ member_whole layout (Shard o) h = whole_tale layout o.pages.owner (Shard o) h.st
 member_whole layout Moving h = absurd h
 
 pub member_stands : (layout : Layout) (m : SeenSide) → SideStands layout m
-    → SideStands (seen_of_member layout m).terms.layout (seen_of_member layout m).part.stands
-member_stands layout (Pass v) h = h
-member_stands layout (Shard o) h = h
+    → PartIsTrue (seen_of_member layout m).terms.layout (seen_of_member layout m).part
+member_stands layout (Pass v) h = (h, refl)
+member_stands layout (Shard o) h = (h, refl)
 member_stands layout Moving h = absurd h
 
 pub members_may_join : (layout : Layout) (m n : SeenSide)

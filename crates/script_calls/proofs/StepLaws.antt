@@ -10,8 +10,7 @@ use Rattle.sh_pass.specs.Heard.{Heard}
 use Rattle.sh_pass.specs.Order.{Order}
 use Rattle.sh_pass.specs.Seats.{Heap}
 use Rattle.sh_pass.specs.Passes.{Caller}
-use Rattle.sh_member.specs.Sides.{SideStands}
-use Rattle.script_calls.specs.OwnParts.{steps_of}
+use Rattle.script_calls.specs.OwnParts.{PartIsTrue, steps_of}
 use Rattle.script_calls.specs.Parts.{RunTerms, PassPart, SeenPass, SamePass}
 use Rattle.script_calls.specs.Runs.{CallsRun, LineAnswered, opening_calls, with_part, next_run}
 use Rattle.script_calls.specs.Receipts.{SeenReceipt, seen_of_receipt, receipt_seen, order_seen, part_heard}
@@ -52,7 +51,7 @@ lines_kept orders more terms tag run (l ∷ ls) (b ∷ bs) after keeps h = (
 record NextLine (orders : List Order) (terms : RunTerms) (tag : Option ℕ) (run : CallsRun) (l : CallLine) (a : Answer)
     (next : CallsRun) : Type 0 where
   pub line : LineAnswered terms tag run l a next
-  pub stands : SideStands terms.layout (next.parts l.pass).stands
+  pub stands : PartIsTrue terms.layout (next.parts l.pass)
   pub heard : HeardOfSteps orders run.parts l.pass
 
 line_more : (orders : List Order) (terms : RunTerms) (tag : Option ℕ) (before mid after : CallsRun)
@@ -116,7 +115,7 @@ module _ (heap : Option Heap) (terms : RunTerms) (tag : Option ℕ) (lines : Lis
   -- one line more
   pub lines_more : (a : Answer) (next : CallsRun) → next ≡ next_run was.run l a now.part
       → KeepsOrders side.orders now.orders → LineAnswered terms tag was.run l a next
-      → SideStands now.terms.layout now.part.stands
+      → PartIsTrue now.terms.layout now.part
       → LinesHeard (orders_of sides) terms tag (opening_calls heap) (take i lines) was.answers was.run
       → LinesHeard (orders_of (set sides l.pass now)) terms tag (opening_calls heap) (take i lines ++ l ∷ [])
       (was.answers ++ a ∷ []) next
@@ -126,7 +125,7 @@ module _ (heap : Option Heap) (terms : RunTerms) (tag : Option ℕ) (lines : Lis
       orders_at (set sides l.pass now) l.pass now (get_set_here sides l.pass side now own) in
       let part : next.parts l.pass ≡ now.part = ap (λ (r : CallsRun). r.parts l.pass) is
       ∙ part_here parts l.pass l.pass now.part refl in
-      let S : RunTerms × PassPart → Type 0 = λ z. SideStands z.0.layout z.1.stands in
+      let S : RunTerms × PassPart → Type 0 = λ z. PartIsTrue z.0.layout z.1 in
       line_more more terms tag (opening_calls heap) was.run next (take i lines) was.answers l a
       (lines_kept (orders_of sides) more terms tag (opening_calls heap) (take i lines) was.answers was.run
       (keeps_all keeps) heard)

@@ -1,18 +1,24 @@
 -- The own part of a pass: what it knows of its own, its entries, and each of its steps with the word that it found.
 use Rattle.std.specs.Prelude.{◌≡◌, ℕ, List, [], length, Ok}
+use Rattle.sh_key.specs.Layout.{Layout}
 use Rattle.sh_pass.specs.Shape.{Numbers}
 use Rattle.sh_pass.specs.Growing.{GoesOn}
 use Rattle.sh_pass.specs.Own.{Own}
 use Rattle.sh_pass.specs.Told.{Told}
 use Rattle.sh_pass.specs.Views.{fresh}
 use Rattle.sh_member.specs.declared.member.Side.TheVariants.{Pass, Shard, Moving}
-use Rattle.sh_member.specs.Sides.{SeenSide, SideLeaves}
+use Rattle.sh_member.specs.Sides.{SeenSide, SideLeaves, SideStands}
+use Rattle.script_calls.specs.Parts.{PassPart}
 
 -- the own part of the pass
 abbrev pub own_part : SeenSide → Own
 own_part (Pass v) = v.view.own
 own_part (Shard o) = o.pages.owner.view.own
 own_part Moving = fresh
+
+-- all that the pass knows is true, nothing is begun, and its entries are those of its own part
+abbrev pub PartIsTrue : Layout → PassPart → Type 0
+PartIsTrue layout v = SideStands layout v.stands × (v.log ≡ (own_part v.stands).log)
 
 -- the passes that it took in, with their own parts
 abbrev pub taken_in : SeenSide → List Told

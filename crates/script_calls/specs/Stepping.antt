@@ -7,8 +7,7 @@ use Rattle.sh_pass.specs.Heard.{Heard}
 use Rattle.sh_pass.specs.Order.{Order}
 use Rattle.sh_pass.specs.Seats.{Heap}
 use Rattle.sh_pass.specs.Passes.{Caller}
-use Rattle.sh_member.specs.Sides.{SideStands}
-use Rattle.script_calls.specs.OwnParts.{steps_of}
+use Rattle.script_calls.specs.OwnParts.{PartIsTrue, steps_of}
 use Rattle.script_calls.specs.Parts.{RunTerms, PassPart}
 use Rattle.script_calls.specs.Receipts.{seen_of_receipt}
 use Rattle.script_calls.specs.Runs.{CallsRun, LineAnswered, opening_calls}
@@ -20,13 +19,13 @@ HeardOfSteps orders parts p = (q : ℕ) → 0 < steps_of (parts q).stands → (o
     × (steps_of (parts q).stands ≤ o.heard.steps)
 
 -- These lines have these answers. Before each line, its pass had heard of all steps of the lines before. After it, all
--- that the pass knows is true, and nothing is begun.
+-- that the pass knows is true, nothing is begun, and its entries are those of its own part.
 abbrev pub LinesHeard : List Order → RunTerms → Option ℕ → CallsRun → List CallLine → List Answer → CallsRun → Type 0
 LinesHeard orders terms tag run [] [] after = after ≡ run
 LinesHeard orders terms tag run [] (a ∷ answers) after = ⊥
 LinesHeard orders terms tag run (l ∷ lines) [] after = ⊥
 LinesHeard orders terms tag run (l ∷ lines) (a ∷ answers) after = (next : CallsRun)
-    × LineAnswered terms tag run l a next × SideStands terms.layout (next.parts l.pass).stands
+    × LineAnswered terms tag run l a next × PartIsTrue terms.layout (next.parts l.pass)
     × HeardOfSteps orders run.parts l.pass × LinesHeard orders terms tag next lines answers after
 
 -- the same of all lines of a run; and before each pass did anything to end, it had heard of all steps of all lines

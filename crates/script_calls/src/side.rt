@@ -1,11 +1,11 @@
 //! A pass of a heap, with or without a shard: what runs the calls of a script.
 ghost use Rattle.std.specs.Prelude.{◌≡◌, ◌<◌, ◌+◌, ◌∷◌, ◌++◌, IfOk, None};
 ghost use Rattle.sh_key.specs.Layout.{first_key, key_count};
-ghost use Rattle.sh_member.specs.Sides.{SideStands};
 ghost use Rattle.script_calls.specs.Parts.{SeenPass, SamePass, tale_told};
 ghost use Rattle.script_calls.specs.Calls.{AdoptAnswers, LeaveAnswers, InsertAnswers, GetAnswers, ReadAnswers};
 ghost use Rattle.script_calls.specs.Calls.{RemoveAnswers, ReleaseAnswers};
 ghost use Rattle.script_calls.specs.Meeting.{KeepsOrders, parts_carried};
+ghost use Rattle.script_calls.specs.OwnParts.{PartIsTrue};
 ghost use Rattle.script_calls.specs.Receipts.{seen_of_receipt, receipt_seen, Heeds, HasOrderedTale};
 
 use sh_pass::Receipt;
@@ -86,8 +86,8 @@ pub trait Side: Drop {
         ensures parts { parts_carried (seen result) ≡ parts_carried (seen self) ++ parts_carried (seen other) };
 
     /// One legal history has the entries of each pass that it speaks for, and keeps the orders that it heard of. All
-    /// that it knows is true, and nothing is begun.
+    /// that it knows is true, nothing is begun, and its entries are those of its own part.
     fn whole(&self)
         ensures tale { HasOrderedTale (seen self.now) }
-        ensures stands { SideStands (seen self.now).terms.layout (seen self.now).part.stands };
+        ensures stands { PartIsTrue (seen self.now).terms.layout (seen self.now).part };
 }

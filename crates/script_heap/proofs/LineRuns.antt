@@ -215,7 +215,7 @@ module _ (layout : Layout) (shape : Numbers) (tag : Option ℕ) (events : List E
         c.rest,
         c.is,
         by_lines h.0 ls bs after h.4 d (early ++ c.own) c.rest whole c.same
-            (settled_next before h.0 l b h.1 h.2 settled),
+            (settled_next before h.0 l b h.1 h.2.0 settled),
       )
 
 -- the whole run

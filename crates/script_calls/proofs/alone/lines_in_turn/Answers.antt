@@ -4,9 +4,9 @@ use Rattle.std.proofs.Common.{Some, Option, slice_get}
 use Rattle.std.specs.Option.{option_map}
 use Rattle.std.proofs.lemmas.Grind.{common_steps}
 use Rattle.std.proofs.lemmas.Option.{gets, slice_get-map}
-use Rattle.sh_member.specs.Sides.{SideStands}
 use Rattle.sh_script.specs.declared.calls.CallLine.{CallLine}
 use Rattle.script_output.specs.Keys.{HasTagRoom}
+use Rattle.script_calls.specs.OwnParts.{PartIsTrue}
 use Rattle.script_calls.specs.Parts.{RunTerms, SeenPass, new_passes, told_pass}
 use Rattle.script_calls.specs.Calls.{CallAnswers}
 use Rattle.script_output.specs.Replies.{reply_line}
@@ -77,7 +77,7 @@ loop-line-preserved g c =
     l.pass now = map_set seen c.loop-line.sides.items l.pass c.receipt.new.self
     ∙ ap (set (map seen c.loop-line.sides.items) l.pass) c.receipt.ensures.same in
     let room : HasTagRoom g.at.1.layout c.args.tag = search rules in
-    let stands : SideStands now.terms.layout now.part.stands = c.whole-known.ensures.stands in
+    let stands : PartIsTrue now.terms.layout now.part = c.whole-known.ensures.stands in
     ordered_more g.at.0 g.at.1 c.args.tag c.args.lines.now c.loop-line.line-index c.loop-line.numbers.items
     (map seen c.loop-line.sides.items) c.loop-line.output.items c.loop-line.last
     c.loop-line.invariant l at side mid now own c.heed_last.ensures
