@@ -62,7 +62,7 @@ decides_found plan p x r n is = go r.operation refl
 -- ---- what an event adds to the entries of a pass
 
 -- the entries of pass a
-abbrev entries : ℕ → List Entry → List Entry
+abbrev pub entries : ℕ → List Entry → List Entry
 entries a log = filter (λ (e : Entry). pass_of e == a) log
 
 one_longer : (a : ℕ) (log : List Entry) (t : Entry)

@@ -11,6 +11,8 @@ pub mod Collects
 pub mod WaitFree
 pub mod Replays
 pub mod Entries
+pub mod LoneEntries
+pub mod UsedSlots
 pub mod MapEntries
 pub mod AtomicMap
 pub use Rattle.sh_history.proofs.ByPlace

@@ -8,7 +8,7 @@ use Rattle.sh_history.specs.History.{value_of, is_removed, is_removal_of, presen
 use Rattle.sh_history.proofs.LogLaws.{value_of-append_none, value_stays}
 use Rattle.sh_core.specs.AtomicMap.{Finds, made_by}
 
-or_false : (b : Bool) → (b || false) ≡ b
+pub or_false : (b : Bool) → (b || false) ≡ b
 or_false true = refl
 or_false false = refl
 
@@ -16,7 +16,7 @@ or_assoc : (a b c : Bool) → (a || (b || c)) ≡ ((a || b) || c)
 or_assoc true b c = refl
 or_assoc false b c = refl
 
-removed_snoc : (log : List Entry) (t : Entry) (j : ℕ) → is_removed (log ++ t ∷ []) j
+pub removed_snoc : (log : List Entry) (t : Entry) (j : ℕ) → is_removed (log ++ t ∷ []) j
     ≡ (is_removed log j || is_removal_of j t)
 removed_snoc [] t j = or_false (is_removal_of j t)
 removed_snoc (x ∷ log) t j = ap (λ b. is_removal_of j x || b) (removed_snoc log t j)
