@@ -1,9 +1,11 @@
 -- Pages that were read from the bell, in their order, and the queues to which they came back.
-use Rattle.std.proofs.Common.{◌≡◌, ℕ, ◌+◌, ◌-◌, ◌==◌, ◌||◌, true, false, cond, Option, Some, None, List, [], ◌∷◌, ◌++◌}
-use Rattle.std.proofs.Common.{refl, ap, ◌∙◌, sym}
+use Rattle.std.proofs.Common.{◌≡◌, ◌≢◌, ℕ, ◌+◌, ◌-◌, ◌==◌, ◌||◌, true, false, cond, Option, Some, None, List, []}
+use Rattle.std.proofs.Common.{◌∷◌, ◌++◌, refl, ap, ◌∙◌, sym, subst, ⊎_elim}
 use Rattle.std.proofs.Math.Bool.{or_assoc}
+use Rattle.std.proofs.lemmas.Bool.{cases_eq}
 use Rattle.sh_queue.specs.Numbers.{has_number}
 use Rattle.sh_queue.specs.Queues.{PageQueues, at_back}
+use Rattle.sh_pass.specs.Owners.{SeenPage}
 use Rattle.sh_shard.specs.Pages.{Paged, page_at, seen_class, BellTakes, BellStops, BellReads}
 use Rattle.sh_shard.specs.Turning.{come_back, come_back_each, any_of_class}
 use Rattle.sh_shard.specs.Works.{BellAlone, ReadInTurn}
@@ -85,3 +87,18 @@ reads_after (p ∷ ps) o n m b t = (t.0, t.1, alone_more o n t.0 b t.2, t.3, t.4
 pub reads_both : (ps rs : List ℕ) (o n m : Paged) → ReadInTurn ps o n → ReadInTurn rs n m → ReadInTurn (ps ++ rs) o m
 reads_both [] rs o n m a b = reads_after rs o n m a b
 reads_both (p ∷ ps) rs o n m a b = (a.0, a.1, a.2, a.3, reads_both ps rs a.1 n m a.4 b)
+
+-- ---- a page has the slots that it had, after pages were read from the bell
+
+read_keeps : (p : ℕ) (o n : Paged) → BellReads p o n → (q s : ℕ) → (page_at n q).mine s ≡ (page_at o q).mine s
+read_keeps p o n r q s = ⊎_elim
+    (λ (e : q ≡ p). subst (λ (k : ℕ). (page_at n k).mine s ≡ (page_at o k).mine s) (sym e)
+    (ap (λ (g : SeenPage). g.mine s) r.here))
+    (λ (ne : q ≢ p). ap (λ (g : SeenPage). g.mine s) (r.others q ne))
+    (cases_eq q p)
+
+pub reads_keep : (ps : List ℕ) (o n : Paged) → ReadInTurn ps o n → (q s : ℕ)
+    → (page_at n q).mine s ≡ (page_at o q).mine s
+reads_keep [] o n h q s = ap (λ (g : SeenPage). g.mine s) (h.pages q)
+reads_keep (p ∷ ps) o n h q s = reads_keep ps h.1 n h.4 q s
+    ∙ (read_keeps p h.0 h.1 h.3 q s ∙ ap (λ (g : SeenPage). g.mine s) (h.2.pages q))

@@ -47,6 +47,7 @@ pub none_left : (c : ℕ) (o n : Sharded) → Tried c o n → SortedPages n.page
     → NoneLeft c o.pages n.pages
 none_left c o n s k once = record {
   through = s.through;
+  kept = s.kept;
   bell = s.bell;
   done = (class_done c o n s.through s.done k once).done;
 }

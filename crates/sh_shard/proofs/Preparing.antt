@@ -20,7 +20,7 @@ use Rattle.sh_shard.specs.Bounds.{PrepareIsBounded, InsertIsBounded}
 use Rattle.sh_shard.specs.Filing.{OpensFor, ComesInFront}
 use Rattle.sh_shard.specs.Shards.{Sharded, SortedPages, NoneLeft, NoRoom, IsSpare, NeedsSegment}
 use Rattle.sh_shard.specs.Shards.{IsBlank, NoneSpare, NoneOpenedBlank, IsLowest, IsNextFor, PreparesPage}
-use Rattle.sh_shard.specs.Shards.{PrepareServes, InsertServes, IsQuick, FoundInQueue, LooksInVain}
+use Rattle.sh_shard.specs.Shards.{PrepareServes, InsertServes, IsQuick, FoundInQueue, LooksInVain, NextAfterSearch}
 use Rattle.sh_shard.specs.Finding.{StoresAtFront, InsertsElsewhere}
 use Rattle.sh_shard.specs.Searches.{Tried}
 use Rattle.sh_shard.proofs.Works.{through_none}
@@ -231,7 +231,16 @@ module _ (layout : Layout) (c : ℕ) (value : List ℕ) where
       → InsertsElsewhere layout c value n r m → InsertServes layout c value o r m
   served_after o n m class t sorted once (Ok key) k =
       let gives = k.prepares.gives in
-      let names = names_before layout k.page key o.pages n.pages t.through.aside t.through.shard k.names in (
+      let names = names_before layout k.page key o.pages n.pages t.through.aside t.through.shard k.names in
+      let next : NextAfterSearch c k.page key value o m = record {
+        searched = n;
+        left = none_left c o n t sorted once;
+        opened = t.opened;
+        given = k.given;
+        prepares = k.prepares;
+        queues = k.queues;
+        inserts = k.inserts;
+      } in (
         added_since key value o.pages n.pages m.pages t.through (added_given k.page c k.page key value n.pages
             k.given.pages m.pages gives k.inserts),
         names.shard,
@@ -245,15 +254,8 @@ module _ (layout : Layout) (c : ℕ) (value : List ℕ) where
           opened = let same : m.queues.opened ≡ k.given.queues.opened = ap (λ (q : PageQueues). q.opened) k.queues in
               let P : ℕ × ℕ → Type 0 = λ z. ((k.page < z.0) × (z.1 ≡ z.0))
               ⊎ ((k.page ≡ z.0) × (z.1 ≡ z.0 + 8)) in subst P (λ i. (t.opened i, sym same i)) k.prepares.opened;
-          gained = inr (inr (record {
-            searched = n;
-            left = none_left c o n t sorted once;
-            opened = t.opened;
-            given = k.given;
-            prepares = k.prepares;
-            queues = k.queues;
-            inserts = k.inserts;
-          }));
+          had = inr next;
+          gained = inr (inr next);
           turned = inr (inr (record {
             looked = n;
             looks = t.looks;

@@ -19,6 +19,7 @@ use Rattle.sh_shard.specs.Pages.{Paged, page_at, WorksOn, PageDone}
 use Rattle.sh_shard.specs.Shards.{Sharded, SortedPages}
 use Rattle.sh_shard.specs.Steps.{StepsAtMost}
 use Rattle.sh_shard.specs.Turning.{set_aside, turned_past}
+use Rattle.sh_shard.specs.Works.{KeepsOthers}
 use Rattle.sh_shard.specs.Searches.{WorkedSince, SetsAside, Stood, Searched, Searching}
 use Rattle.sh_shard.proofs.Turning.{aside_either, turned_last, turned_same, apart_ahead}
 use Rattle.sh_shard.proofs.Works.{through_none, through_more, through_works}
@@ -27,17 +28,28 @@ use Rattle.sh_shard.proofs.Waits.{waits_since}
 
 -- ---- work on pages, one after the other
 
-pub since_none : (o : Paged) → WorkedSince o o
-since_none o = record { through = through_none o; bell = refl }
+pub since_none : (c : ℕ) (o : Paged) → WorkedSince c o o
+since_none c o = record { through = through_none o; bell = refl; kept = λ q ne x. refl }
 
-pub since_works : (p : ℕ) (o n m : Paged) → WorkedSince o n → WorksOn p n m → WorkedSince o m
-since_works p o n m s w = record {
+-- work on a page of class c leaves the slots of the pages of other classes
+kept_works : (c p : ℕ) (o n m : Paged) → WorkedSince c o n → WorksOn p n m → (page_at n p).class ≡ Some (c + 1)
+    → KeepsOthers c o m
+kept_works c p o n m s w class q ne x = ⊎_elim
+    (λ (e : q ≡ p). absurd (ne (sym (s.through.classes q)
+    ∙ subst (λ (r : ℕ). (page_at n r).class ≡ Some (c + 1)) (sym e) class)))
+    (λ (other : q ≢ p). ap (λ (g : SeenPage). g.mine x) (w.others q other) ∙ s.kept q ne x)
+    (cases_eq q p)
+
+pub since_works : (c p : ℕ) (o n m : Paged) → WorkedSince c o n → WorksOn p n m
+    → (page_at n p).class ≡ Some (c + 1) → WorkedSince c o m
+since_works c p o n m s w class = record {
   through = through_more o n m s.through (through_works p n m w);
   bell = w.bell ∙ s.bell;
+  kept = kept_works c p o n m s w class;
 }
 
-done_here : (p : ℕ) (o n m : Paged) → WorkedSince o n → PageDone n m p → PageDone o m p
-done_here p o n m s d = record {
+done_here : (c p : ℕ) (o n m : Paged) → WorkedSince c o n → PageDone n m p → PageDone o m p
+done_here c p o n m s d = record {
   mine = d.mine;
   waits = waits_since (page_at m p).cursor _ _ _ _ (s.through.met p) d.waits;
 }
@@ -49,10 +61,10 @@ done_still o n m r e h =
     (λ _. (page_at o r).met < g.met) in
     let both = subst P (sym e) (h.mine, h.waits) in record { mine = both.0; waits = both.1 }
 
-done_kept : (p : ℕ) (o n m : Paged) (r : ℕ) → WorkedSince o n → WorksOn p n m → PageDone n m p → PageDone o n r
+done_kept : (c p : ℕ) (o n m : Paged) (r : ℕ) → WorkedSince c o n → WorksOn p n m → PageDone n m p → PageDone o n r
     → PageDone o m r
-done_kept p o n m r s w d h = ⊎_elim
-    (λ (e : r ≡ p). subst (PageDone o m) (sym e) (done_here p o n m s d))
+done_kept c p o n m r s w d h = ⊎_elim
+    (λ (e : r ≡ p). subst (PageDone o m) (sym e) (done_here c p o n m s d))
     (λ (ne : r ≢ p). done_still o n m r (w.others r ne) h)
     (cases_eq r p)
 
@@ -69,7 +81,7 @@ last_in x last (y ∷ ys) ne e = (e, has_number-last last (y ∷ ys) e)
 pub begins : (c last : ℕ) (o : Sharded) → EachOnce o.queues → last_or None (class_queue o.queues c) ≡ Some last
     → Searching c 0 last o o
 begins c last o once e = record {
-  since = since_none o.pages;
+  since = since_none c o.pages;
   steps = steps_none 0 o.pages.owner;
   opened = refl;
   stood = λ p h. h;
@@ -125,7 +137,7 @@ settled_stood c p n m z once l same here st r h = ⊎_elim
 
 -- the pages that wait after one more page was tried
 pub record Turned (c last : ℕ) (o z : Sharded) (p : ℕ) (ys : List ℕ) : Type 0 where
-  pub since : WorkedSince o.pages z.pages
+  pub since : WorkedSince c o.pages z.pages
   pub opened : z.queues.opened ≡ o.queues.opened
   pub stood : Stood c o z
   pub waited : List ℕ
@@ -134,16 +146,17 @@ pub record Turned (c last : ℕ) (o z : Sharded) (p : ℕ) (ys : List ℕ) : Typ
 
 turned : (c p turn last : ℕ) (o n m z : Sharded) (s : Searching c turn last o n) (ys : List ℕ) → s.rest ≡ p ∷ ys
     → EachOnce n.queues → c < 8 → m.queues ≡ n.queues
-    → WorksOn p n.pages m.pages → PageDone n.pages m.pages p → SetsAside c p m z → Turned c last o z p ys
-turned c p turn last o n m z s ys is once l same w d st =
+    → WorksOn p n.pages m.pages → PageDone n.pages m.pages p → SetsAside c p m z
+    → (page_at n.pages p).class ≡ Some (c + 1) → Turned c last o z p ys
+turned c p turn last o n m z s ys is once l same w d st class =
     let q : class_queue n.queues c ≡ p ∷ (ys ++ s.waited) = s.queue ∙ ap (λ xs. xs ++ s.waited) is in
     let q' : class_queue m.queues c ≡ p ∷ (ys ++ s.waited) = ap (λ (k : PageQueues). class_queue k c) same ∙ q in
-    let since : WorkedSince o.pages z.pages = subst (WorkedSince o.pages) (sym st.pages)
-    (since_works p o.pages n.pages m.pages s.since w) in
+    let since : WorkedSince c o.pages z.pages = subst (WorkedSince c o.pages) (sym st.pages)
+    (since_works c p o.pages n.pages m.pages s.since w class) in
     let old : (r : ℕ) → has_number r s.waited ≡ true → PageDone o.pages z.pages r = λ r h. subst
-    (λ k. PageDone o.pages k r) (sym st.pages) (done_kept p o.pages n.pages m.pages r s.since w d (s.done r h)) in
+    (λ k. PageDone o.pages k r) (sym st.pages) (done_kept c p o.pages n.pages m.pages r s.since w d (s.done r h)) in
     let new : PageDone o.pages z.pages p = subst (λ k. PageDone o.pages k p) (sym st.pages)
-    (done_here p o.pages n.pages m.pages s.since d) in
+    (done_here c p o.pages n.pages m.pages s.since d) in
     let inside : c < length m.queues.classes = (let e : length m.queues.classes
     ≡ length n.queues.classes = ap (λ (k : PageQueues). length k.classes) same in let f = once.classes
     in omega arith) in
@@ -182,9 +195,9 @@ vain_more : (c p turn last : ℕ) (o n m z : Sharded) (s : Searching c turn last
     → PageDone n.pages m.pages p → SetsAside c p m z → (r : ℕ) → has_number r (s.tried ++ p ∷ []) ≡ true
     → PageDone o.pages z.pages r
 vain_more c p turn last o n m z s w d st r h = subst (λ (k : Paged). PageDone o.pages k r) (sym st.pages) (⊎_elim
-    (λ (t : has_number r s.tried ≡ true). done_kept p o.pages n.pages m.pages r s.since w d (s.vain r t))
+    (λ (t : has_number r s.tried ≡ true). done_kept c p o.pages n.pages m.pages r s.since w d (s.vain r t))
     (λ (t : has_number r (p ∷ []) ≡ true). subst (PageDone o.pages m.pages) (sym (has_number-only r p t))
-    (done_here p o.pages n.pages m.pages s.since d))
+    (done_here c p o.pages n.pages m.pages s.since d))
     (or_cases (has_number r s.tried) (has_number r (p ∷ [])) (sym (has_number-append r s.tried (p ∷ [])) ∙ h)))
 
 past_more : (c p turn last : ℕ) (o n m z : Sharded) (s : Searching c turn last o n) (ys : List ℕ) → s.rest ≡ p ∷ ys
@@ -203,10 +216,12 @@ past_more c p turn last o n m z s ys is same w st =
 pub searching_more : (c p turn last : ℕ) (o n m z : Sharded) → Searching c turn last o n
     → slice_get (class_queue n.queues c) 0 ≡ Some p → EachOnce n.queues → c < 8 → m.queues ≡ n.queues
     → WorksOn p n.pages m.pages → PageDone n.pages m.pages p → SetsAside c p m z → z.queues.opened ≡ n.queues.opened
-    → StepsAtMost 4 n.pages.owner m.pages.owner → p ≢ last → Searching c (turn + 1) last o z
-searching_more c p turn last o n m z s e once l same w d st opened four ne =
+    → StepsAtMost 4 n.pages.owner m.pages.owner → SortedPages n.pages n.queues → p ≢ last
+    → Searching c (turn + 1) last o z
+searching_more c p turn last o n m z s e once l same w d st opened four sorted ne =
     let f = front_is c p turn last o n s e in
-    let t = turned c p turn last o n m z s f.0 f.1 once l same w d st in
+    let class = sorted.classes c p (front_has c p n.queues e) in
+    let t = turned c p turn last o n m z s f.0 f.1 once l same w d st class in
     let some : f.0 ≢ [] = λ k. ne (let is : Some p ≡ Some last = sym (ap (last_or None) (f.1 ∙ ap (λ ys. p ∷ ys) k))
     ∙ s.ends in let j : p ≡ last = cc in j) in
     let i = last_in p last f.0 some (sym (ap (last_or None) f.1) ∙ s.ends) in record {
@@ -239,7 +254,8 @@ pub ended : (c p turn last : ℕ) (o n m z : Sharded) → Searching c turn last 
     → StepsAtMost 4 n.pages.owner m.pages.owner → SortedPages n.pages n.queues → p ≡ last → Searched c o z
 ended c p turn last o n m z s e once l same w d st four sorted is =
     let f = front_is c p turn last o n s e in
-    let t = turned c p turn last o n m z s f.0 f.1 once l same w d st in
+    let class = sorted.classes c p (front_has c p n.queues e) in
+    let t = turned c p turn last o n m z s f.0 f.1 once l same w d st class in
     let q : class_queue n.queues c ≡ p ∷ (f.0 ++ s.waited) = s.queue ∙ ap (λ xs. xs ++ s.waited) f.1 in
     let none : f.0 ≡ [] = none_behind p f.0 s.waited (subst Distinct q (class_distinct n.queues once c))
     (sym (ap (last_or None) f.1) ∙ (s.ends ∙ ap (λ (k : ℕ). Some k) (sym is))) in
@@ -290,7 +306,7 @@ no_queue (x ∷ xs) e = absurd (none_last x xs e)
 
 pub no_pages : (c : ℕ) (o : Sharded) → last_or None (class_queue o.queues c) ≡ None → Searched c o o
 no_pages c o e = record {
-  since = since_none o.pages;
+  since = since_none c o.pages;
   steps = steps_none (4 * o.pages.count) o.pages.owner;
   opened = refl;
   stood = λ p h. h;

@@ -113,6 +113,7 @@ stored layout c p key value o n s inside same gained turned = (
     class = s.inserts.class ∙ (s.through.classes p ∙ s.class);
     others = λ q ne. ap (λ (g : SeenPage). g.class) (s.inserts.others q ne) ∙ s.through.classes q;
     opened = inl (inside, same);
+    had = inl s.class;
     gained = gained;
     turned = turned;
   },

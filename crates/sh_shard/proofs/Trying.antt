@@ -17,6 +17,7 @@ use Rattle.sh_shard.specs.Searches.{Searched, Hears, BellWaits, RingsOut, Tried}
 use Rattle.sh_shard.proofs.Works.{through_more, through_takes, read_more, read_later}
 use Rattle.sh_shard.proofs.Bounding.{rings_then, rings_most}
 use Rattle.sh_shard.proofs.BellOrder.{each_same, any_same, each_append, any_append, alone_takes, reads_then, reads_both}
+use Rattle.sh_shard.proofs.BellOrder.{reads_keep}
 use Rattle.sh_shard.proofs.Hearing.{through_hears}
 use Rattle.sh_shard.proofs.Working.{names_before}
 use Rattle.sh_shard.proofs.Waits.{waits_since}
@@ -116,6 +117,7 @@ tried_once c o n m s k r = record {
   steps = tried_in _ _ _ o.pages.count n.pages.count s.steps (rings_most 3 n.pages m.pages r.steps)
       s.since.through.count;
   through = through_more o.pages n.pages m.pages s.since.through r.through;
+  kept = λ q ne x. reads_keep r.rung n.pages m.pages r.rings.reads q x ∙ s.since.kept q ne x;
   opened = r.opened ∙ s.opened;
   looks = record {
     searched = n;
@@ -138,6 +140,8 @@ tried_twice c read o n m z did s r t =
       steps = tried_in_two _ _ _ _ o.pages.count n.pages.count m.pages.count s.steps
           (rings_most 3 n.pages m.pages r.steps) t.steps s.since.through.count r.through.count;
       through = through_more o.pages m.pages z.pages before t.since.through;
+      kept = λ q ne x. t.since.kept q (λ e. ne (sym (before.classes q) ∙ e)) x
+          ∙ (reads_keep r.rung n.pages m.pages r.rings.reads q x ∙ s.since.kept q ne x);
       opened = t.opened ∙ (r.opened ∙ s.opened);
       looks = record {
         searched = n;

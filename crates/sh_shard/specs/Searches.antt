@@ -8,14 +8,15 @@ use Rattle.sh_queue.specs.Queues.{class_queue, at_back}
 use Rattle.sh_pass.specs.Owners.{Aside, NonePut}
 use Rattle.sh_shard.specs.Steps.{StepsAtMost}
 use Rattle.sh_shard.specs.Pages.{Paged, page_at, PageDone, BellReads, StepsForRings}
-use Rattle.sh_shard.specs.Works.{WorksThroughout, BellDone, ReadFromBell}
+use Rattle.sh_shard.specs.Works.{WorksThroughout, BellDone, KeepsOthers, ReadFromBell}
 use Rattle.sh_shard.specs.Turning.{set_aside, turned_past, come_back, any_of_class}
 use Rattle.sh_shard.specs.Shards.{Sharded, SearchedInVain, HeardInTurn, LooksInVain}
 
--- work on pages alone: the bell is as it was
-pub record WorkedSince (o n : Paged) : Type 0 where
+-- work on pages of class c alone: the bell is as it was
+pub record WorkedSince (c : ℕ) (o n : Paged) : Type 0 where
   pub through : WorksThroughout o n
   pub bell : n.bell ≡ o.bell
+  pub kept : KeepsOthers c o n
 
 -- a page was tried in vain, and went to the back or to the full queue
 pub record SetsAside (c p : ℕ) (o n : Sharded) : Type 0 where
@@ -28,7 +29,7 @@ Stood c o n = (p : ℕ) → has_number p (class_queue n.queues c) ≡ true → h
 
 -- each page in the queue of class c was tried, and nothing is left in it
 pub record Searched (c : ℕ) (o n : Sharded) : Type 0 where
-  pub since : WorkedSince o.pages n.pages
+  pub since : WorkedSince c o.pages n.pages
   pub opened : n.queues.opened ≡ o.queues.opened
   pub stood : Stood c o n
   pub vain : SearchedInVain c o n
@@ -38,7 +39,7 @@ pub record Searched (c : ℕ) (o n : Sharded) : Type 0 where
 -- After this number of turns, the pages of `tried` were tried in vain, in this order. `rest` is yet to be tried, and
 -- ends in the page that was last when the search began. The pages that were tried and wait are behind it.
 pub record Searching (c turn last : ℕ) (o n : Sharded) : Type 0 where
-  pub since : WorkedSince o.pages n.pages
+  pub since : WorkedSince c o.pages n.pages
   pub opened : n.queues.opened ≡ o.queues.opened
   pub stood : Stood c o n
   pub apart : Distinct (class_queue o.queues c)
@@ -76,6 +77,7 @@ pub record RingsOut (c : ℕ) (read : Bool) (o n : Sharded) : Type 0 where
 -- each page in the queue of class c is done, and so is the bell
 pub record Tried (c : ℕ) (o n : Sharded) : Type 0 where
   pub through : WorksThroughout o.pages n.pages
+  pub kept : KeepsOthers c o.pages n.pages
   pub opened : n.queues.opened ≡ o.queues.opened
   pub looks : LooksInVain c o n
   pub bell : BellDone o.pages n.pages

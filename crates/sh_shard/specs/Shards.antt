@@ -18,7 +18,7 @@ use Rattle.sh_pass.specs.Owners.{SeenPage, Aside, NonePut, IsKeyIn, IsKeyOn, hea
 use Rattle.sh_shard.specs.Pages.{Paged, shard_page, page_at, seen_class, NothingMine, WhollyMine, GivesClass, PageDone}
 use Rattle.sh_shard.specs.Pages.{PageInserts, TakesSteps, GainsSlot, HoldsPages, AdoptsShard, AdoptRefused, ShardLeft}
 use Rattle.sh_shard.specs.Turning.{turned_past, come_back_each, any_of_class, gained_back}
-use Rattle.sh_shard.specs.Works.{WorksThroughout, BellDone, ClassDone, ReadFromBell, ReadInTurn}
+use Rattle.sh_shard.specs.Works.{WorksThroughout, BellDone, ClassDone, KeepsOthers, ReadFromBell, ReadInTurn}
 use Rattle.sh_shard.specs.Leaving.{Waiting}
 use Rattle.sh_shard.specs.Filing.{OpensFor, ComesInFront, OpensClassed, FilesRising, ReturnsRising}
 
@@ -78,9 +78,10 @@ shard_heeded o r = record { pages = pages_heeded o.pages r; queues = o.queues }
 
 -- ---- what an insert does
 
--- nothing of class c is left in any page of the class, and the bell is done
+-- nothing of class c is left in any page of the class, the bell is done, and no slot of another class came
 pub record NoneLeft (c : ℕ) (o n : Paged) : Type 0 where
   pub through : WorksThroughout o n
+  pub kept : KeepsOthers c o n
   pub bell : BellDone o n
   pub done : (p : ℕ) → p < n.count → (page_at n p).class ≡ Some (c + 1) → PageDone o n p
 
@@ -233,8 +234,9 @@ pub record NextAfterSearch (c p key : ℕ) (value : List ℕ) (o n : Sharded) : 
   pub queues : n.queues ≡ given.queues
   pub inserts : PageInserts p value key given.pages n.pages
 
--- A value of class c went to a page that has the class, and no other page changed its class. The page was in the queue
--- of the class, came back by the bell, or was the next one after a search in vain.
+-- A value of class c went to a page that has the class, and no other page changed its class. The page had the class, or
+-- got it as the next one after a search in vain. It was in the queue of the class, came back by the bell, or was that
+-- next one.
 pub record FindsPage (layout : Layout) (c key : ℕ) (value : List ℕ) (o n : Sharded) : Type 0 where
   pub page : ℕ
   pub inside : page < n.pages.count
@@ -242,6 +244,7 @@ pub record FindsPage (layout : Layout) (c key : ℕ) (value : List ℕ) (o n : S
   pub class : (page_at n.pages page).class ≡ Some (c + 1)
   pub others : (q : ℕ) → q ≢ page → (page_at n.pages q).class ≡ (page_at o.pages q).class
   pub opened : OpensFor page o.queues n.queues
+  pub had : ((page_at o.pages page).class ≡ Some (c + 1)) ⊎ NextAfterSearch c page key value o n
   pub gained : (has_number page (class_queue o.queues c) ≡ true)
       ⊎ (CameByBell c page key value o.pages n.pages ⊎ NextAfterSearch c page key value o n)
   pub turned : TurnsTo c page o n

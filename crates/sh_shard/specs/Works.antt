@@ -1,5 +1,5 @@
 -- Work on many pages and on the bell: what an insert, a prepare and a leave do before they put anything.
-use Rattle.std.specs.Prelude.{◌≡◌, ℕ, ◌+◌, ◌<◌, ◌≤◌, List, [], ◌∷◌, Some, MatchOption}
+use Rattle.std.specs.Prelude.{◌≡◌, ◌≢◌, ℕ, ◌+◌, ◌<◌, ◌≤◌, List, [], ◌∷◌, Some, MatchOption}
 use Rattle.sh_pass.specs.Owners.{Aside, NonePut}
 use Rattle.sh_shard.specs.Pages.{Paged, page_at, PageDone, BellReads}
 
@@ -19,6 +19,11 @@ pub record WorksThroughout (o n : Paged) : Type 0 where
 -- the bell was taken and followed to its end, or one of its links was not written, in this work
 abbrev pub BellDone : Paged → Paged → Type 0
 BellDone o n = MatchOption n.bell.cursor (o.bell.takes < n.bell.takes) (λ _. o.bell.met < n.bell.met)
+
+-- each page of another class than c has the slots that it had
+abbrev pub KeepsOthers : ℕ → Paged → Paged → Type 0
+KeepsOthers c o n = (q : ℕ) → (page_at o q).class ≢ Some (c + 1) → (s : ℕ)
+    → (page_at n q).mine s ≡ (page_at o q).mine s
 
 -- nothing of class c was left in any page of the class
 pub record ClassDone (c : ℕ) (o n : Paged) : Type 0 where

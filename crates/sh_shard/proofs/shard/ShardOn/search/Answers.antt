@@ -92,10 +92,13 @@ loop-turn-preserved g c =
     let tried = c.in_default-try_page.ensures.tried in
     let opened : c.set_aside.new.self.queues.opened ≡ c.loop-turn.self.queues.opened = settled_opened c.args.c
     c.in-Some-front.page c.try_page.new.self c.set_aside.new.self c.set_aside.ensures
-    ∙ ap (λ (q : PageQueues). q.opened) c.try_page.ensures.queues in record {
+    ∙ ap (λ (q : PageQueues). q.opened) c.try_page.ensures.queues in
+    let sorted : SortedPages c.loop-turn.self.pages c.loop-turn.self.queues = subst
+    (λ (z : Sharded). SortedPages z.pages z.queues) c.self-in-loop-turn.view_is c.self-in-loop-turn.invariant in
+    record {
       searching = searching_more c.args.c c.in-Some-front.page c.loop-turn._turn c.in-Some.last c.args.self.now
           c.loop-turn.self c.try_page.new.self c.set_aside.new.self c.loop-turn.invariant.searching front once
           c.requires.class c.try_page.ensures.queues tried.0 tried.1 c.set_aside.ensures opened
-          c.in_default-try_page.ensures.steps c.if-page-last.false;
+          c.in_default-try_page.ensures.steps sorted c.if-page-last.false;
       opened = opened ∙ c.loop-turn.invariant.opened;
     }
