@@ -14,9 +14,11 @@ use Rattle.sh_core.specs.Footstep.{Footstep}
 use Rattle.sh_core.specs.Footsteps.{bell_met}
 use Rattle.sh_core.specs.Parts.{newcomer}
 use Rattle.sh_core.specs.Plans.{Plan, plan_of}
-use Rattle.sh_core.specs.Trails.{trail_of, body_by}
+use Rattle.sh_core.specs.Trails.{trail_of, body_by, decided}
+use Rattle.sh_core.proofs.Entries.{steps_make_entries}
 use Rattle.sh_core.proofs.Replays.{steps_make_parts}
 use Rattle.sh_core.proofs.Words.Trails.{trail_goes_on}
+use Rattle.sh_pass.specs.LogEntry.{LogEntry}
 use Rattle.sh_pass.specs.Order.{Order}
 use Rattle.sh_pass.specs.Reached.{StepsBefore}
 use Rattle.sh_pass.specs.Seats.{Heap}
@@ -27,7 +29,7 @@ use Rattle.sh_member.specs.declared.member.Side.TheVariants.{Pass, Shard, Moving
 use Rattle.sh_member.specs.Sides.{SeenSide, SideStands}
 use Rattle.sh_script.specs.declared.calls.CallLine.{CallLine}
 use Rattle.script_output.specs.declared.answer.Answer.{Answer}
-use Rattle.script_calls.specs.OwnParts.{own_part, shape_in, steps_of}
+use Rattle.script_calls.specs.OwnParts.{PartIsTrue, own_part, shape_in, steps_of}
 use Rattle.script_calls.specs.Parts.{RunTerms, PassPart, heap_terms, new_side, shard_owned}
 use Rattle.script_calls.specs.Runs.{CallsRun, LineAnswered, opening_calls}
 use Rattle.script_calls.specs.Stepping.{HeardOfSteps, LinesHeard, StepsInTurn}
@@ -42,13 +44,21 @@ use Rattle.script_heap.proofs.LineCuts.{CutBefore, CutAt, heard_cut, exact_cut, 
 record Settled (layout : Layout) (shape : Numbers) (s : SeenSide) : Type 0 where
   pub shape_is : shape_in s ≡ shape
   pub made : (own_part s).body ≡ body_by (plan_of layout shape) newcomer (own_part s).trail
+  pub entries : length (own_part s).log ≡ decided (plan_of layout shape) (own_part s).trail
   pub shard : (own_part s).body.owned ≡ shard_owned s
   pub idle : (own_part s).body.hand ≡ Idle
   pub bell : KnowsBell (plan_of layout shape) s
 
 settled_new : (layout : Layout) (heap : Heap) (p : ℕ) → Settled layout heap.shape (new_side (Some heap) p)
 unfolding body_by
-settled_new layout heap p = record { shape_is = refl; made = refl; shard = refl; idle = refl; bell = tt }
+settled_new layout heap p = record {
+  shape_is = refl;
+  made = refl;
+  entries = refl;
+  shard = refl;
+  idle = refl;
+  bell = tt;
+}
 
 settled_so : (layout : Layout) (shape : Numbers) (s : SeenSide) → SideStands layout s → shape_in s ≡ shape
     → Settled layout shape s
@@ -56,6 +66,8 @@ settled_so layout shape (Pass v) h e = record {
   shape_is = e;
   made = subst (λ (n : Numbers). v.view.own.body ≡ body_by (plan_of layout n) newcomer v.view.own.trail) e
       h.1.part.made;
+  entries = subst (λ (n : Numbers). length v.view.own.log ≡ decided (plan_of layout n) v.view.own.trail) e
+      h.1.part.entries;
   shard = h.0.left;
   idle = h.0.idle;
   bell = tt;
@@ -64,6 +76,8 @@ settled_so layout shape (Shard o) h e = record {
   shape_is = e;
   made = subst (λ (n : Numbers). o.pages.owner.view.own.body
       ≡ body_by (plan_of layout n) newcomer o.pages.owner.view.own.trail) e h.stands.part.made;
+  entries = subst (λ (n : Numbers). length o.pages.owner.view.own.log
+      ≡ decided (plan_of layout n) o.pages.owner.view.own.trail) e h.stands.part.entries;
   shard = h.owned;
   idle = h.idle;
   bell = (
@@ -152,8 +166,12 @@ module _ (layout : Layout) (shape : Numbers) (tag : Option ℕ) (events : List E
 
   -- ---- line after line
 
+  -- a part whose entries are those of its own part
+  abbrev SettledPart : PassPart → Type 0
+  SettledPart v = Settled layout shape v.stands × (v.log ≡ (own_part v.stands).log)
+
   abbrev AllSettled : (ℕ → PassPart) → Type 0
-  AllSettled parts = (p : ℕ) → p < run_plan.passes → Settled layout shape (parts p).stands
+  AllSettled parts = (p : ℕ) → p < run_plan.passes → SettledPart (parts p)
 
   abbrev IsCut : List Event → (ℕ → PassPart) → Type 0
   IsCut early parts = (p : ℕ) → p < run_plan.passes → length (trail_of run_plan early p) ≡ counts parts p
@@ -161,7 +179,7 @@ module _ (layout : Layout) (shape : Numbers) (tag : Option ℕ) (events : List E
   have_parts : (early late : List Event) (parts : ℕ → PassPart) → events ≡ early ++ late → IsCut early parts
       → AllSettled parts → Placed parts → HaveParts run_plan early parts
   have_parts early late parts is cut settled placed p lt =
-      let s = settled p lt in
+      let s = (settled p lt).0 in
       let on = placed.goes p lt in
       let more = trail_goes_on run_plan early late p in
       let whole : trail_of run_plan events p ≡ trail_of run_plan early p ++ more.0 =
@@ -173,6 +191,8 @@ module _ (layout : Layout) (shape : Numbers) (tag : Option ℕ) (events : List E
         body = steps_make_parts run_plan early p lt
             ∙ ap (λ (b : Body). Some b) (ap (body_by run_plan newcomer) trail ∙ sym s.made);
         trail = trail;
+        entries = steps_make_entries run_plan early p ∙ (ap (decided run_plan) trail
+            ∙ sym (ap (λ (l : List LogEntry). length l) (settled p lt).1 ∙ s.entries));
         shard = s.shard;
         idle = s.idle;
         shards = ap (λ (n : Numbers). n.shards) s.shape_is;
@@ -181,14 +201,15 @@ module _ (layout : Layout) (shape : Numbers) (tag : Option ℕ) (events : List E
       }
 
   settled_next : (before next : CallsRun) (l : CallLine) (a : Answer) → LineAnswered run_terms tag before l a next
-      → SideStands layout (next.parts l.pass).stands → AllSettled before.parts → AllSettled next.parts
+      → PartIsTrue layout (next.parts l.pass) → AllSettled before.parts → AllSettled next.parts
   settled_next before next l a line stands settled p lt = dite (ℕ_discrete p l.pass)
       (λ (e : p ≡ l.pass).
       let shape_is : shape_in (next.parts p).stands ≡ shape =
-      (line_follows run_terms tag before next l a line p).shape ∙ (settled p lt).shape_is in
-      settled_so layout shape (next.parts p).stands
-      (subst (λ (z : ℕ). SideStands layout (next.parts z).stands) (sym e) stands) shape_is)
-      (λ (ne : p ≢ l.pass). subst (λ (v : PassPart). Settled layout shape v.stands)
+      (line_follows run_terms tag before next l a line p).shape ∙ (settled p lt).0.shape_is in
+      let true_there : PartIsTrue layout (next.parts p) =
+      subst (λ (z : ℕ). PartIsTrue layout (next.parts z)) (sym e) stands in
+      (settled_so layout shape (next.parts p).stands true_there.0 shape_is, true_there.1))
+      (λ (ne : p ≢ l.pass). subst SettledPart
       (sym (ap (λ (r : CallsRun). r.parts p) line.next_is ∙ part_there before.parts l.pass p line.part ne))
       (settled p lt))
 
@@ -215,7 +236,7 @@ module _ (layout : Layout) (shape : Numbers) (tag : Option ℕ) (events : List E
         c.rest,
         c.is,
         by_lines h.0 ls bs after h.4 d (early ++ c.own) c.rest whole c.same
-            (settled_next before h.0 l b h.1 h.2.0 settled),
+            (settled_next before h.0 l b h.1 h.2 settled),
       )
 
 -- the whole run
@@ -233,4 +254,4 @@ runs_by_line layout heap tag lines answers after events orders each turn ends =
           subst (GoesOn (own_part (after.parts p).stands).trail) e.4.trail
           (goes_to_end (after.parts p) e.0 e.2 e.1 e.3);
       cuts = λ p lt. heard_cuts layout heap.shape tag events orders each after.parts p (turn.1 p lt);
-    }) [] events refl (λ p lt. none_done (plan_of layout heap.shape) p) (λ p lt. settled_new layout heap p)
+    }) [] events refl (λ p lt. none_done (plan_of layout heap.shape) p) (λ p lt. (settled_new layout heap p, refl))

@@ -1,11 +1,11 @@
 -- The run of the core that the lines of a run in one thread are: their steps, one line after the other.
-use Rattle.std.specs.Prelude.{◌≡◌, ℕ, ◌<◌, List, [], ◌∷◌, ◌++◌, Option, Some, slice_get}
+use Rattle.std.specs.Prelude.{◌≡◌, ℕ, ◌<◌, List, [], ◌∷◌, ◌++◌, length, Option, Some, slice_get}
 use Rattle.sh_core.specs.Hand.TheVariants.{Idle}
 use Rattle.sh_core.specs.Places.{pages_of}
 use Rattle.sh_core.specs.Event.{Event}
 use Rattle.sh_core.specs.Footsteps.{bell_takes, bell_met}
 use Rattle.sh_core.specs.Plans.{Plan}
-use Rattle.sh_core.specs.Trails.{trail_of}
+use Rattle.sh_core.specs.Trails.{trail_of, log_of}
 use Rattle.sh_core.specs.Worlds.{run}
 use Rattle.sh_member.specs.declared.member.Side.TheVariants.{Pass, Shard, Moving}
 use Rattle.sh_member.specs.Sides.{SeenSide}
@@ -22,11 +22,12 @@ KnowsBell plan (Shard o) = (o.pages.bell.cursor ≡ o.pages.owner.view.own.body.
     × (o.pages.bell.met ≡ bell_met plan o.pages.shard o.pages.owner.view.own.trail)
 KnowsBell plan _ = Unit {0}
 
--- After these events the pass has just the body and the steps of this part. It has begun nothing, its body has the
--- shard that it owns, and it knows its bell and how many shards and pages there are.
+-- After these events the pass has just the body and the steps of this part, and as many entries in the log. It has
+-- begun nothing, its body has the shard that it owns, and it knows its bell and how many shards and pages there are.
 pub record HasPart (plan : Plan) (es : List Event) (pass : ℕ) (part : PassPart) : Type 0 where
   pub body : slice_get (run plan es).parts pass ≡ Some (own_part part.stands).body
   pub trail : trail_of plan es pass ≡ (own_part part.stands).trail
+  pub entries : length (log_of pass (run plan es)) ≡ length part.log
   pub shard : (own_part part.stands).body.owned ≡ shard_owned part.stands
   pub idle : (own_part part.stands).body.hand ≡ Idle
   pub shards : (shape_in part.stands).shards ≡ plan.shards
