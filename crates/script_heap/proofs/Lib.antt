@@ -8,6 +8,9 @@ pub mod FoundWords
 pub mod OwnerLaws
 pub mod PageNumbers
 pub mod RoomLaws
+pub mod LineEntries
+pub mod RoomBefore
+pub mod RoomSeen
 pub mod ClassSteps
 pub mod PageSums
 pub mod FirstInsert

@@ -123,10 +123,10 @@ module _ (layout : Layout) (shape : Numbers) (la : IsLayout layout) (ls : IsShap
     heeded : SameOwnPart (before.parts l.pass).stands first_side
     heeded = heeds_same (before.parts l.pass) line.begins line.heeds
 
-    next_here : next.parts l.pass ≡ line.part
+    pub next_here : next.parts l.pass ≡ line.part
     next_here = ap (λ (r : CallsRun). r.parts l.pass) line.next_is ∙ part_here before.parts l.pass l.pass line.part refl
 
-    next_there : (q : ℕ) → q ≢ l.pass → next.parts q ≡ before.parts q
+    pub next_there : (q : ℕ) → q ≢ l.pass → next.parts q ≡ before.parts q
     next_there q ne = ap (λ (r : CallsRun). r.parts q) line.next_is
         ∙ part_there before.parts l.pass q line.part ne
 
@@ -247,7 +247,7 @@ module _ (layout : Layout) (shape : Numbers) (la : IsLayout layout) (ls : IsShap
 
     -- ---- a leave
 
-    was_quiet : Quiet (run core_plan early)
+    pub was_quiet : Quiet (run core_plan early)
     was_quiet b u at =
         let low = slice_get_within (run core_plan early).parts b u at in
         let all = all_parts early in
@@ -260,7 +260,7 @@ module _ (layout : Layout) (shape : Numbers) (la : IsLayout layout) (ls : IsShap
       pub ends_is : (next.parts l.pass).stands ≡ Shard n
       ends_is = ap (λ (p : PassPart). p.stands) next_here ∙ is
 
-      own_before : own_part (before.parts l.pass).stands ≡ o.pages.owner.view.own
+      pub own_before : own_part (before.parts l.pass).stands ≡ o.pages.owner.view.own
       own_before = sym heeded.own ∙ ap own_part was
 
       own_after : own_part (next.parts l.pass).stands ≡ n.pages.owner.view.own

@@ -147,19 +147,19 @@ module _ (layout : Layout) (shape : Numbers) (la : IsLayout layout) (ls : IsShap
 
     module _ (o n : Sharded) (was : line.begins.stands ≡ Shard o) (is : line.part.stands ≡ Shard n)
         (stays : StaysOwner layout o n) where
-      its_shard : owned_shard before.parts l.pass ≡ Some n.pages.shard
+      pub its_shard : owned_shard before.parts l.pass ≡ Some n.pages.shard
       its_shard = owns_before (Shard o) was ∙ ap (λ (k : ℕ). Some k) (sym stays.shard)
 
-      goes_alone : Goes room_plan early own l.pass o.pages.owner.view.own n.pages.owner.view.own
+      pub goes_alone : Goes room_plan early own l.pass o.pages.owner.view.own n.pages.owner.view.own
       goes_alone = alone layout shape la ls lf tag early own before next l a line inside here there o n was is
 
-      saw : SeesBell room_plan o.pages
+      pub saw : SeesBell room_plan o.pages
       saw = bell_before layout shape la ls lf tag early own before next l a line inside here there o n was is
 
-      sees : SeesBell room_plan n.pages
+      pub sees : SeesBell room_plan n.pages
       sees = bell_after layout shape la ls lf tag early own before next l a line inside here there o n was is
 
-      its_pages : pages_of n.pages.owner.view.shape ≡ room_plan.pages
+      pub its_pages : pages_of n.pages.owner.view.shape ≡ room_plan.pages
       its_pages = subst (λ (s : SeenSide). pages_of (shape_in s) ≡ room_plan.pages)
           (ends_is layout shape la ls lf tag early own before next l a line inside here there o n was is)
           (there l.pass inside).pages

@@ -1,5 +1,6 @@
 -- What an insert of a run in one thread is answered, by the room in its pass's shard.
-use Rattle.std.specs.Prelude.{◌≡◌, ◌≢◌, ℕ, ◌+◌, ◌<◌, Bool, true, List, [], ◌∷◌, ◌++◌, Option, Some, None, IsSome, refl}
+use Rattle.std.specs.Prelude.{◌≡◌, ◌≢◌, ◌⊎◌, ℕ, ◌+◌, ◌<◌, Bool, true, List, [], ◌∷◌, ◌++◌, Option, Some, None, IsSome}
+use Rattle.std.specs.Prelude.{refl}
 use Rattle.std.specs.List.{All}
 use Rattle.sh_value.specs.declared.refusal.Refusal.TheVariants as refusal
 use Rattle.sh_key.specs.Layout.{Layout, IsLayout}
@@ -51,6 +52,29 @@ pub record HasNoRoom (plan : Plan) (w : World) (k c : ℕ) : Type 0 where
   pub blank : NoPageBlank plan w k
   pub spare : NoPageSpare plan w k c
 
+-- a slot of a page of shard k with class c is not live, marked or retired
+abbrev pub HasFreeSlot : Plan → World → (k c : ℕ) → Type 0
+HasFreeSlot plan w k c = (p : ℕ) × (s : ℕ) × (p < plan.pages) × (class_word plan w k p ≡ c + 1) × (s < slots c)
+    × ¬ IsUsed w (slot_ref (page_number plan k p) s)
+
+-- a page of shard k is blank
+abbrev pub HasBlankPage : Plan → World → (k : ℕ) → Type 0
+HasBlankPage plan w k = (p : ℕ) × (p < plan.pages) × (class_word plan w k p ≡ 0)
+
+-- a page of shard k with another class than c is wholly its owner's
+abbrev pub HasSparePage : Plan → World → (k c : ℕ) → Type 0
+HasSparePage plan w k c = (p : ℕ) × (d : ℕ) × (p < plan.pages) × (d ≢ c) × OwnersWholly plan w k p d
+
+-- shard k has room for a value of class c
+abbrev pub HasRoom : Plan → World → (k c : ℕ) → Type 0
+HasRoom plan w k c = HasFreeSlot plan w k c ⊎ (HasBlankPage plan w k ⊎ HasSparePage plan w k c)
+
+-- a shard that has room is not one that has none
+abbrev pub RoomExcludes : Type 0
+RoomExcludes = (plan : Plan) (w : World) (k c : ℕ) → HasRoom plan w k c → ¬ HasNoRoom plan w k c
+
+-- ---- by the words after a line
+
 -- The answer to an insert of these words by pass p, if passes have these parts before and this is the world after. If
 -- it is NoShard, the pass owns no shard. If it is Full, its shard has no room. If it is Memory, no slot is left there
 -- and no page is spare. TooLong is exact by the call itself.
@@ -88,4 +112,44 @@ LinesFindRoom = (asked : Bool) (layout : Layout) (shape : Numbers) (tag : Option
     → All (λ (l : CallLine). l.pass < shape.passes) lines
     → (h : IsHeapOutput true layout shape tag lines asked output)
     → RoomsAreExact (plan_of layout shape) [] h.events (heap_terms layout shape) tag (opening_calls (Some h.heap))
+    lines h.told.replies.answers h.told.replies.after (h.by_line refl)
+
+-- ---- by the words before a line
+
+-- The answer to an insert of these words by pass p, if passes have these parts and this is the world before. If it is
+-- the number of a key, the pass's shard has room. If it is Full, the shard has none. If it is Memory, only a blank page
+-- has room.
+abbrev pub InsertSeesRoom : Plan → World → (ℕ → PassPart) → (p : ℕ) → (words : List ℕ) → Answer → Type 0
+InsertSeesRoom plan w parts p words (answer.Key number) = (k : ℕ) × (owned_by parts p ≡ Some k)
+    × HasRoom plan w k (value_class words)
+InsertSeesRoom plan w parts p words (answer.Refused refusal.Full) = (k : ℕ) × (owned_by parts p ≡ Some k)
+    × HasNoRoom plan w k (value_class words)
+InsertSeesRoom plan w parts p words (answer.Refused refusal.Memory) = (k : ℕ) × (owned_by parts p ≡ Some k)
+    × NoSlotLeft plan w k (value_class words) × NoPageSpare plan w k (value_class words)
+InsertSeesRoom plan w parts p words _ = Unit {0}
+
+-- the same for a call, if it is an insert
+abbrev pub CallSeesRoom : Plan → World → (ℕ → PassPart) → (p : ℕ) → Call → Answer → Type 0
+CallSeesRoom plan w parts p (call.Insert words) a = InsertSeesRoom plan w parts p words a
+CallSeesRoom plan w parts p _ a = Unit {0}
+
+-- the answer of each of these lines is by the room in the world before the line
+abbrev pub RoomsAreSeen : (plan : Plan) (early late : List Event) (terms : RunTerms) (tag : Option ℕ)
+    (before : CallsRun) (lines : List CallLine) (answers : List Answer) (after : CallsRun)
+    → RunsByLine plan early late terms tag before lines answers after → Type 0
+RoomsAreSeen plan early late terms tag before [] [] after h = Unit {0}
+RoomsAreSeen plan early late terms tag before [] (a ∷ answers) after h = ⊥
+RoomsAreSeen plan early late terms tag before (l ∷ lines) [] after h = ⊥
+RoomsAreSeen plan early late terms tag before (l ∷ lines) (a ∷ answers) after h =
+    CallSeesRoom plan (run plan early) before.parts l.pass l.call a
+    × RoomsAreSeen plan (early ++ h.3) h.4 terms tag h.1 lines answers after h.6
+
+-- In a run of mode heap an insert is ok only if its pass's shard has room for the value's class by the words before the
+-- line, and Full only if it has none.
+abbrev pub LinesSeeRoom : Type 0
+LinesSeeRoom = (asked : Bool) (layout : Layout) (shape : Numbers) (tag : Option ℕ) (lines : List CallLine)
+    (output : List ℕ) → IsLayout layout → IsShape shape → Fits layout shape
+    → All (λ (l : CallLine). l.pass < shape.passes) lines
+    → (h : IsHeapOutput true layout shape tag lines asked output)
+    → RoomsAreSeen (plan_of layout shape) [] h.events (heap_terms layout shape) tag (opening_calls (Some h.heap))
     lines h.told.replies.answers h.told.replies.after (h.by_line refl)

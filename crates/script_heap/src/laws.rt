@@ -2,7 +2,7 @@
 ghost use Rattle.script_heap.specs.OwnSteps.{LoneAdoptIsNotTaken, FirstInsertIsNotFull, TwoAdoptsAreNotDone};
 ghost use Rattle.script_heap.specs.OwnSteps.{LeaveIsNotWaiting};
 ghost use Rattle.script_heap.specs.Owners.{LinesKeepOwnersApart};
-ghost use Rattle.script_heap.specs.Rooms.{LinesFindRoom};
+ghost use Rattle.script_heap.specs.Rooms.{LinesFindRoom, LinesSeeRoom, RoomExcludes};
 
 /// If a script consists of one adopt, no other pass does a step. So the adopt finds no owner, and its answer is not
 /// `Taken`.
@@ -23,6 +23,15 @@ pub fn lines_keep_owners_apart()
 /// the owner's. `Memory` comes only if all this is true, except that pages may be blank.
 pub fn lines_find_room()
     ensures { LinesFindRoom }
+{}
+
+/// In a run of mode heap an insert is ok only if its pass's shard had room for the value's class before the line. A slot
+/// of the class was not live, marked or retired, a page was blank, or a page of another class was wholly the owner's.
+/// The insert is `Full` only if the shard had none of these. So it is `Full` exactly if there was no room, unless memory
+/// was refused, and then no page but a blank one had room.
+pub fn lines_see_room()
+    ensures room { LinesSeeRoom }
+    ensures apart { RoomExcludes }
 {}
 
 /// If a pass adopts a shard of a fresh heap and inserts, the insert is not `Full`. The adopt took too few steps to give
