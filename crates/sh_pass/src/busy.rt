@@ -6,12 +6,11 @@ ghost use Rattle.sh_pass.specs.Busy.{Acts, Ends};
 use crate::by_hand::BusyState;
 use crate::keeping::KeepsHeap;
 use crate::pass::PassOn;
-use crate::seated::Seated;
 use crate::state::PassState;
 use sh_key::KeyLayout;
 use sh_slots::Hand;
 use sh_step::Action;
-use std::marker::{Model, PhantomData};
+use std::marker::Model;
 
 /// A pass that does one step a call, so that it can stop between any two. A `Busy` is one that borrows its heap.
 ///
@@ -24,8 +23,7 @@ use std::marker::{Model, PhantomData};
 #[derive(Drop)]
 pub struct BusyOn<L: KeyLayout, H: KeepsHeap<L>> {
     heap: H,
-    state: BusyState,
-    layout: PhantomData<L>,
+    state: BusyState<L>,
 }
 
 impl<L: KeyLayout, H: KeepsHeap<L>> Model for BusyOn<L, H> {
@@ -34,10 +32,11 @@ impl<L: KeyLayout, H: KeepsHeap<L>> Model for BusyOn<L, H> {
 
     ghost Value = { Caller };
 
-    ghost view = { λ b. caller_of b.state.seat };
+    ghost view = { λ b. caller_of b.state.seated.seat };
 
     ghost invariant = { λ b.
-        IsBusy L.layout (H.heap b.heap) b.state.seat b.state.held.items b.state.named b.state.hand b.state.number };
+        IsBusy L.layout (H.heap b.heap) b.state.seated.seat b.state.seated.held.items b.state.seated.named b.state.hand
+        b.state.seated.number };
 }
 
 impl<L: KeyLayout, H: KeepsHeap<L>> PassOn<L, H> {
@@ -45,24 +44,12 @@ impl<L: KeyLayout, H: KeepsHeap<L>> PassOn<L, H> {
     pub fn begin(self) -> BusyOn<L, H>
         ensures { result ≡ self }
     {
-        let PassOn { heap, state } = self;
-        let Seated {
-            seat,
-            held,
-            named,
-            number,
-            layout,
-        } = state.seated;
         BusyOn {
-            heap,
+            heap: self.heap,
             state: BusyState {
-                seat,
-                held,
-                named,
-                number,
+                seated: self.state.seated,
                 hand: Hand::Idle,
             },
-            layout,
         }
     }
 }
@@ -83,41 +70,16 @@ impl<L: KeyLayout, H: KeepsHeap<L>> BusyOn<L, H> {
     pub fn end(self) -> Result<PassOn<L, H>, BusyOn<L, H>>
         ensures { Ends self result }
     {
-        let BusyOn {
-            heap,
-            state,
-            layout,
-        } = self;
-        let BusyState {
-            seat,
-            held,
-            named,
-            number,
-            hand,
-        } = state;
+        let BusyOn { heap, state } = self;
+        let BusyState { seated, hand } = state;
         match hand {
             Hand::Idle => Ok(PassOn {
                 heap,
-                state: PassState {
-                    seated: Seated {
-                        seat,
-                        held,
-                        named,
-                        number,
-                        layout,
-                    },
-                },
+                state: PassState { seated },
             }),
             hand => Err(BusyOn {
                 heap,
-                state: BusyState {
-                    seat,
-                    held,
-                    named,
-                    number,
-                    hand,
-                },
-                layout,
+                state: BusyState { seated, hand },
             }),
         }
     }

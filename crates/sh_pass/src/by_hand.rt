@@ -5,51 +5,44 @@ ghost use Rattle.sh_step.specs.declared.action.Action.TheVariants as action;
 ghost use Rattle.sh_pass.specs.Busy.{Acts, IsBusy};
 
 use crate::held_keys::find;
-use arrayvec::ArrayVec;
+use crate::seated::Seated;
 use sh_bell::{is_armed, top_of};
 use sh_key::KeyLayout;
 use sh_slots::{GetAnswer, Hand, after_drop, after_enter_remove, answer_to_get, is_reusable_after};
 use sh_stack::link_over;
 use sh_step::Action;
 use sh_step::operands::{gen_max, guard_max, place_of_key};
-use sh_table::{HeapTable, PassSeat};
-use sh_value::HOLDS_MAX;
+use sh_table::HeapTable;
 
 /// What is kept of a pass that is driven step by step.
 #[derive(Drop)]
-pub(crate) struct BusyState {
-    pub(crate) seat: PassSeat,
-    // The keys that it holds, in any order.
-    pub(crate) held: ArrayVec<u64, HOLDS_MAX>,
-    // A bit for each pass that its tale names.
-    pub(crate) named: u64,
-    // Its own number.
-    pub(crate) number: u32,
+pub(crate) struct BusyState<L: KeyLayout> {
+    pub(crate) seated: Seated<L>,
     // What it has begun.
     pub(crate) hand: Hand,
 }
 
-impl BusyState {
+impl<L: KeyLayout> BusyState<L> {
     // Enters the slot of a key, to get it.
-    fn enter_get<L: KeyLayout>(&mut self, table: &HeapTable<L>, key: u64) -> bool
-        requires { IsBusy L.layout table.now self.old.seat self.old.held.items self.old.named self.old.hand
-            self.old.number }
-        ensures busy { IsBusy L.layout table.now self.new.seat self.new.held.items self.new.named self.new.hand
-            self.new.number }
-        ensures acts { Acts L.layout (action.EnterGet key) self.old.seat.me.0 result self.new.seat.me.0 }
+    fn enter_get(&mut self, table: &HeapTable<L>, key: u64) -> bool
+        requires { IsBusy L.layout table.now self.old.seated.seat self.old.seated.held.items self.old.seated.named
+            self.old.hand self.old.seated.number }
+        ensures busy { IsBusy L.layout table.now self.new.seated.seat self.new.seated.held.items self.new.seated.named
+            self.new.hand self.new.seated.number }
+        ensures acts { Acts L.layout (action.EnterGet key) self.old.seated.seat.me.0 result self.new.seated.seat.me.0 }
     {
         let Hand::Idle = self.hand else {
             return false;
         };
-        if self.held.is_full() {
+        if self.seated.held.is_full() {
             return false;
         }
         let Some(name) = place_of_key::<L>(table.shape(), key) else {
             return false;
         };
-        let found = table.enter_get(&mut self.seat, key, name);
+        let found = table.enter_get(&mut self.seated.seat, key, name);
         match answer_to_get(name.generation, guard_max::<L>(), found) {
-            GetAnswer::Got => self.held.push(key),
+            GetAnswer::Got => self.seated.held.push(key),
             GetAnswer::Crowded => self.hand = Hand::Leaving(name.slot_ref()),
             GetAnswer::Gone => self.hand = Hand::Leaving(name.slot_ref()),
         }
@@ -57,12 +50,13 @@ impl BusyState {
     }
 
     // Enters the slot of a key, to remove it.
-    fn enter_remove<L: KeyLayout>(&mut self, table: &HeapTable<L>, key: u64) -> bool
-        requires { IsBusy L.layout table.now self.old.seat self.old.held.items self.old.named self.old.hand
-            self.old.number }
-        ensures busy { IsBusy L.layout table.now self.new.seat self.new.held.items self.new.named self.new.hand
-            self.new.number }
-        ensures acts { Acts L.layout (action.EnterRemove key) self.old.seat.me.0 result self.new.seat.me.0 }
+    fn enter_remove(&mut self, table: &HeapTable<L>, key: u64) -> bool
+        requires { IsBusy L.layout table.now self.old.seated.seat self.old.seated.held.items self.old.seated.named
+            self.old.hand self.old.seated.number }
+        ensures busy { IsBusy L.layout table.now self.new.seated.seat self.new.seated.held.items self.new.seated.named
+            self.new.hand self.new.seated.number }
+        ensures acts { Acts L.layout (action.EnterRemove key) self.old.seated.seat.me.0 result
+            self.new.seated.seat.me.0 }
     {
         let Hand::Idle = self.hand else {
             return false;
@@ -70,18 +64,18 @@ impl BusyState {
         let Some(name) = place_of_key::<L>(table.shape(), key) else {
             return false;
         };
-        let found = table.enter_remove(&mut self.seat, key, name);
+        let found = table.enter_remove(&mut self.seated.seat, key, name);
         self.hand = after_enter_remove(key, name, found);
         true
     }
 
     // Marks the slot of the key that it removes.
-    fn mark<L: KeyLayout>(&mut self, table: &HeapTable<L>) -> bool
-        requires { IsBusy L.layout table.now self.old.seat self.old.held.items self.old.named self.old.hand
-            self.old.number }
-        ensures busy { IsBusy L.layout table.now self.new.seat self.new.held.items self.new.named self.new.hand
-            self.new.number }
-        ensures acts { Acts L.layout action.Mark self.old.seat.me.0 result self.new.seat.me.0 }
+    fn mark(&mut self, table: &HeapTable<L>) -> bool
+        requires { IsBusy L.layout table.now self.old.seated.seat self.old.seated.held.items self.old.seated.named
+            self.old.hand self.old.seated.number }
+        ensures busy { IsBusy L.layout table.now self.new.seated.seat self.new.seated.held.items self.new.seated.named
+            self.new.hand self.new.seated.number }
+        ensures acts { Acts L.layout action.Mark self.old.seated.seat.me.0 result self.new.seated.seat.me.0 }
     {
         let Hand::Removing(key) = self.hand else {
             return false;
@@ -89,62 +83,62 @@ impl BusyState {
         let Some(name) = place_of_key::<L>(table.shape(), key) else {
             return false;
         };
-        table.mark(&mut self.seat, key, name);
+        table.mark(&mut self.seated.seat, key, name);
         self.hand = Hand::Leaving(name.slot_ref());
         true
     }
 
     // Gives back the count on the slot that it leaves.
-    fn drop_count<L: KeyLayout>(&mut self, table: &HeapTable<L>) -> bool
-        requires { IsBusy L.layout table.now self.old.seat self.old.held.items self.old.named self.old.hand
-            self.old.number }
-        ensures busy { IsBusy L.layout table.now self.new.seat self.new.held.items self.new.named self.new.hand
-            self.new.number }
-        ensures acts { Acts L.layout action.Drop self.old.seat.me.0 result self.new.seat.me.0 }
+    fn drop_count(&mut self, table: &HeapTable<L>) -> bool
+        requires { IsBusy L.layout table.now self.old.seated.seat self.old.seated.held.items self.old.seated.named
+            self.old.hand self.old.seated.number }
+        ensures busy { IsBusy L.layout table.now self.new.seated.seat self.new.seated.held.items self.new.seated.named
+            self.new.hand self.new.seated.number }
+        ensures acts { Acts L.layout action.Drop self.old.seated.seat.me.0 result self.new.seated.seat.me.0 }
     {
         let Hand::Leaving(slot_ref) = self.hand else {
             return false;
         };
-        let found = table.drop_count(&mut self.seat, slot_ref);
+        let found = table.drop_count(&mut self.seated.seat, slot_ref);
         self.hand = after_drop(slot_ref, found);
         true
     }
 
     // Gives back the count of a hold on a key.
-    fn drop_hold<L: KeyLayout>(&mut self, table: &HeapTable<L>, key: u64) -> bool
-        requires { IsBusy L.layout table.now self.old.seat self.old.held.items self.old.named self.old.hand
-            self.old.number }
-        ensures busy { IsBusy L.layout table.now self.new.seat self.new.held.items self.new.named self.new.hand
-            self.new.number }
-        ensures acts { Acts L.layout (action.DropHold key) self.old.seat.me.0 result self.new.seat.me.0 }
+    fn drop_hold(&mut self, table: &HeapTable<L>, key: u64) -> bool
+        requires { IsBusy L.layout table.now self.old.seated.seat self.old.seated.held.items self.old.seated.named
+            self.old.hand self.old.seated.number }
+        ensures busy { IsBusy L.layout table.now self.new.seated.seat self.new.seated.held.items self.new.seated.named
+            self.new.hand self.new.seated.number }
+        ensures acts { Acts L.layout (action.DropHold key) self.old.seated.seat.me.0 result self.new.seated.seat.me.0 }
     {
         let Hand::Idle = self.hand else {
             return false;
         };
-        let Some(at) = find(self.held.as_slice(), key) else {
+        let Some(at) = find(self.seated.held.as_slice(), key) else {
             return false;
         };
         let Some(name) = place_of_key::<L>(table.shape(), key) else {
             return false;
         };
-        let found = table.drop_hold(&mut self.seat, key, name);
-        self.held.remove(at);
+        let found = table.drop_hold(&mut self.seated.seat, key, name);
+        self.seated.held.remove(at);
         self.hand = after_drop(name.slot_ref(), found);
         true
     }
 
     // Ends the generation of the slot.
-    fn finish<L: KeyLayout>(&mut self, table: &HeapTable<L>) -> bool
-        requires { IsBusy L.layout table.now self.old.seat self.old.held.items self.old.named self.old.hand
-            self.old.number }
-        ensures busy { IsBusy L.layout table.now self.new.seat self.new.held.items self.new.named self.new.hand
-            self.new.number }
-        ensures acts { Acts L.layout action.Finish self.old.seat.me.0 result self.new.seat.me.0 }
+    fn finish(&mut self, table: &HeapTable<L>) -> bool
+        requires { IsBusy L.layout table.now self.old.seated.seat self.old.seated.held.items self.old.seated.named
+            self.old.hand self.old.seated.number }
+        ensures busy { IsBusy L.layout table.now self.new.seated.seat self.new.seated.held.items self.new.seated.named
+            self.new.hand self.new.seated.number }
+        ensures acts { Acts L.layout action.Finish self.old.seated.seat.me.0 result self.new.seated.seat.me.0 }
     {
         let Hand::Finishing(slot_ref, generation) = self.hand else {
             return false;
         };
-        let found = table.finish(&mut self.seat, slot_ref, generation);
+        let found = table.finish(&mut self.seated.seat, slot_ref, generation);
         self.hand = if is_reusable_after(generation, gen_max::<L>(), found) {
             Hand::ToPut(slot_ref)
         } else {
@@ -154,33 +148,33 @@ impl BusyState {
     }
 
     // Puts the slot in its hand.
-    fn put<L: KeyLayout>(&mut self, table: &HeapTable<L>) -> bool
-        requires { IsBusy L.layout table.now self.old.seat self.old.held.items self.old.named self.old.hand
-            self.old.number }
-        ensures busy { IsBusy L.layout table.now self.new.seat self.new.held.items self.new.named self.new.hand
-            self.new.number }
-        ensures acts { Acts L.layout action.Put self.old.seat.me.0 result self.new.seat.me.0 }
+    fn put(&mut self, table: &HeapTable<L>) -> bool
+        requires { IsBusy L.layout table.now self.old.seated.seat self.old.seated.held.items self.old.seated.named
+            self.old.hand self.old.seated.number }
+        ensures busy { IsBusy L.layout table.now self.new.seated.seat self.new.seated.held.items self.new.seated.named
+            self.new.hand self.new.seated.number }
+        ensures acts { Acts L.layout action.Put self.old.seated.seat.me.0 result self.new.seated.seat.me.0 }
     {
         let Hand::ToPut(slot_ref) = self.hand else {
             return false;
         };
-        let head = table.put(&mut self.seat, slot_ref);
+        let head = table.put(&mut self.seated.seat, slot_ref);
         self.hand = Hand::Tying(slot_ref, link_over(top_of(head)), is_armed(head));
         true
     }
 
     // Stores the link of the slot that it put.
-    fn tie<L: KeyLayout>(&mut self, table: &HeapTable<L>) -> bool
-        requires { IsBusy L.layout table.now self.old.seat self.old.held.items self.old.named self.old.hand
-            self.old.number }
-        ensures busy { IsBusy L.layout table.now self.new.seat self.new.held.items self.new.named self.new.hand
-            self.new.number }
-        ensures acts { Acts L.layout action.Tie self.old.seat.me.0 result self.new.seat.me.0 }
+    fn tie(&mut self, table: &HeapTable<L>) -> bool
+        requires { IsBusy L.layout table.now self.old.seated.seat self.old.seated.held.items self.old.seated.named
+            self.old.hand self.old.seated.number }
+        ensures busy { IsBusy L.layout table.now self.new.seated.seat self.new.seated.held.items self.new.seated.named
+            self.new.hand self.new.seated.number }
+        ensures acts { Acts L.layout action.Tie self.old.seated.seat.me.0 result self.new.seated.seat.me.0 }
     {
         let Hand::Tying(slot_ref, link, armed) = self.hand else {
             return false;
         };
-        table.tie(&mut self.seat, slot_ref, link, armed);
+        table.tie(&mut self.seated.seat, slot_ref, link, armed);
         self.hand = if armed {
             Hand::Ringing(slot_ref.page)
         } else {
@@ -190,44 +184,44 @@ impl BusyState {
     }
 
     // Puts the page on its shard's bell.
-    fn ring<L: KeyLayout>(&mut self, table: &HeapTable<L>) -> bool
-        requires { IsBusy L.layout table.now self.old.seat self.old.held.items self.old.named self.old.hand
-            self.old.number }
-        ensures busy { IsBusy L.layout table.now self.new.seat self.new.held.items self.new.named self.new.hand
-            self.new.number }
-        ensures acts { Acts L.layout action.Ring self.old.seat.me.0 result self.new.seat.me.0 }
+    fn ring(&mut self, table: &HeapTable<L>) -> bool
+        requires { IsBusy L.layout table.now self.old.seated.seat self.old.seated.held.items self.old.seated.named
+            self.old.hand self.old.seated.number }
+        ensures busy { IsBusy L.layout table.now self.new.seated.seat self.new.seated.held.items self.new.seated.named
+            self.new.hand self.new.seated.number }
+        ensures acts { Acts L.layout action.Ring self.old.seated.seat.me.0 result self.new.seated.seat.me.0 }
     {
         let Hand::Ringing(page) = self.hand else {
             return false;
         };
-        let next = table.ring(&mut self.seat, page);
+        let next = table.ring(&mut self.seated.seat, page);
         self.hand = Hand::RingTying(page, link_over(next));
         true
     }
 
     // Stores the link of the page that it put.
-    fn ring_tie<L: KeyLayout>(&mut self, table: &HeapTable<L>) -> bool
-        requires { IsBusy L.layout table.now self.old.seat self.old.held.items self.old.named self.old.hand
-            self.old.number }
-        ensures busy { IsBusy L.layout table.now self.new.seat self.new.held.items self.new.named self.new.hand
-            self.new.number }
-        ensures acts { Acts L.layout action.RingTie self.old.seat.me.0 result self.new.seat.me.0 }
+    fn ring_tie(&mut self, table: &HeapTable<L>) -> bool
+        requires { IsBusy L.layout table.now self.old.seated.seat self.old.seated.held.items self.old.seated.named
+            self.old.hand self.old.seated.number }
+        ensures busy { IsBusy L.layout table.now self.new.seated.seat self.new.seated.held.items self.new.seated.named
+            self.new.hand self.new.seated.number }
+        ensures acts { Acts L.layout action.RingTie self.old.seated.seat.me.0 result self.new.seated.seat.me.0 }
     {
         let Hand::RingTying(page, link) = self.hand else {
             return false;
         };
-        table.ring_tie(&mut self.seat, page, link);
+        table.ring_tie(&mut self.seated.seat, page, link);
         self.hand = Hand::Idle;
         true
     }
 
     /// Does the step of the action if it is one of these and its condition holds. Returns whether it did.
-    pub(crate) fn act<L: KeyLayout>(&mut self, table: &HeapTable<L>, action: &Action) -> bool
-        requires { IsBusy L.layout table.now self.old.seat self.old.held.items self.old.named self.old.hand
-            self.old.number }
-        ensures busy { IsBusy L.layout table.now self.new.seat self.new.held.items self.new.named self.new.hand
-            self.new.number }
-        ensures acts { Acts L.layout action.now self.old.seat.me.0 result self.new.seat.me.0 }
+    pub(crate) fn act(&mut self, table: &HeapTable<L>, action: &Action) -> bool
+        requires { IsBusy L.layout table.now self.old.seated.seat self.old.seated.held.items self.old.seated.named
+            self.old.hand self.old.seated.number }
+        ensures busy { IsBusy L.layout table.now self.new.seated.seat self.new.seated.held.items self.new.seated.named
+            self.new.hand self.new.seated.number }
+        ensures acts { Acts L.layout action.now self.old.seated.seat.me.0 result self.new.seated.seat.me.0 }
     {
         match action {
             Action::EnterGet(key) => self.enter_get(table, *key),
