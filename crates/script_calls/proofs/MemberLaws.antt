@@ -6,12 +6,12 @@ use Rattle.sh_value.specs.declared.hold.Hold.{Hold}
 use Rattle.sh_value.specs.declared.refusal.Refusal.{Refusal}
 use Rattle.sh_key.specs.Layout.{Layout, first_key, key_count}
 use Rattle.sh_pass.specs.View.{View}
-use Rattle.sh_pass.specs.Tales.{ViewStands}
+use Rattle.sh_pass.specs.Tales.{ViewIsValid}
 use Rattle.sh_pass.specs.Passes.{Caller, GetDoes, ReadDoes, RemoveDoes, ReleaseDoes}
 use Rattle.sh_member.specs.Shards.{value_class}
 use Rattle.sh_member.specs.declared.member.Side.TheVariants.{Pass, Shard, Moving}
 use Rattle.sh_member.specs.SideBounds.{AdoptTakes}
-use Rattle.sh_member.specs.Sides.{SeenSide, SideDoes, SideInserts, SideAdopts, SideLeaves, SideStands, SideHeeds}
+use Rattle.sh_member.specs.Sides.{SeenSide, SideDoes, SideInserts, SideAdopts, SideLeaves, SideIsValid, SideHeeds}
 use Rattle.sh_member.specs.Sides.{IsOfHeap, IsReceiptBy, MayJoin, SideJoins, SideGivesPass}
 use Rattle.script_calls.specs.OwnParts.{PartIsTrue}
 use Rattle.script_calls.specs.Parts.{SeenPass, SamePass, heap_terms, shard_owned, tale_told}
@@ -31,7 +31,7 @@ use Rattle.script_calls.proofs.JoinLaws.{joined_tale, joined_orders, parts_of_jo
 -- what is so of a pass over a call, and of an owner's pass, is so of a member
 member_does : {A : Type 0} (layout : Layout) (does : Caller → Result A Refusal → Caller → Type 0) (r : Result A Refusal)
     (Answers : SeenPass → SeenPass → Type 0)
-    → ((v w : Caller) → ViewStands layout v.view → v.view.shape ≡ v.heap.shape → (s t : SeenSide)
+    → ((v w : Caller) → ViewIsValid layout v.view → v.view.shape ≡ v.heap.shape → (s t : SeenSide)
     → shard_owned t ≡ shard_owned s → does v r w → SideDoes layout does s r t
     → Answers (seen_standing layout v s) (seen_standing layout w t))
     → (m n : SeenSide) → SideDoes layout does m r n → Answers (seen_of_member layout m) (seen_of_member layout n)
@@ -168,12 +168,12 @@ member_heeds layout Moving n r h = absurd h
 
 -- ---- meeting
 
-pub member_whole : (layout : Layout) (m : SeenSide) → SideStands layout m → HasOrderedTale (seen_of_member layout m)
+pub member_whole : (layout : Layout) (m : SeenSide) → SideIsValid layout m → HasOrderedTale (seen_of_member layout m)
 member_whole layout (Pass v) h = whole_tale layout v (Pass v) h.1
 member_whole layout (Shard o) h = whole_tale layout o.pages.owner (Shard o) h.stands
 member_whole layout Moving h = absurd h
 
-pub member_stands : (layout : Layout) (m : SeenSide) → SideStands layout m
+pub member_stands : (layout : Layout) (m : SeenSide) → SideIsValid layout m
     → PartIsTrue (seen_of_member layout m).terms.layout (seen_of_member layout m).part
 member_stands layout (Pass v) h = (h, refl)
 member_stands layout (Shard o) h = (h, refl)

@@ -17,7 +17,7 @@ use Rattle.sh_pass.specs.Collections.{has}
 use Rattle.sh_pass.specs.Plans.{plan_of}
 use Rattle.sh_pass.specs.Lists.{times}
 use Rattle.sh_pass.proofs.Sums.ListCounts.{has_some, some_has}
-use Rattle.sh_pass.specs.Tales.{ViewStands}
+use Rattle.sh_pass.specs.Tales.{ViewIsValid}
 use Rattle.sh_pass.proofs.SameTales.{same_now}
 use Rattle.sh_pass.specs.Growing.{SameTale}
 use Rattle.sh_pass.specs.Passes.{Caller, IsKeyOfHeap, GetDoes, ReadDoes, RemoveDoes, ReleaseDoes, holds}
@@ -44,7 +44,7 @@ same_of layout v w s t heap same = λ i. record {
   orders = same.orders i;
 }
 
-module _ (layout : Layout) (v w : Caller) (stands : ViewStands layout v.view) (shape_is : v.view.shape ≡ v.heap.shape)
+module _ (layout : Layout) (v w : Caller) (stands : ViewIsValid layout v.view) (shape_is : v.view.shape ≡ v.heap.shape)
     (s t : SeenSide) (owned : shard_owned t ≡ shard_owned s) where
   abbrev seen_before : SeenPass
   seen_before = seen_standing layout v s

@@ -9,7 +9,7 @@ use Rattle.sh_pass.specs.Shape.{Numbers}
 use Rattle.sh_pass.specs.Entry.{Entry}
 use Rattle.sh_pass.specs.Log.{pass_of, entries_of}
 use Rattle.sh_pass.specs.Told.{Told}
-use Rattle.sh_pass.specs.Tales.{ViewStands, IsLogOf, Before, IsTale}
+use Rattle.sh_pass.specs.Tales.{ViewIsValid, IsLogOf, Before, IsTale}
 use Rattle.sh_pass.specs.Views.{Each, names_told}
 use Rattle.sh_pass.specs.Whole.{IsWhole}
 use Rattle.sh_pass.specs.Passes.{Caller}
@@ -54,7 +54,7 @@ whole_told layout v n history same tale ours =
       refl,
     ) in subst P same at
 
-pub whole_tale : (layout : Layout) (v : Caller) (t : SeenSide) → ViewStands layout v.view
+pub whole_tale : (layout : Layout) (v : Caller) (t : SeenSide) → ViewIsValid layout v.view
     → HasOrderedTale (seen_standing layout v t)
 whole_tale layout v t stands =
     let w = whole_told layout v v.view.shape stands.history refl stands.tale stands.ours in

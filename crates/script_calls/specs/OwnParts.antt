@@ -7,7 +7,7 @@ use Rattle.sh_pass.specs.Own.{Own}
 use Rattle.sh_pass.specs.Told.{Told}
 use Rattle.sh_pass.specs.Views.{fresh}
 use Rattle.sh_member.specs.declared.member.Side.TheVariants.{Pass, Shard, Moving}
-use Rattle.sh_member.specs.Sides.{SeenSide, SideLeaves, SideStands}
+use Rattle.sh_member.specs.Sides.{SeenSide, SideLeaves, SideIsValid}
 use Rattle.script_calls.specs.Parts.{PassPart}
 
 -- the own part of the pass
@@ -18,7 +18,7 @@ own_part Moving = fresh
 
 -- all that the pass knows is true, nothing is begun, and its entries are those of its own part
 abbrev pub PartIsTrue : Layout → PassPart → Type 0
-PartIsTrue layout v = SideStands layout v.stands × (v.log ≡ (own_part v.stands).log)
+PartIsTrue layout v = SideIsValid layout v.stands × (v.log ≡ (own_part v.stands).log)
 
 -- the passes that it took in, with their own parts
 abbrev pub taken_in : SeenSide → List Told

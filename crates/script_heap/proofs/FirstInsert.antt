@@ -13,7 +13,7 @@ use Rattle.sh_core.specs.Collections.{noted}
 use Rattle.sh_core.specs.Event.{Event}
 use Rattle.sh_core.specs.Places.{pages_of, page_number as number_of}
 use Rattle.sh_core.specs.Plans.{Plan, plan_of, home, page_number}
-use Rattle.sh_core.specs.Refines.{OwnStands}
+use Rattle.sh_core.specs.Refines.{OwnPartIsValid}
 use Rattle.sh_core.specs.Rows.{own, owned_by}
 use Rattle.sh_core.specs.Trails.{trail_of}
 use Rattle.sh_core.specs.Worlds.{World, run}
@@ -206,7 +206,7 @@ module _ (layout : Layout) (shape : Numbers) (la : IsLayout layout) (ls : IsShap
     pages : pages_of n.pages.owner.view.shape ≡ fresh_plan.pages
     pages = subst (λ (s : SeenSide). pages_of (shape_in s) ≡ fresh_plan.pages) stands_is part.pages
 
-    notes_stand : OwnStands fresh_plan adopt_world owner_body
+    notes_stand : OwnPartIsValid fresh_plan adopt_world owner_body
     notes_stand = (theorem layout shape la ls lf es).parts pass owner_body at
 
     -- page p of the shard, by its number over the whole heap

@@ -26,7 +26,7 @@ use Rattle.sh_pass.specs.Views.{Each}
 use Rattle.sh_pass.specs.Growing.{GoesOn}
 use Rattle.sh_pass.specs.Owners.{SeenBell}
 use Rattle.sh_member.specs.declared.member.Side.TheVariants.{Pass, Shard, Moving}
-use Rattle.sh_member.specs.Sides.{SeenSide, SideStands}
+use Rattle.sh_member.specs.Sides.{SeenSide, SideIsValid}
 use Rattle.sh_script.specs.declared.calls.CallLine.{CallLine}
 use Rattle.script_output.specs.declared.answer.Answer.{Answer}
 use Rattle.script_calls.specs.OwnParts.{PartIsTrue, own_part, shape_in, steps_of}
@@ -60,7 +60,7 @@ settled_new layout heap p = record {
   bell = tt;
 }
 
-settled_so : (layout : Layout) (shape : Numbers) (s : SeenSide) → SideStands layout s → shape_in s ≡ shape
+settled_so : (layout : Layout) (shape : Numbers) (s : SeenSide) → SideIsValid layout s → shape_in s ≡ shape
     → Settled layout shape s
 settled_so layout shape (Pass v) h e = record {
   shape_is = e;

@@ -20,7 +20,7 @@ use Rattle.sh_core.specs.Plans.{Plan, plan_of, keys_of, heap_pages, home, page_n
 use Rattle.sh_core.specs.Rows.{own, owned_by}
 use Rattle.sh_core.specs.Lists.{lists_of, mine_at, slots_under, state_of}
 use Rattle.sh_core.specs.Quiet.{Quiet}
-use Rattle.sh_core.specs.Refines.{Refines, OwnStands, mine, kind_count}
+use Rattle.sh_core.specs.Refines.{Refines, OwnPartIsValid, mine, kind_count}
 use Rattle.sh_core.specs.Stacks.{slot_ref}
 use Rattle.sh_core.specs.Worlds.{World, run}
 use Rattle.sh_core.proofs.Clauses.RunTheorem.{theorem}
@@ -103,7 +103,7 @@ module _ (layout : Layout) (shape : Numbers) (la : IsLayout layout) (ls : IsShap
   all_true : Refines old_plan old_world (lists_of old_plan early)
   all_true = theorem layout shape la ls lf early
 
-  stands : OwnStands old_plan old_world body
+  stands : OwnPartIsValid old_plan old_world body
   stands = all_true.parts l.pass body body_at
 
   -- ---- pages and their numbers

@@ -19,7 +19,7 @@ use Rattle.sh_core.specs.Plans.{Plan, plan_of, home, page_number}
 use Rattle.sh_core.specs.Rows.{own, owned_by}
 use Rattle.sh_core.specs.Lists.{lists_of}
 use Rattle.sh_core.specs.Quiet.{Quiet}
-use Rattle.sh_core.specs.Refines.{Refines, OwnStands, mine}
+use Rattle.sh_core.specs.Refines.{Refines, OwnPartIsValid, mine}
 use Rattle.sh_core.specs.Stacks.{slot_ref}
 use Rattle.sh_core.specs.Worlds.{World, run}
 use Rattle.sh_core.proofs.Clauses.RunTheorem.{theorem}
@@ -76,7 +76,7 @@ module _ (layout : Layout) (shape : Numbers) (la : IsLayout layout) (ls : IsShap
     room_refined : Refines room_plan room_world (lists_of room_plan (early ++ late))
     room_refined = theorem layout shape la ls lf (early ++ late)
 
-    room_stands : OwnStands room_plan room_world room_body
+    room_stands : OwnPartIsValid room_plan room_world room_body
     room_stands = room_refined.parts a room_body g.body
 
     quiet : Quiet room_world

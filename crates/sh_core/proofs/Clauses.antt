@@ -3,7 +3,7 @@
 pub mod OpenSums
 pub mod RunRefines
 pub mod RunTheorem
-pub mod HeldStands
+pub mod HeldKeysAreValid
 pub mod KeyFacts
 pub mod KeyHolds
 pub mod LinkFacts

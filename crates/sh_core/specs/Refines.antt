@@ -78,7 +78,7 @@ ClassesAreKnown plan w = (q : ℕ) →
 
 -- while a pass holds k, k names a slot of the heap, which is present in k's generation, and its words are the value
 -- that k was issued with
-pub record KeyStands (plan : Plan) (w : World) (k : ℕ) : Type 0 where
+pub record KeyIsValid (plan : Plan) (w : World) (k : ℕ) : Type 0 where
   pub name : KeyRef
   pub unpacks : plan.keys.unpack k ≡ Some name
   pub page : name.page < heap_pages plan
@@ -87,8 +87,9 @@ pub record KeyStands (plan : Plan) (w : World) (k : ℕ) : Type 0 where
   pub generation : (state_of w (slot_ref_of name)).generation ≡ name.generation
   pub value : value_of w.log k ≡ Some (value_at w.words name.page name.slot)
 
-abbrev pub HeldStands : Plan → World → Type 0
-HeldStands plan w = (a : ℕ) (p : Body) (k : ℕ) → slice_get w.parts a ≡ Some p → 0 < times k p.holds → KeyStands plan w k
+abbrev pub HeldKeysAreValid : Plan → World → Type 0
+HeldKeysAreValid plan w = (a : ℕ) (p : Body) (k : ℕ) → slice_get w.parts a ≡ Some p → 0 < times k p.holds
+    → KeyIsValid plan w k
 
 -- a payload word that a pass may read of a key is one of the key's value, in its page
 abbrev pub ReadsWithin : Plan → World → Type 0
@@ -206,7 +207,7 @@ Linked plan w l =
 -- What a pass has of its own is within its shard, and what it noted is true. Each of its slots is in `mine` once, and
 -- is one of its page's class. A page has at most one cursor, at a slot of its class that is not in `mine`. An armed
 -- page is armed once, and the bell's cursor is at an armed page. A page of the shard that is not armed has no flag
-pub record OwnStands (plan : Plan) (w : World) (p : Body) : Type 0 where
+pub record OwnPartIsValid (plan : Plan) (w : World) (p : Body) : Type 0 where
   pub few_holds : length p.holds ≤ 16
   pub owned : (n : ℕ) → p.owned ≡ Some n → n < plan.shards
   pub mine : (x : SlotRef) → 0 < mine_at x p
@@ -221,8 +222,8 @@ pub record OwnStands (plan : Plan) (w : World) (p : Body) : Type 0 where
   pub bell : (q : ℕ) → p.bell_cursor ≡ Some q → (own plan p q ≡ true) × (q < heap_pages plan) × (times q p.armed ≡ 1)
   pub notes : (q c : ℕ) → own plan p q ≡ true → noted q p.classes ≡ Some c → w.words.class_at q ≡ c
 
-abbrev pub OwnPartsStand : Plan → World → Type 0
-OwnPartsStand plan w = (a : ℕ) (p : Body) → slice_get w.parts a ≡ Some p → OwnStands plan w p
+abbrev pub OwnPartsAreValid : Plan → World → Type 0
+OwnPartsAreValid plan w = (a : ℕ) (p : Body) → slice_get w.parts a ≡ Some p → OwnPartIsValid plan w p
 
 -- a slot that is being filled is one of the heap, and the key that it will be published under is one of the layout
 abbrev pub FillsAreKeys : Plan → World → Type 0
@@ -255,7 +256,7 @@ pub record Refines (plan : Plan) (w : World) (l : PutLists) : Type 0 where
   pub kinds : KindsAddUp w l
   pub filled : Filled w l
   pub classes : ClassesAreKnown plan w
-  pub held : HeldStands plan w
+  pub held : HeldKeysAreValid plan w
   pub reads : ReadsWithin plan w
   pub notes : NotesAreTrue plan w
   pub holds : HoldsAreTold w
@@ -273,7 +274,7 @@ pub record Refines (plan : Plan) (w : World) (l : PutLists) : Type 0 where
   pub shardless : ShardlessHaveNothing w
   pub linked : Linked plan w l
   pub links : EachLinked plan w l
-  pub parts : OwnPartsStand plan w
+  pub parts : OwnPartsAreValid plan w
   pub fills : FillsAreKeys plan w
   pub places : StepsWithin plan w
   pub bells : BellsAreSmall plan w

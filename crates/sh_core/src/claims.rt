@@ -4,11 +4,12 @@ ghost use Rattle.sh_history.specs.History.{Legal};
 ghost use Rattle.sh_step.specs.Moves.{row};
 ghost use Rattle.sh_core.specs.LinkWords.{EachLinked};
 ghost use Rattle.sh_core.specs.InHeap.{StepsWithin, CountsFit, BellsAreSmall, ValuesFit, StoresWords, IssuesKeys};
-ghost use Rattle.sh_core.specs.Refines.{Always, OneKind, KindsAddUp, Filled, ClassesAreKnown, HeldStands, ReadsWithin};
+ghost use Rattle.sh_core.specs.Refines.{Always, OneKind, KindsAddUp, Filled, ClassesAreKnown, HeldKeysAreValid};
+ghost use Rattle.sh_core.specs.Refines.{ReadsWithin};
 ghost use Rattle.sh_core.specs.Refines.{NotesAreTrue, HoldsAreTold, Counted, CountIsFew};
 ghost use Rattle.sh_core.specs.Refines.{PastIsRemoved, KeysAreTold, EntriesAreOurs, GenerationsEnd, RetiredIsLast};
 ghost use Rattle.sh_core.specs.Refines.{Finished, OneOwner, Armed, LeftEmpty, ShardlessHaveNothing, Linked};
-ghost use Rattle.sh_core.specs.Refines.{OwnPartsStand, FillsAreKeys, HoldsAreFew, FlaggedAreEmpty, KeysInHandName};
+ghost use Rattle.sh_core.specs.Refines.{OwnPartsAreValid, FillsAreKeys, HoldsAreFew, FlaggedAreEmpty, KeysInHandName};
 ghost use Rattle.sh_core.specs.Refines.{GoesOn};
 
 /// The core refines the map: in every heap whose shape fits its layout, after every list of events, by any passes in
@@ -26,7 +27,7 @@ pub fn refines_map()
     ensures classes { Always (λ plan w l. ClassesAreKnown plan w) }
 
     // The value of a held key is in its slot, unchanged, and holds are what the log says.
-    ensures held { Always (λ plan w l. HeldStands plan w) }
+    ensures held { Always (λ plan w l. HeldKeysAreValid plan w) }
     ensures reads { Always (λ plan w l. ReadsWithin plan w) }
     ensures notes { Always (λ plan w l. NotesAreTrue plan w) }
     ensures holds { Always (λ plan w l. HoldsAreTold w) }
@@ -56,7 +57,7 @@ pub fn refines_map()
     ensures flags { Always (λ plan w l. FlaggedAreEmpty w l) }
 
     // What a pass has of its own is within its shard, and each step is on a place of the heap.
-    ensures parts { Always (λ plan w l. OwnPartsStand plan w) }
+    ensures parts { Always (λ plan w l. OwnPartsAreValid plan w) }
     ensures fills { Always (λ plan w l. FillsAreKeys plan w) }
     ensures places { Always (λ plan w l. StepsWithin plan w) }
     ensures bells { Always (λ plan w l. BellsAreSmall plan w) }

@@ -2,8 +2,9 @@
 ghost use Rattle.std.specs.Prelude.{◌≡◌, length};
 ghost use Rattle.sh_history.specs.History.{Legal};
 ghost use Rattle.sh_core.specs.Variants.{Table, AlwaysBy};
-ghost use Rattle.sh_core.specs.Refines.{OneKind, HeldStands, NotesAreTrue, Counted, GenerationsEnd, Finished, Armed};
-ghost use Rattle.sh_core.specs.Refines.{LeftEmpty, Linked, OwnPartsStand, ClassesAreKnown, HoldsAreFew};
+ghost use Rattle.sh_core.specs.Refines.{OneKind, HeldKeysAreValid, NotesAreTrue, Counted, GenerationsEnd, Finished};
+ghost use Rattle.sh_core.specs.Refines.{Armed};
+ghost use Rattle.sh_core.specs.Refines.{LeftEmpty, Linked, OwnPartsAreValid, ClassesAreKnown, HoldsAreFew};
 ghost use Rattle.sh_core.specs.Refines.{FlaggedAreEmpty, KeysInHandName, GoesOn};
 ghost use Rattle.sh_core.specs.WrongRows.{crowds_at_once, both_remove, marks_and_stays, drops_and_forgets};
 ghost use Rattle.sh_core.specs.WrongRows.{knows_after_hold, keeps_generation, ignores_count, wraps_generation};
@@ -37,7 +38,7 @@ pub fn refutes_wrong_tables()
 
     // The end of a generation.
     ensures keeps_generation { ¬ AlwaysBy keeps_generation (λ plan w l. Legal plan.passes plan.keys.guard_max w.log) }
-    ensures ignores_count { ¬ AlwaysBy ignores_count (λ plan w l. HeldStands plan w) }
+    ensures ignores_count { ¬ AlwaysBy ignores_count (λ plan w l. HeldKeysAreValid plan w) }
     ensures wraps_generation { ¬ AlwaysBy wraps_generation (λ plan w l. Legal plan.passes plan.keys.guard_max w.log) }
     ensures never_retires { ¬ AlwaysBy never_retires (λ plan w l. GenerationsEnd plan w) }
     ensures tries_again { ¬ AlwaysBy tries_again (λ plan w l. GoesOn tries_again plan w) }
@@ -53,7 +54,7 @@ pub fn refutes_wrong_tables()
 
     // Owners.
     ensures leaves_slots { ¬ AlwaysBy leaves_slots (λ plan w l. LeftEmpty plan w) }
-    ensures leaves_bell { ¬ AlwaysBy leaves_bell (λ plan w l. OwnPartsStand plan w) }
+    ensures leaves_bell { ¬ AlwaysBy leaves_bell (λ plan w l. OwnPartsAreValid plan w) }
     ensures forgets_last_slot { ¬ AlwaysBy forgets_last_slot (λ plan w l. OneKind w l) }
     ensures gives_any_class { ¬ AlwaysBy gives_any_class (λ plan w l. ClassesAreKnown plan w) }
 {}
@@ -68,7 +69,7 @@ pub fn refutes_more_wrong_tables()
     ensures leaves_cursors { ¬ AlwaysBy leaves_cursors (λ plan w l. LeftEmpty plan w) }
     ensures publishes_next { ¬ AlwaysBy publishes_next (λ plan w l. KeysAreTold plan w) }
     ensures keeps_hold { ¬ AlwaysBy keeps_hold (λ plan w l. HoldsAreTold w) }
-    ensures fills_any_slot { ¬ AlwaysBy fills_any_slot (λ plan w l. HeldStands plan w) }
+    ensures fills_any_slot { ¬ AlwaysBy fills_any_slot (λ plan w l. HeldKeysAreValid plan w) }
     ensures reads_wrong_class { ¬ AlwaysBy reads_wrong_class (λ plan w l. NotesAreTrue plan w) }
     ensures reads_wrong_length { ¬ AlwaysBy reads_wrong_length (λ plan w l. NotesAreTrue plan w) }
     ensures enters_uncounted { ¬ AlwaysBy enters_uncounted (λ plan w l. CountsFit plan w) }

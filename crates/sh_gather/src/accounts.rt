@@ -4,7 +4,7 @@ ghost use Rattle.sh_word.specs.Fields.{fields_of};
 ghost use Rattle.sh_shape.specs.Classes.{class_count};
 ghost use Rattle.sh_shape.specs.Places.{all_pages, page_number, slot_places};
 ghost use Rattle.sh_core.specs.Lists.{class_named, slots_under};
-ghost use Rattle.sh_table.specs.Tales.{ViewStands};
+ghost use Rattle.sh_table.specs.Tales.{ViewIsValid};
 ghost use Rattle.sh_table.specs.Whole.{IsWhole, Known};
 ghost use Rattle.sh_pass.specs.Passes.{IsAtRest};
 ghost use Rattle.sh_accounts.specs.Accounts.{ShapeHasPage, no_slots};
@@ -121,7 +121,7 @@ pub(crate) fn accounts<L: KeyLayout, H: KeepsHeap<L>>(
 ) -> Option<Accounts>
     requires { IsWhole pass.old.view }
     ensures rest { IsAtRest pass.old }
-    ensures stands { ViewStands L.layout pass.old.view }
+    ensures stands { ViewIsValid L.layout pass.old.view }
     ensures heap { pass.new.heap ≡ pass.old.heap }
     ensures tale { NotedMore pass.old.view pass.new.view }
     ensures looks { length pass.new.view.noted ≤ length pass.old.view.noted + 98 }

@@ -1,6 +1,6 @@
 //! How passes meet.
 ghost use Rattle.std.specs.Prelude.{◌≡◌, MatchResult};
-ghost use Rattle.sh_table.specs.Tales.{ViewStands};
+ghost use Rattle.sh_table.specs.Tales.{ViewIsValid};
 ghost use Rattle.sh_table.specs.Views.{joined_view};
 ghost use Rattle.sh_table.specs.Whole.{IsWhole};
 ghost use Rattle.sh_pass.specs.Passes.{AreAll, AreOf};
@@ -18,7 +18,7 @@ pub fn join<L: KeyLayout, H: KeepsHeap<L>>(one: PassOn<L, H>, other: PassOn<L, H
     requires { other.heap ≡ one.heap }
     ensures heap { result.heap ≡ one.heap }
     ensures tale { result.view ≡ joined_view one.view other.view }
-    ensures stands { ViewStands L.layout result.view }
+    ensures stands { ViewIsValid L.layout result.view }
 {
     merge(one, other)
 }

@@ -2,7 +2,7 @@
 ghost use Rattle.std.specs.Prelude.{◌≡◌, ◌+◌, ◌≤◌, length, IfSome, MatchOption};
 ghost use Rattle.sh_shape.specs.Places.{page_number};
 ghost use Rattle.sh_accounts.specs.Accounts.{ShapeHasPage};
-ghost use Rattle.sh_table.specs.Tales.{ViewStands};
+ghost use Rattle.sh_table.specs.Tales.{ViewIsValid};
 ghost use Rattle.sh_pass.specs.Passes.{IsAtRest};
 ghost use Rattle.sh_gather.specs.Gathering.{AreWholeAccounts, NotedMore};
 
@@ -37,7 +37,7 @@ impl<L: KeyLayout, H: KeepsHeap<L>> WholeOn<L, H> {
     pub fn shape(&self) -> &Shape
         ensures is { result.now ≡ self.now.heap.shape }
         ensures rest { IsAtRest self.now }
-        ensures stands { ViewStands L.layout self.now.view }
+        ensures stands { ViewIsValid L.layout self.now.view }
     {
         self.pass.shape()
     }
@@ -60,7 +60,7 @@ impl<L: KeyLayout, H: KeepsHeap<L>> WholeOn<L, H> {
     /// still held. Retired are those that were removed in the last generation of their slots and are not held.
     pub fn accounts(&mut self, shard: u32, page: u32) -> Option<Accounts>
         ensures rest { IsAtRest self.old }
-        ensures stands { ViewStands L.layout self.old.view }
+        ensures stands { ViewIsValid L.layout self.old.view }
         ensures heap { self.new.heap ≡ self.old.heap }
         ensures tale { NotedMore self.old.view self.new.view }
         ensures looks { length self.new.view.noted ≤ length self.old.view.noted + 98 }

@@ -14,7 +14,7 @@ use Rattle.sh_value.specs.declared.refusal.Refusal.TheVariants as refusal
 use Rattle.sh_table.specs.declared.view.Heard.{Heard}
 use Rattle.sh_table.specs.declared.view.Order.{Order}
 use Rattle.sh_table.specs.Orders.{AnsweredAfter, GoneIsRemoved, GotIsInserted}
-use Rattle.sh_table.specs.Tales.{ViewStands}
+use Rattle.sh_table.specs.Tales.{ViewIsValid}
 use Rattle.sh_table.specs.Views.{done_by, order_of, heard_in}
 use Rattle.sh_pass.specs.Growing.{SameTale}
 use Rattle.sh_pass.specs.Passes.{Caller}
@@ -68,7 +68,7 @@ gone_if_removed law layout key r v w (Err _) does tells = tt
 
 -- the value that was fetched is the inserted one
 pub fetched_as_inserted : GotIsInserted → (layout : Layout) (key : ℕ) (r v w : Caller)
-    (result : Result (List ℕ) Refusal) → FetchDoes layout key (heeded v r) result w → ViewStands layout w.view
+    (result : Result (List ℕ) Refusal) → FetchDoes layout key (heeded v r) result w → ViewIsValid layout w.view
     → IfOk result (λ value. IsAsInserted key value r)
 fetched_as_inserted law layout key r v w (Err why) does stands = tt
 fetched_as_inserted law layout key r v w (Ok value) does stands = λ inserted covers.

@@ -5,7 +5,7 @@ use Rattle.sh_value.specs.declared.refusal.Refusal.{Refusal}
 use Rattle.sh_value.specs.declared.refusal.Refusal.TheVariants as refusal
 use Rattle.sh_shape.specs.Shape.{Numbers}
 use Rattle.sh_pass.specs.Seats.{Heap}
-use Rattle.sh_pass.specs.Tales.{ViewStands}
+use Rattle.sh_pass.specs.Tales.{ViewIsValid}
 use Rattle.sh_pass.specs.Views.{joined_view}
 use Rattle.sh_pass.specs.Passes.{Caller, IsAtRest}
 use Rattle.sh_pass.specs.Receipts.{heeded, receipt_by}
@@ -49,10 +49,10 @@ HasShape (Shard o) shape = shape ≡ o.pages.owner.heap.shape
 HasShape Moving shape = ⊥
 
 -- nothing is begun, and all that it knows is true; a pass owns no shard, and an owner owns its shard
-abbrev pub SideStands : Layout → SeenSide → Type 0
-SideStands layout (Pass v) = IsAtRest v × ViewStands layout v.view
-SideStands layout (Shard o) = HoldsShard layout o
-SideStands layout Moving = ⊥
+abbrev pub SideIsValid : Layout → SeenSide → Type 0
+SideIsValid layout (Pass v) = IsAtRest v × ViewIsValid layout v.view
+SideIsValid layout (Shard o) = HoldsShard layout o
+SideIsValid layout Moving = ⊥
 
 -- ---- calls
 
@@ -151,7 +151,7 @@ MayJoin Moving other = Unit {0}
 -- the first, which now carries both tales, and still owns no shard
 abbrev pub SideJoins : Layout → SeenSide → SeenSide → SeenSide → Type 0
 SideJoins layout (Pass v) (Pass w) (Pass r) = (r.heap ≡ v.heap) × (r.view ≡ joined_view v.view w.view)
-    × ViewStands layout r.view
+    × ViewIsValid layout r.view
 SideJoins layout (Pass v) (Pass w) (Shard n) = ⊥
 SideJoins layout (Pass v) (Pass w) Moving = ⊥
 SideJoins layout (Pass v) (Shard p) new = ⊥
@@ -175,7 +175,7 @@ IsReceiptBy Moving r = ⊥
 
 -- it heeded the receipt, is otherwise as it was, and stays a pass or an owner as before
 abbrev pub SideHeeds : Layout → Caller → SeenSide → SeenSide → Type 0
-SideHeeds layout r (Pass v) (Pass w) = (w ≡ heeded v r) × ViewStands layout w.view
+SideHeeds layout r (Pass v) (Pass w) = (w ≡ heeded v r) × ViewIsValid layout w.view
 SideHeeds layout r (Pass v) (Shard n) = ⊥
 SideHeeds layout r (Pass v) Moving = ⊥
 SideHeeds layout r (Shard o) (Shard n) = (n ≡ shard_heeded o r) × HoldsShard layout n

@@ -11,7 +11,7 @@ use Rattle.sh_value.specs.declared.refusal.Refusal.TheVariants as refusal
 use Rattle.sh_step.specs.Collections.{has}
 use Rattle.sh_step.proofs.ListLaws.{has_front}
 use Rattle.sh_table.specs.declared.view.View.{View}
-use Rattle.sh_table.specs.Tales.{ViewStands}
+use Rattle.sh_table.specs.Tales.{ViewIsValid}
 use Rattle.sh_pass.specs.Passes.{Caller, holds, GetDoes, ReadDoes, RemoveDoes, ReleaseDoes}
 use Rattle.sh_pass.specs.Lookups.{caller_book, caller_setting}
 use Rattle.sh_pass.proofs.HeldLaws.{some_times, no_times}
@@ -20,16 +20,16 @@ log_same : (v w : Caller) → w ≡ v → w.view.own.log ≡ v.view.own.log
 log_same v w e = ap (λ (z : Caller). z.view.own.log) e
 
 -- a key among the holds is held, as the log says too
-held_now : (layout : Layout) (v : View) (key : ℕ) → ViewStands layout v → has (λ k. k == key) v.own.body.holds ≡ true
+held_now : (layout : Layout) (v : View) (key : ℕ) → ViewIsValid layout v → has (λ k. k == key) v.own.body.holds ≡ true
     → 0 < logged_holds_by v.own.log v.pass key
 held_now layout v key s here = let a = some_times key v.own.body.holds here in let b = s.holds key in omega arith
 
-none_held : (layout : Layout) (v : View) (key : ℕ) → ViewStands layout v → has (λ k. k == key) v.own.body.holds ≡ false
+none_held : (layout : Layout) (v : View) (key : ℕ) → ViewIsValid layout v → has (λ k. k == key) v.own.body.holds ≡ false
     → logged_holds_by v.own.log v.pass key ≡ 0
 none_held layout v key s none = let a = no_times key v.own.body.holds none in let b = s.holds key in omega arith
 
 pub get_leaves : (layout : Layout) (key : ℕ) (o n : Caller) (r : Result Hold Refusal)
-    → ViewStands layout n.view → GetDoes layout key o r n
+    → ViewIsValid layout n.view → GetDoes layout key o r n
     → GetLeaves (caller_setting layout o) key (caller_book o) r (caller_book n)
 get_leaves layout key o n (Ok hold) s k =
     let adds = k.3 in
@@ -48,7 +48,7 @@ get_leaves layout key o n (Err refusal.HoldsFull) s k = log_same o n k.2
 get_leaves layout key o n (Err _) s k = absurd k
 
 pub read_leaves : (layout : Layout) (key : ℕ) (o n : Caller) (r : Result (List ℕ) Refusal)
-    → ViewStands layout o.view → ReadDoes key o r n
+    → ViewIsValid layout o.view → ReadDoes key o r n
     → ReadLeaves (caller_setting layout o) key (caller_book o) r (caller_book n)
 read_leaves layout key o n (Ok value) s k = (held_now layout o.view key s k.0, k.1.log, k.1.value_is)
 read_leaves layout key o n (Err refusal.NotHeld) s k = (none_held layout o.view key s k.0, log_same o n k.1)
@@ -63,7 +63,7 @@ remove_leaves layout key o n (Err refusal.Gone) k = k.1.log
 remove_leaves layout key o n (Err _) k = absurd k
 
 pub release_leaves : (layout : Layout) (key : ℕ) (o n : Caller) (r : Result (Unit {0}) Refusal)
-    → ViewStands layout o.view → ReleaseDoes layout key o r n
+    → ViewIsValid layout o.view → ReleaseDoes layout key o r n
     → ReleaseLeaves (caller_setting layout o) key (caller_book o) r (caller_book n)
 release_leaves layout key o n (Ok u) s k = (held_now layout o.view key s k.0, k.1.log)
 release_leaves layout key o n (Err refusal.NotHeld) s k = (none_held layout o.view key s k.0, log_same o n k.1)

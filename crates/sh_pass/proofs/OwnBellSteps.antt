@@ -16,7 +16,7 @@ use Rattle.sh_step.specs.Collections.{without}
 use Rattle.sh_step.specs.Footsteps.{takes_page, takes_bell, meets_page, meets_bell, puts_slot, arms_page}
 use Rattle.sh_step.specs.Plans.{Plan, plan_of, home, over_heap, page_number}
 use Rattle.sh_table.specs.Steps.{row_by}
-use Rattle.sh_table.specs.Tales.{OwnerStands}
+use Rattle.sh_table.specs.Tales.{OwnerIsValid}
 use Rattle.sh_pass.specs.Passes.{Caller}
 use Rattle.sh_pass.specs.Owners.{OwnerDid, OwnerActs, OnPage, SamePages, NonePut, NoneArmed, own_body, seen_page}
 use Rattle.sh_pass.specs.Owners.{seen_bell, heap_page, page_rung, bell_taken, bell_followed, page_on_bell}
@@ -56,7 +56,7 @@ module _ (layout : Layout) (v w : Caller) where
         still layout action.TakeBell m n v w d b refl arms_page refl,
       )
 
-module _ (layout : Layout) (v w : Caller) (x : PageName) (own : OwnerStands (plan_of layout v.view.shape) (own_body v))
+module _ (layout : Layout) (v w : Caller) (x : PageName) (own : OwnerIsValid (plan_of layout v.view.shape) (own_body v))
   where
     bell_none : (n : ℕ) → (n == 0) ≡ true → (own_body v).hand ≡ Idle
         → home (plan_of layout v.view.shape) (heap_page v x) ≡ x.shard

@@ -21,7 +21,7 @@ use Rattle.sh_step.specs.Plans.{Plan, plan_of, home, local}
 use Rattle.sh_step.proofs.PartTests.{owns_is}
 use Rattle.sh_step.proofs.ListLaws.{has_front, without_front}
 use Rattle.sh_step.proofs.PageLaws.{shards_have_pages}
-use Rattle.sh_table.specs.Tales.{OwnerStands, ViewStands}
+use Rattle.sh_table.specs.Tales.{OwnerIsValid, ViewIsValid}
 use Rattle.sh_pass.specs.Growing.{Grows, SameTale, SameOwn, CallsAlone, IsOfShard, is_of_call, with_slot}
 use Rattle.sh_pass.specs.Passes.{Caller}
 use Rattle.sh_pass.specs.Owners.{CallLeaves, SlotCame, SameBells, SeenPage, own_body, seen_page, page_with}
@@ -111,7 +111,7 @@ module _ (layout : Layout) (v w : Caller) (same : SameTale v.view w.view) (alone
   }
 
   slot : (r : Option SlotRef) → SameOwn (with_slot (own_body v) r) (own_body w) → (own_body v).hand ≡ Idle
-      → IsOfShard plan (own_body v) r → OwnerStands plan (own_body w) → SlotCame r v w
+      → IsOfShard plan (own_body v) r → OwnerIsValid plan (own_body w) → SlotCame r v w
   slot None own idle home stands = λ q. page_left q (seen_page v q)
       (λ s. ap (has (same_slot (record { page = q; slot = s }))) own.mine) (ap (noted q) own.cursors)
       (ap (has (λ y. y == q)) own.armed) (ap (noted q) own.classes) refl refl
@@ -142,7 +142,7 @@ module _ (layout : Layout) (v w : Caller) (same : SameTale v.view w.view) (alone
       )
 
   pub leaves : (r : Option SlotRef) → SameOwn (with_slot (own_body v) r) (own_body w) → (own_body v).hand ≡ Idle
-      → (own_body w).hand ≡ Idle → IsOfShard plan (own_body v) r → ViewStands layout w.view → CallLeaves layout r v w
+      → (own_body w).hand ≡ Idle → IsOfShard plan (own_body v) r → ViewIsValid layout w.view → CallLeaves layout r v w
   leaves r own idle over at stands = record {
     idle = over;
     same = same;
@@ -150,14 +150,14 @@ module _ (layout : Layout) (v w : Caller) (same : SameTale v.view w.view) (alone
     bells = bells_left own.bell;
     arm = alone arms_page no_arm;
     alone = alone;
-    slot = slot r own idle at (subst (λ (s : Numbers). OwnerStands (plan_of layout s) (own_body w)) same.shape
+    slot = slot r own idle at (subst (λ (s : Numbers). OwnerIsValid (plan_of layout s) (own_body w)) same.shape
         stands.owner);
   }
 
 -- steps that left this body
 pub leaves_grown : {b : Body} {es : List LogEntry} {most : ℕ} (layout : Layout) (v w : Caller) (r : Option SlotRef)
     → Grows b es most v.view w.view → SameOwn (with_slot (own_body v) r) b → b.hand ≡ Idle → (own_body v).hand ≡ Idle
-    → IsOfShard (plan_of layout v.view.shape) (own_body v) r → ViewStands layout w.view → CallLeaves layout r v w
+    → IsOfShard (plan_of layout v.view.shape) (own_body v) r → ViewIsValid layout w.view → CallLeaves layout r v w
 leaves_grown layout v w r g own over idle at stands = leaves layout v w g.same g.calls r
     (subst (SameOwn (with_slot (own_body v) r)) (sym g.body) own) idle (ap (λ (p : Body). p.hand) g.body ∙ over) at
     stands

@@ -21,7 +21,7 @@ use Rattle.sh_step.specs.Rows.{point, unpoint}
 use Rattle.sh_step.proofs.ListLaws.{has_front}
 use Rattle.sh_step.proofs.NoteLaws.{noted_now}
 use Rattle.sh_table.specs.Steps.{row_by}
-use Rattle.sh_table.specs.Tales.{OwnerStands}
+use Rattle.sh_table.specs.Tales.{OwnerIsValid}
 use Rattle.sh_pass.specs.Passes.{Caller}
 use Rattle.sh_pass.specs.Owners.{OwnerDid, OwnerActs, OnPage, SameBells, NonePut, NoneArmed, own_body, seen_page}
 use Rattle.sh_pass.specs.Owners.{heap_page, heap_slot, slot_in, page_taken, page_armed, page_followed, page_without}
@@ -32,7 +32,7 @@ use Rattle.sh_pass.proofs.OwnNotes.{noted_else}
 use Rattle.sh_pass.proofs.OwnSteps.{still, more, acts, bells_same, page_after}
 use Rattle.sh_table.proofs.Standing.{eqb_self}
 
-module _ (layout : Layout) (v w : Caller) (x : PageName) (own : OwnerStands (plan_of layout v.view.shape) (own_body v))
+module _ (layout : Layout) (v w : Caller) (x : PageName) (own : OwnerIsValid (plan_of layout v.view.shape) (own_body v))
   where
     abbrev q : ℕ
     q = heap_page v x

@@ -7,7 +7,7 @@ use Rattle.sh_step.specs.declared.moves.Move.{Move}
 use Rattle.sh_table.specs.declared.view.View.{View}
 use Rattle.sh_table.specs.Seats.{Heap, IsSeat, CanDo, Did}
 use Rattle.sh_table.specs.Steps.{MayDo}
-use Rattle.sh_table.specs.Tales.{ViewStands}
+use Rattle.sh_table.specs.Tales.{ViewIsValid}
 use Rattle.sh_pass.specs.Passes.{Caller, caller_of}
 use Rattle.sh_pass.specs.Owners.{OwnerDid}
 use Rattle.sh_pass.proofs.HeldLaws.{same_home}
@@ -29,8 +29,8 @@ does {layout} {heap} {x} {m} {n} {t} {u} v is s d =
     })
 
 pub stood : {layout : Layout} {heap : Heap} {t : Seat (Unit {0}) View} (v : Caller) → caller_of t ≡ v
-    → IsSeat layout heap t → ViewStands layout v.view
-stood {layout} v is s = subst (λ (z : Caller). ViewStands layout z.view) is s.stands
+    → IsSeat layout heap t → ViewIsValid layout v.view
+stood {layout} v is s = subst (λ (z : Caller). ViewIsValid layout z.view) is s.stands
 
 -- a seat of the heap, if the heap has that inside
 pub seat_at : {layout : Layout} {inside heap : Heap} {t : Seat (Unit {0}) View} → inside ≡ heap → IsSeat layout heap t

@@ -13,7 +13,7 @@ use Rattle.sh_table.specs.declared.view.Heard.{Heard}
 use Rattle.sh_table.specs.declared.view.Order.{Order}
 use Rattle.sh_table.specs.declared.view.View.{View}
 use Rattle.sh_table.specs.Orders.{AnsweredAfter, RemovedIsGone, SaysThere}
-use Rattle.sh_table.specs.Tales.{ViewStands}
+use Rattle.sh_table.specs.Tales.{ViewIsValid}
 use Rattle.sh_table.specs.Views.{done_by, order_of}
 use Rattle.sh_pass.specs.Passes.{Caller, GetDoes, RemoveDoes}
 use Rattle.sh_pass.specs.Growing.{SameTale}
@@ -44,7 +44,7 @@ answered_after o c w x pass orders log =
 
 -- it heard of the removal, so the get does not find the key
 pub finds_none : (layout : Layout) (key : ℕ) (o0 o1 c0 c1 w : Caller) → RemovedIsGone
-    → RemoveDoes layout key o0 (Ok tt) o1 → c1 ≡ heeded c0 (receipt_by o1) → ViewStands layout w.view
+    → RemoveDoes layout key o0 (Ok tt) o1 → c1 ≡ heeded c0 (receipt_by o1) → ViewIsValid layout w.view
     → (r : Result Hold Refusal) → GetDoes layout key c1 r w → FindsNone r
 finds_none layout key o0 o1 c0 c1 w law removed heeds stands r does = go r does where
   told : (x : LogEntry) → SameTale c1.view w.view → w.view.own.log ≡ c1.view.own.log ++ x ∷ [] → ¬ SaysThere key x

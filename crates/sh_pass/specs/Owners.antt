@@ -29,7 +29,7 @@ use Rattle.sh_step.specs.Plans.{Plan, plan_of, home}
 use Rattle.sh_table.specs.declared.view.View.{View}
 use Rattle.sh_table.specs.Seats.{Heap, IsSeat}
 use Rattle.sh_table.specs.Steps.{WordSays, row_by, did}
-use Rattle.sh_table.specs.Tales.{ViewStands}
+use Rattle.sh_table.specs.Tales.{ViewIsValid}
 use Rattle.sh_pass.specs.Growing.{SameTale, CallsAlone}
 use Rattle.sh_pass.specs.Passes.{Caller, HoldsKept, IsTally}
 
@@ -170,7 +170,7 @@ pub record OwnerDid (layout : Layout) (x : Action) (m : Move) (n : ℕ) (v w : C
       (row_by layout v.view m) n
   pub says : answer (row_by layout v.view m).operation n ≡ Some n → WordSays (plan_of layout v.view.shape) (own_body v)
       (row_by layout v.view m).place n
-  pub stands : ViewStands layout w.view
+  pub stands : ViewIsValid layout w.view
 
 -- heap, tale, shard and holds are as before
 pub record Aside (v w : Caller) : Type 0 where

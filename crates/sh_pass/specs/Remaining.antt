@@ -2,7 +2,7 @@
 use Rattle.std.specs.Prelude.{◌≡◌}
 use Rattle.sh_key.specs.Layout.{Layout}
 use Rattle.sh_slots.specs.declared.hand.Hand.TheVariants.{Idle}
-use Rattle.sh_table.specs.Tales.{ViewStands}
+use Rattle.sh_table.specs.Tales.{ViewIsValid}
 use Rattle.sh_pass.specs.Passes.{Caller}
 
 -- Heap and shard are as before, and nothing is begun. All that was known before is true, in the heap's shape, and so is
@@ -12,5 +12,5 @@ pub record Remains (layout : Layout) (v w : Caller) : Type 0 where
   pub shard : w.view.own.body.owned ≡ v.view.own.body.owned
   pub idle : w.view.own.body.hand ≡ Idle
   pub shape : v.view.shape ≡ v.heap.shape
-  pub stood : ViewStands layout v.view
-  pub stands : ViewStands layout w.view
+  pub stood : ViewIsValid layout v.view
+  pub stands : ViewIsValid layout w.view

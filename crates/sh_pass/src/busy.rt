@@ -1,6 +1,6 @@
 //! Passes that step by hand: the caller drives each step.
 ghost use Rattle.std.specs.Prelude.{◌≡◌};
-ghost use Rattle.sh_table.specs.Tales.{ViewStands};
+ghost use Rattle.sh_table.specs.Tales.{ViewIsValid};
 ghost use Rattle.sh_pass.specs.Busy.{Acts, Ends};
 
 use crate::by_hand::BusyState;
@@ -60,7 +60,7 @@ impl<L: KeyLayout, H: KeepsHeap<L>> BusyOn<L, H> {
     pub fn act(&mut self, action: &Action) -> bool
         ensures acts { Acts L.layout action.now self.old.view result self.new.view }
         ensures same { self.new.heap ≡ self.old.heap }
-        ensures stands { ViewStands L.layout self.new.view }
+        ensures stands { ViewIsValid L.layout self.new.view }
     {
         let heap = self.heap.kept();
         self.state.act(&heap.table, action)

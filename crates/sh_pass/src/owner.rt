@@ -4,7 +4,7 @@ ghost use Rattle.sh_slots.specs.declared.hand.Hand.TheVariants.{Idle};
 ghost use Rattle.sh_shape.specs.Places.{pages_of};
 ghost use Rattle.sh_step.specs.declared.action.Action.TheVariants as action;
 ghost use Rattle.sh_step.specs.declared.moves.Move.TheVariants as move;
-ghost use Rattle.sh_table.specs.Tales.{ViewStands};
+ghost use Rattle.sh_table.specs.Tales.{ViewIsValid};
 ghost use Rattle.sh_pass.specs.Owners.{OwnerDid, OwnerTries, OwnerAdopts, Left, HasNothing, NonePut, NoneArmed};
 ghost use Rattle.sh_pass.specs.Owners.{heap_page, own_body, seen_page};
 
@@ -50,7 +50,7 @@ impl<L: KeyLayout, H: KeepsHeap<L>> OwnerOn<L, H> {
         ensures same { result ≡ pass }
         ensures idle { (own_body result).hand ≡ Idle }
         ensures left { (own_body result).owned ≡ None }
-        ensures stands { ViewStands L.layout result.view }
+        ensures stands { ViewIsValid L.layout result.view }
     {
         OwnerOn {
             heap: pass.heap,
@@ -76,7 +76,7 @@ impl<L: KeyLayout, H: KeepsHeap<L>> OwnerOn<L, H> {
     pub fn shape(&self) -> &Shape
         ensures is { result.now ≡ self.now.heap.shape }
         ensures same { self.now.view.shape ≡ self.now.heap.shape }
-        ensures stands { ViewStands L.layout self.now.view }
+        ensures stands { ViewIsValid L.layout self.now.view }
     {
         let heap = self.heap.kept();
         heap.table.shape()

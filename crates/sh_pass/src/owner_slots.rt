@@ -11,7 +11,7 @@ ghost use Rattle.sh_step.specs.declared.moves.Move.TheVariants as move;
 ghost use Rattle.sh_step.specs.Rows.{class_word_noted, payload_word};
 ghost use Rattle.sh_bell.specs.Bell.{is_armed, top_of};
 ghost use Rattle.sh_stack.specs.Stack.{link_over};
-ghost use Rattle.sh_table.specs.Tales.{ViewStands};
+ghost use Rattle.sh_table.specs.Tales.{ViewIsValid};
 ghost use Rattle.sh_pass.specs.Owners.{MayTouch, OwnerDid, OwnerActs, OnPage, SamePages, SameBells, NonePut, heap_page};
 ghost use Rattle.sh_pass.specs.Owners.{own_body, seen_page, published, slot_in, heap_slot, page_without, IsKeyIn};
 ghost use Rattle.sh_pass.specs.Owners.{IsKeyOn};
@@ -126,7 +126,7 @@ impl<L: KeyLayout, H: KeepsHeap<L>> OwnerOn<L, H> {
         ensures page { OnPage (heap_page self.old name) (page_without (seen_page self.old (heap_page self.old name))
             slot) self.old self.new }
         ensures put { NonePut self.old self.new }
-        ensures stands { ViewStands L.layout self.new.view }
+        ensures stands { ViewIsValid L.layout self.new.view }
     {
         let slot_ref = self.fill_slot(name, slot, value);
         let first = first_word(slot, class_word);

@@ -1,6 +1,6 @@
 //! A pass without the heap that it steps on.
 ghost use Rattle.std.specs.Prelude.{◌≡◌};
-ghost use Rattle.sh_table.specs.Tales.{ViewStands};
+ghost use Rattle.sh_table.specs.Tales.{ViewIsValid};
 ghost use Rattle.sh_pass.specs.Remaining.{Remains};
 ghost use Rattle.sh_pass.specs.Passes.{GetDoes, ReadDoes, ReadIntoDoes, RemoveDoes, ReleaseDoes, IsAtRest};
 
@@ -40,7 +40,7 @@ impl<L: KeyLayout> PassState<L> {
         requires { self.now.heap ≡ heap.now }
         ensures is { result.now ≡ heap.now.shape }
         ensures rest { IsAtRest self.now }
-        ensures stands { ViewStands L.layout self.now.view }
+        ensures stands { ViewIsValid L.layout self.now.view }
     {
         // What holds of every pass holds of this one.
         let _known = &self.seated.held;

@@ -7,7 +7,7 @@ use Rattle.std.proofs.Math.Numerals.{lt_of_le_of_ne}
 use Rattle.sh_key.specs.Layout.{Layout}
 use Rattle.sh_shape.specs.Places.{pages_of}
 use Rattle.sh_slots.specs.declared.hand.Hand.TheVariants.{Idle}
-use Rattle.sh_pass.specs.Tales.{ViewStands}
+use Rattle.sh_pass.specs.Tales.{ViewIsValid}
 use Rattle.sh_pass.specs.Passes.{Caller}
 use Rattle.sh_pass.specs.Owners.{SeenPage, SeenBell, Aside, OwnerActs, OnPage, SameBells, HasNothing, heap_page}
 use Rattle.sh_pass.specs.Owners.{own_body, seen_page, page_noted}
@@ -28,7 +28,7 @@ state_of n = record { lists = bare_lists; class_word = n; armed = false }
 pub record Reading (layout : Layout) (shard n : ℕ) (v w : Caller) (states : List PageState) : Type 0 where
   pub aside : Aside v w
   pub log : w.view.own.log ≡ v.view.own.log
-  pub stands : ViewStands layout w.view
+  pub stands : ViewIsValid layout w.view
   pub idle : (own_body w).hand ≡ Idle
   pub owned : (own_body w).owned ≡ Some shard
   pub bell : (own_body w).bell_cursor ≡ None
@@ -44,7 +44,7 @@ all_blank (suc n) (suc p) = all_blank n p
 
 pub reading_none : {layout : Layout} (shard n : ℕ) (v : Caller) (states : List PageState) → (own_body v).hand ≡ Idle
     → (own_body v).owned ≡ Some shard → (own_body v).bell_cursor ≡ None → ((q : ℕ) → HasNothing (seen_page v q))
-    → ViewStands layout v.view → states ≡ replicate n blank_state → Reading layout shard 0 v v states
+    → ViewIsValid layout v.view → states ≡ replicate n blank_state → Reading layout shard 0 v v states
 reading_none shard n v states idle owned bell none stands blank = record {
   aside = aside_none v;
   log = refl;
@@ -76,7 +76,7 @@ kept_first g n h l = record {
 pub reading_more : {layout : Layout} (shard n word : ℕ) (v w x : Caller) (states after : List PageState)
     → Reading layout shard n v w states → n < length states → OwnerActs Idle [] 1 w x → SameBells layout w x
     → OnPage (heap_page w (shard_page shard n)) (page_noted (page_of w shard n) word) w x
-    → ViewStands layout x.view → word ≤ 8 → after ≡ set states n (state_of word)
+    → ViewIsValid layout x.view → word ≤ 8 → after ≡ set states n (state_of word)
     → Reading layout shard (n + 1) v x after
 reading_more {layout} shard n word v w x states after r inside acts bells on stands few is = record {
   steps = let e = r.steps in let f = acts.steps in omega arith;

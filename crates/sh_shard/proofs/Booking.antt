@@ -7,7 +7,7 @@ use Rattle.sh_queue.specs.Queues.{PageQueues}
 use Rattle.sh_value.specs.declared.refusal.Refusal.{Refusal}
 use Rattle.sh_value.specs.declared.refusal.Refusal.TheVariants as refusal
 use Rattle.sh_pass.specs.Seats.{Heap}
-use Rattle.sh_pass.specs.Tales.{ViewStands}
+use Rattle.sh_pass.specs.Tales.{ViewIsValid}
 use Rattle.sh_pass.specs.Growing.{SameTale}
 use Rattle.sh_pass.specs.Owners.{Aside, own_body}
 use Rattle.sh_pass.specs.Passes.{Caller}
@@ -31,7 +31,7 @@ setting_same layout o n s = λ i. record {
   answers_for = λ p. p == s.pass i;
 }
 
-pub is_book : (layout : Layout) (o : Sharded) → ViewStands layout o.pages.owner.view
+pub is_book : (layout : Layout) (o : Sharded) → ViewIsValid layout o.pages.owner.view
     → IsBook (shard_setting layout o) (shard_book o)
 is_book layout o s = record { history = s.history; legal = s.tale.legal; agrees = s.tale.own }
 
@@ -96,10 +96,10 @@ knows_words {states = states} keeps = record {
 
 -- a receipt that is heeded changes nothing of the pages
 pub keeps_heeded : {layout : Layout} {v w : Caller} {shard : ℕ} {rings : Option ℕ} {states : List PageState}
-    (r : Caller) → w ≡ heeded v r → ViewStands layout w.view → KeepsPages layout v shard rings states
+    (r : Caller) → w ≡ heeded v r → ViewIsValid layout w.view → KeepsPages layout v shard rings states
     → KeepsPages layout w shard rings states
 keeps_heeded {layout} {v} {w} {shard} {rings} {states} r is stands k =
-    subst (λ (c : Caller). ViewStands layout c.view → KeepsPages layout c shard rings states) (sym is)
+    subst (λ (c : Caller). ViewIsValid layout c.view → KeepsPages layout c shard rings states) (sym is)
     (λ s. record { stands = s; idle = k.idle; owned = k.owned; bell = k.bell; few = k.few; pages = k.pages }) stands
 
 -- what is known after a call of the owner

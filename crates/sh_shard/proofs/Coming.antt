@@ -8,7 +8,7 @@ use Rattle.sh_key.specs.Layout.{Layout}
 use Rattle.sh_shape.specs.Places.{pages_of}
 use Rattle.sh_slots.specs.declared.hand.SlotRef.{SlotRef}
 use Rattle.sh_step.specs.declared.action.PageName.{PageName}
-use Rattle.sh_pass.specs.Tales.{ViewStands}
+use Rattle.sh_pass.specs.Tales.{ViewIsValid}
 use Rattle.sh_pass.specs.Passes.{Caller}
 use Rattle.sh_pass.specs.Owners.{SeenBell, CallLeaves, SlotCame, MayTouch, OnPage, heap_page, seen_page, page_with}
 use Rattle.sh_states.specs.declared.states.PageState.{PageState}
@@ -64,7 +64,7 @@ pub record KeptAfter (layout : Layout) (v w : Caller) (shard : ℕ) (rings : Opt
 
 pub kept_after : {layout : Layout} {v : Caller} {shard : ℕ} {rings : Option ℕ} {states : List PageState}
     (gained : Option SlotRef) (page : Option ℕ) (w : Caller) (after : List PageState)
-    → KeepsPages layout v shard rings states → CallLeaves layout gained v w → ViewStands layout w.view
+    → KeepsPages layout v shard rings states → CallLeaves layout gained v w → ViewIsValid layout w.view
     → PushesGained shard gained states page after → KeptAfter layout v w shard rings states after page
 kept_after {layout} {v} {shard} {rings} {states} None page w after k h stands c =
     let same = all_at v w shard h.same.shape h.slot in

@@ -19,7 +19,7 @@ use Rattle.sh_slots.specs.declared.hand.Hand.TheVariants.{Idle}
 use Rattle.sh_step.specs.Plans.{Plan, plan_of, home}
 use Rattle.sh_step.specs.Rows.{owned_by, own}
 use Rattle.sh_stack.specs.Stack.{link_item}
-use Rattle.sh_pass.specs.Tales.{ViewStands}
+use Rattle.sh_pass.specs.Tales.{ViewIsValid}
 use Rattle.sh_pass.specs.Passes.{Caller}
 use Rattle.sh_pass.specs.Owners.{HasNothing, SeenPage, SeenBell, Aside, OwnerActs, OnPage, SamePages, SameBells}
 use Rattle.sh_pass.specs.Owners.{MayTouch, heap_page, own_body, seen_page, seen_bell, page_on_bell, bell_followed}
@@ -58,7 +58,7 @@ all_at v w shard same on q = ap (seen_page w) (same_place v w same shard q) ∙ 
 pub keeps_on : {layout : Layout} {v w : Caller} {shard : ℕ} {rings rings' : Option ℕ} {states after : List PageState}
     {es : List LogEntry} {n : ℕ} {g : SeenPage} (p : ℕ) → KeepsPages layout v shard rings states
     → OwnerActs Idle es n v w → (own_body w).bell_cursor ≡ rings_at w shard rings'
-    → OnPage (heap_page v (shard_page shard p)) g v w → ViewStands layout w.view → length after ≡ length states
+    → OnPage (heap_page v (shard_page shard p)) g v w → ViewIsValid layout w.view → length after ≡ length states
     → KeepsPage (get_or after p blank_state) g → ((q : ℕ) → q ≢ p → get_or after q blank_state
     ≡ get_or states q blank_state) → KeepsPages layout w shard rings' after
 keeps_on {layout} {v} {w} {shard} {states = states} {after = after} {g = g} p k acts bells on stands size here others =
@@ -92,7 +92,7 @@ bell_kept {v = v} {w = w} {shard = shard} {rings = rings} k aside same = ap (λ 
 pub keeps_set : {layout : Layout} {v w : Caller} {shard : ℕ} {rings : Option ℕ} {states : List PageState}
     {es : List LogEntry} {n : ℕ} {g : SeenPage} (p : ℕ) (st : PageState) → KeepsPages layout v shard rings states
     → OwnerActs Idle es n v w → SameBells layout v w → OnPage (heap_page v (shard_page shard p)) g v w
-    → ViewStands layout w.view
+    → ViewIsValid layout w.view
     → p < length states → KeepsPage st g → KeepsPages layout w shard rings (set states p st)
 keeps_set {states = states} {g = g} p st k acts bells on stands l a =
     keeps_on p k acts (bell_kept k acts.aside bells) on stands (length-set states p st)
@@ -102,7 +102,7 @@ keeps_set {states = states} {g = g} p st k acts bells on stands l a =
 pub keeps_same : {layout : Layout} {v w : Caller} {shard : ℕ} {rings : Option ℕ} {states : List PageState}
     {es : List LogEntry} {n : ℕ} {g : SeenPage} (p : ℕ) → KeepsPages layout v shard rings states
     → OwnerActs Idle es n v w → SameBells layout v w → OnPage (heap_page v (shard_page shard p)) g v w
-    → ViewStands layout w.view
+    → ViewIsValid layout w.view
     → KeepsPage (get_or states p blank_state) g → KeepsPages layout w shard rings states
 keeps_same p k acts bells on stands a = keeps_on p k acts (bell_kept k acts.aside bells) on stands refl a (λ q ne. refl)
 
@@ -130,7 +130,7 @@ ready {v = v} {shard = shard} p s k l cursor =
 -- steps that leave each page as it was
 pub keeps_pages : {layout : Layout} {v w : Caller} {shard : ℕ} {rings rings' : Option ℕ} {states : List PageState}
     {es : List LogEntry} {n : ℕ} → KeepsPages layout v shard rings states → OwnerActs Idle es n v w
-    → (own_body w).bell_cursor ≡ rings_at w shard rings' → SamePages v w → ViewStands layout w.view
+    → (own_body w).bell_cursor ≡ rings_at w shard rings' → SamePages v w → ViewIsValid layout w.view
     → KeepsPages layout w shard rings' states
 keeps_pages {v = v} {w = w} {shard = shard} {states = states} k acts bells pages stands = record {
   stands = stands;
@@ -191,7 +191,7 @@ pub keeps_bell : {layout : Layout} {v w : Caller} {shard : ℕ} {rings : Option 
     {es : List LogEntry} {m : ℕ} {g : SeenPage} (p n : ℕ) (rings' : Option ℕ) (st : PageState)
     → KeepsPages layout v shard rings states → OwnerActs Idle es m v w
     → seen_bell layout w shard ≡ bell_followed v shard n (seen_bell layout v shard)
-    → OnPage (heap_page v (shard_page shard p)) g v w → ViewStands layout w.view → p < length states → (n ≡ 0 → ⊥)
+    → OnPage (heap_page v (shard_page shard p)) g v w → ViewIsValid layout w.view → p < length states → (n ≡ 0 → ⊥)
     → rings' ≡ link_item n → KeepsPage st g → KeepsPages layout w shard rings' (set states p st)
 keeps_bell {layout} {v = v} {w = w} {shard = shard} {states = states} {g = g} p n rings' st k acts bell on stands l some
     next a =
@@ -209,7 +209,7 @@ pub keeps_bell_waiting : {layout : Layout} {v w : Caller} {shard : ℕ} {rings :
     {es : List LogEntry} {m : ℕ} {g : SeenPage} (p n : ℕ) → KeepsPages layout v shard rings states
     → OwnerActs Idle es m v w
     → seen_bell layout w shard ≡ bell_followed v shard n (seen_bell layout v shard)
-    → OnPage (heap_page v (shard_page shard p)) g v w → ViewStands layout w.view → n ≡ 0
+    → OnPage (heap_page v (shard_page shard p)) g v w → ViewIsValid layout w.view → n ≡ 0
     → KeepsPage (get_or states p blank_state) g → KeepsPages layout w shard rings states
 keeps_bell_waiting {layout} {v = v} {w = w} {shard = shard} {rings = rings} p n k acts bell on stands none a =
     let e : (n == 0) ≡ true = grind (arith, nat_tests) in
@@ -221,7 +221,7 @@ keeps_bell_waiting {layout} {v = v} {w = w} {shard = shard} {rings = rings} p n 
 
 -- a cursor that a step left is at a slot of the page
 pub cursor_number : {layout : Layout} {v w : Caller} {q : ℕ} {g : SeenPage} (c : Option ℕ) → g.cursor ≡ c
-    → OnPage q g v w → ViewStands layout w.view → IfSome c (λ s. s < 48)
+    → OnPage q g v w → ViewIsValid layout w.view → IfSome c (λ s. s < 48)
 cursor_number None e on stands = tt
 cursor_number {q = q} (Some s) e on stands = let h = stands.owner.cursors q s
     (ap (λ (z : SeenPage). z.cursor) on.here ∙ e) in h.2

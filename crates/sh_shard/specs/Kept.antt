@@ -7,7 +7,7 @@ use Rattle.sh_queue.specs.Numbers.{has_number}
 use Rattle.sh_shape.specs.Places.{pages_of, slot_places}
 use Rattle.sh_slots.specs.declared.hand.Hand.TheVariants.{Idle}
 use Rattle.sh_slots.specs.declared.hand.SlotRef.{SlotRef}
-use Rattle.sh_pass.specs.Tales.{ViewStands}
+use Rattle.sh_pass.specs.Tales.{ViewIsValid}
 use Rattle.sh_pass.specs.Passes.{Caller}
 use Rattle.sh_pass.specs.Owners.{SeenPage, heap_page, own_body, seen_page}
 use Rattle.sh_states.specs.States.{blank_state, with_local}
@@ -32,7 +32,7 @@ rings_at v shard rings = elim rings [ Some p ↦ Some (heap_page v (shard_page s
 -- nothing is begun, the shard is its own, and what is kept of each page is what is known
 pub record KeepsPages (layout : Layout) (v : Caller) (shard : ℕ) (rings : Option ℕ) (states : List PageState) : Type 0
   where
-    pub stands : ViewStands layout v.view
+    pub stands : ViewIsValid layout v.view
     pub idle : (own_body v).hand ≡ Idle
     pub owned : (own_body v).owned ≡ Some shard
     pub bell : (own_body v).bell_cursor ≡ rings_at v shard rings

@@ -10,7 +10,7 @@ use Rattle.sh_slots.specs.declared.hand.Hand.TheVariants.{Idle}
 use Rattle.sh_step.specs.Collections.{if1}
 use Rattle.sh_step.specs.Footsteps.{owner_met}
 use Rattle.sh_step.specs.declared.action.PageName.{PageName}
-use Rattle.sh_pass.specs.Tales.{ViewStands}
+use Rattle.sh_pass.specs.Tales.{ViewIsValid}
 use Rattle.sh_value.specs.declared.refusal.Refusal.{Refusal}
 use Rattle.sh_value.specs.declared.refusal.Refusal.TheVariants as refusal
 use Rattle.sh_pass.specs.Growing.{SameTale}
@@ -46,7 +46,7 @@ pub record KnowsWords (v : Paged) : Type 0 where
 -- Nothing is begun, the shard is the owner's, and all that it knows is true in the heap's shape. The bell is that of
 -- its shard as the owner sees it.
 pub record HoldsPages (layout : Layout) (v : Paged) : Type 0 where
-  pub stands : ViewStands layout v.owner.view
+  pub stands : ViewIsValid layout v.owner.view
   pub idle : (own_body v.owner).hand ≡ Idle
   pub owned : (own_body v.owner).owned ≡ Some v.shard
   pub shape : v.owner.view.shape ≡ v.owner.heap.shape

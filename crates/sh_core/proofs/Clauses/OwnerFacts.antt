@@ -11,7 +11,7 @@ use Rattle.sh_core.specs.Bells.{armed_at, owns}
 use Rattle.sh_core.specs.Reads.{AllReadsAgree}
 use Rattle.sh_core.specs.Lists.{PutLists, times, mine_at, slots_under}
 use Rattle.sh_core.specs.Placed.{Agreement}
-use Rattle.sh_core.specs.Refines.{OneOwner, ShardlessHaveNothing, OwnStands}
+use Rattle.sh_core.specs.Refines.{OneOwner, ShardlessHaveNothing, OwnPartIsValid}
 use Rattle.sh_core.specs.Stacks.{slot_ref, cursor_at, bell_cursor_at, is_at, first_is}
 use Rattle.sh_core.specs.Tallies.{room}
 use Rattle.sh_core.specs.InHeap.{AllInHeap}
@@ -168,7 +168,7 @@ module _ (plan : Plan) (w : World) (l : PutLists) (laws : Lawful plan) (all : Ag
         let armed = armed_here q mine in
         let o = own_armed q (omega arith) in (mine, o.2, o.0)
 
-  pub own_stands : OwnStands plan w p
+  pub own_stands : OwnPartIsValid plan w p
   own_stands = record {
     few_holds = (all.sums.parts a p at).0;
     owned = (within a p at).owned;

@@ -38,7 +38,7 @@ use Rattle.sh_core.proofs.Clauses.BellWords.{bells_are_small}
 use Rattle.sh_core.proofs.Kept.RowsFit.{stores_words, issues_keys}
 use Rattle.sh_core.specs.Tallies.{visits}
 use Rattle.sh_core.proofs.Clauses.LayoutLaws.{plan_lawful}
-use Rattle.sh_core.proofs.Clauses.HeldStands.{held_keys, reads}
+use Rattle.sh_core.proofs.Clauses.HeldKeysAreValid.{held_keys, reads}
 use Rattle.sh_core.proofs.Kept.StaysInHeap.{places_move, places_open, hand_within}
 use Rattle.sh_core.proofs.Kept.PlacesInHeap.{steps_within, counts_fit, moves_count}
 use Rattle.sh_core.proofs.Slots.SlotSums.{visits_few}

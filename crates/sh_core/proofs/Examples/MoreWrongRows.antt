@@ -16,7 +16,8 @@ use Rattle.sh_step.specs.Rows.{drop_hand, finish, publish}
 use Rattle.sh_core.specs.LinkWords.{EachLinked}
 use Rattle.sh_core.specs.InHeap.{StepsWithin, CountsFit, BellsAreSmall, ValuesFit, StoresWords, IssuesKeys}
 use Rattle.sh_core.specs.Lists.{times}
-use Rattle.sh_core.specs.Refines.{KindsAddUp, Filled, HeldStands, NotesAreTrue, HoldsAreTold, CountIsFew, PastIsRemoved}
+use Rattle.sh_core.specs.Refines.{KindsAddUp, Filled, HeldKeysAreValid, NotesAreTrue, HoldsAreTold, CountIsFew}
+use Rattle.sh_core.specs.Refines.{PastIsRemoved}
 use Rattle.sh_core.specs.Refines.{KeysAreTold, RetiredIsLast, OneOwner, LeftEmpty, ShardlessHaveNothing, Linked}
 use Rattle.sh_core.specs.Refines.{FillsAreKeys, ReadsWithin}
 use Rattle.sh_core.specs.Stacks.{slot_ref}
@@ -95,7 +96,8 @@ released_is_held = refuted keeps_hold (λ plan w l. HoldsAreTold w) 1 (omega ari
     (λ h. let z : 1 ≡ 1 + 1 = h.together 4096 in absurd (omega arith))
 
 -- the words of a held key with this name are its value
-stored : (plan : Plan) (w : World) (a : ℕ) (p : Body) (k : ℕ) (n : KeyRef) → HeldStands plan w → slice_get w.parts a
+stored : (plan : Plan) (w : World) (a : ℕ) (p : Body) (k : ℕ) (n : KeyRef) → HeldKeysAreValid plan w
+    → slice_get w.parts a
     ≡ Some p → 0 < times k p.holds → plan.keys.unpack k ≡ Some n
     → value_of w.log k ≡ Some (value_at w.words n.page n.slot)
 stored plan w a p k n h at some name =
@@ -108,9 +110,10 @@ abbrev refilling : List Event
 refilling = three_slots ++ ev 0 (FillSlot (slot 0 0 0) (5 ∷ [])) ∷ ev 0 Fill ∷ ev 0 Publish ∷ ev 0 (EnterGet 4096) ∷
     ev 0 (FillSlot (slot 0 0 0) (6 ∷ [])) ∷ ev 0 Fill ∷ []
 
-pub held_value_changes : ¬ AlwaysBy fills_any_slot (λ plan w l. HeldStands plan w)
+pub held_value_changes : ¬ AlwaysBy fills_any_slot (λ plan w l. HeldKeysAreValid plan w)
 unfolding more_wrongly
-held_value_changes = refuted fills_any_slot (λ plan w l. HeldStands plan w) 1 (omega arith) (omega arith) refilling
+held_value_changes = refuted fills_any_slot (λ plan w l. HeldKeysAreValid plan w) 1 (omega arith) (omega arith)
+    refilling
     (λ h.
     let some : 0 < 1 = omega arith in
     let z : Some (5 ∷ []) ≡ Some (6 ∷ []) = stored (small 1) (run_by fills_any_slot (small 1) refilling) 0

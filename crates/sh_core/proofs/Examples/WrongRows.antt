@@ -21,8 +21,9 @@ use Rattle.sh_core.specs.Worlds.{World, step, run_from, run, open_world}
 use Rattle.sh_step.specs.Parts.{newcomer}
 use Rattle.sh_core.specs.Lists.{PutLists, list_step, lists_from, lists_of, no_lists, state_of, times}
 use Rattle.sh_core.specs.Stacks.{slot_ref}
-use Rattle.sh_core.specs.Refines.{Always, OneKind, HeldStands, NotesAreTrue, Counted, GenerationsEnd, Finished, Armed}
-use Rattle.sh_core.specs.Refines.{LeftEmpty, Linked, OwnPartsStand, ClassesAreKnown, HoldsAreFew, FlaggedAreEmpty}
+use Rattle.sh_core.specs.Refines.{Always, OneKind, HeldKeysAreValid, NotesAreTrue, Counted, GenerationsEnd, Finished}
+use Rattle.sh_core.specs.Refines.{Armed}
+use Rattle.sh_core.specs.Refines.{LeftEmpty, Linked, OwnPartsAreValid, ClassesAreKnown, HoldsAreFew, FlaggedAreEmpty}
 use Rattle.sh_core.specs.Refines.{KeysInHandName, GoesOn}
 use Rattle.sh_core.specs.Variants.{Table, step_by, run_from_by, run_by, list_step_by, lists_from_by, lists_by, AlwaysBy}
 use Rattle.sh_core.specs.WrongRows.{crowds_at_once, both_remove, marks_and_stays, drops_and_forgets, knows_after_hold}
@@ -117,7 +118,8 @@ wrapped_generation_issues_twice = refuted wraps_generation IsLegal 1 (omega arit
     ≡ None = t.1.1.1.1.1.1.0 in cc)
 
 -- the value of a held key with this name is in its slot
-present : (plan : Plan) (w : World) (a : ℕ) (p : Body) (k : ℕ) (n : KeyRef) → HeldStands plan w → slice_get w.parts a
+present : (plan : Plan) (w : World) (a : ℕ) (p : Body) (k : ℕ) (n : KeyRef) → HeldKeysAreValid plan w
+    → slice_get w.parts a
     ≡ Some p → 0 < times k p.holds → plan.keys.unpack k ≡ Some n → (state_of w (slot_ref_of n)).present ≡ true
 present plan w a p k n h at some name =
     let s = h a p k at some in
@@ -138,9 +140,9 @@ holder = record newcomer {
   mine = slot_ref 0 1 ∷ slot_ref 0 2 ∷ [];
 }
 
-pub ignored_count_loses_held : ¬ AlwaysBy ignores_count (λ plan w l. HeldStands plan w)
+pub ignored_count_loses_held : ¬ AlwaysBy ignores_count (λ plan w l. HeldKeysAreValid plan w)
 unfolding wrongly
-ignored_count_loses_held = refuted ignores_count (λ plan w l. HeldStands plan w) 2 (omega arith) (omega arith)
+ignored_count_loses_held = refuted ignores_count (λ plan w l. HeldKeysAreValid plan w) 2 (omega arith) (omega arith)
     overwriting (λ h.
     let some : 0 < 1 = omega arith in
     let z : false ≡ true = present (small 2) (run_by ignores_count (small 2) overwriting) 0 holder 8192
@@ -285,9 +287,9 @@ ringing = three_slots ++ inserted 0 ++ inserted 1 ++ inserted 2 ++ ev 0 (Arm (pa
 abbrev gone : Body
 gone = record newcomer { classes = (0, 8) ∷ (0, 0) ∷ []; armed = 0 ∷ []; bell_cursor = Some 0 }
 
-pub left_bell_is_nobodys : ¬ AlwaysBy leaves_bell (λ plan w l. OwnPartsStand plan w)
+pub left_bell_is_nobodys : ¬ AlwaysBy leaves_bell (λ plan w l. OwnPartsAreValid plan w)
 unfolding wrongly
-left_bell_is_nobodys = refuted leaves_bell (λ plan w l. OwnPartsStand plan w) 2 (omega arith) (omega arith) ringing
+left_bell_is_nobodys = refuted leaves_bell (λ plan w l. OwnPartsAreValid plan w) 2 (omega arith) (omega arith) ringing
     (λ h. let z : false ≡ true = ((h 0 gone refl).bell 0 refl).0 in no_bool z)
 
 -- a page of a ninth class

@@ -25,7 +25,7 @@ use Rattle.sh_core.specs.InHeap.{AllInHeap, HasPlace, StepsWithin, CountFits, Co
 use Rattle.sh_core.proofs.Sums.Totals.{total_at, total_without, some_part}
 use Rattle.sh_core.proofs.Slots.Slots.{same_slot-refl}
 use Rattle.sh_core.proofs.Slots.SlotSums.{room_to_enter}
-use Rattle.sh_core.proofs.Clauses.HeldStands.{reads}
+use Rattle.sh_core.proofs.Clauses.HeldKeysAreValid.{reads}
 use Rattle.sh_step.specs.declared.moves.Move.{Move}
 use Rattle.sh_step.specs.declared.moves.Move.TheVariants.{EnterGet, EnterRemove, Mark, Drop, DropHold, Finish, FillSlot}
 use Rattle.sh_step.specs.declared.moves.Move.TheVariants.{Fill, Publish, ReadClass, ReadLength, ReadWord, ReadPage}

@@ -24,7 +24,7 @@ use Rattle.sh_core.proofs.Sums.Totals.{get_set}
 use Rattle.sh_core.proofs.Clauses.OpenSums.{part_new}
 use Rattle.sh_core.proofs.Slots.Permits.{value_one}
 use Rattle.sh_core.proofs.Clauses.RunRefines.{held_stands}
-use Rattle.sh_core.proofs.Clauses.HeldStands.{reads}
+use Rattle.sh_core.proofs.Clauses.HeldKeysAreValid.{reads}
 use Rattle.sh_step.specs.declared.moves.Move.{Move}
 use Rattle.sh_step.specs.declared.moves.Move.TheVariants.{EnterGet, DropHold, ReadClass, ReadLength, ReadWord}
 use Rattle.sh_step.specs.Moves.{row_of}

@@ -1,5 +1,5 @@
 // The shape of a member's heap, and what holds of a member between its calls.
-ghost use Rattle.sh_member.specs.Sides.{HasShape, SideStands};
+ghost use Rattle.sh_member.specs.Sides.{HasShape, SideIsValid};
 
 use crate::member::{Member, Side};
 use sh_key::KeyLayout;
@@ -11,7 +11,7 @@ impl<L: KeyLayout, H: KeepsHeap<L>> Member<L, H> {
     /// pass, it owns no shard; if it is an owner, the shard is its own.
     pub fn shape(&self) -> &Shape
         ensures is { HasShape self.now result.now }
-        ensures stands { SideStands L.layout self.now }
+        ensures stands { SideIsValid L.layout self.now }
     {
         match &self.side {
             Side::Pass(pass) => pass.shape(),

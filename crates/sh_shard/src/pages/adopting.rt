@@ -1,7 +1,7 @@
 // Becoming the owner of a shard: the class word of each of its pages is read.
 ghost use Rattle.std.specs.Prelude.{◌≡◌, ℕ, ◌+◌, None, Some, IfOk, MatchResult};
 ghost use Rattle.sh_slots.specs.declared.hand.Hand.TheVariants.{Idle};
-ghost use Rattle.sh_pass.specs.Tales.{ViewStands};
+ghost use Rattle.sh_pass.specs.Tales.{ViewIsValid};
 ghost use Rattle.sh_pass.specs.Owners.{HasNothing, own_body, seen_page};
 ghost use Rattle.sh_shard.specs.Pages.{AdoptsPages, AdoptsShard, HoldsPages, ShardLeft};
 ghost use Rattle.sh_shard.specs.Steps.{StepsAtMost};
@@ -50,7 +50,7 @@ impl<L: KeyLayout, H: KeepsHeap<L>> PagesOn<L, H> {
         requires owned { (own_body owner).owned ≡ Some shard }
         requires bell { (own_body owner).bell_cursor ≡ None }
         requires pages { (q : ℕ) → HasNothing (seen_page owner q) }
-        requires stands { ViewStands L.layout owner.view }
+        requires stands { ViewIsValid L.layout owner.view }
         ensures begins { MatchResult result (λ pages. AdoptsShard owner shard pages)
             (λ back. ShardLeft owner back) }
         ensures holds { IfOk result (HoldsPages L.layout) }

@@ -11,13 +11,13 @@ use Rattle.sh_core.specs.Lists.{PutLists}
 use Rattle.sh_core.specs.Placed.{Agreement}
 use Rattle.sh_core.specs.Worlds.{World, value_at}
 use Rattle.sh_core.specs.Reads.{AllReadsAgree}
-use Rattle.sh_core.specs.Refines.{HeldStands, ReadsWithin}
+use Rattle.sh_core.specs.Refines.{HeldKeysAreValid, ReadsWithin}
 use Rattle.sh_core.proofs.Slots.Permits.{value_one}
 use Rattle.sh_core.proofs.Clauses.RunRefines.{held_stands}
 use Rattle.sh_core.proofs.Sums.ClassSlots.{class_room}
 
 module _ (plan : Plan) (w : World) (l : PutLists) (all : Agreement plan w l) (know : AllReadsAgree plan w) where
-  pub held_keys : HeldStands plan w
+  pub held_keys : HeldKeysAreValid plan w
   held_keys a p k at some =
       let n = (know a p at).named k some in
       let h = held_stands plan w l all a p k n.0 at some n.1 in
