@@ -9,7 +9,7 @@ use Rattle.sh_step.specs.Kinds.{kind_of_action}
 use Rattle.sh_step.specs.Plans.{Plan, plan_of}
 use Rattle.sh_core.specs.declared.outcome.Outcome.{Outcome}
 use Rattle.sh_core.specs.declared.outcome.Outcome.TheVariants.{Skipped}
-use Rattle.sh_core.specs.Kept.{KeptWorld, StandsFor}
+use Rattle.sh_core.specs.Kept.{KeptWorld, Represents}
 use Rattle.sh_core.specs.Outcomes.{outcome_of, outcomes_from, outcomes}
 use Rattle.sh_core.specs.Worlds.{World, step, run, run_from, open_world}
 use Rattle.sh_core.proofs.Words.Steps.{run_snoc}
@@ -105,22 +105,22 @@ shown_more tag es e = filter_map-append (event_shown tag) es (e ∷ [])
 
 -- what is kept after one more line
 stands_more : (layout : Layout) (k next : KeptWorld) (es : List Event) (s : Option Event) (o : Outcome)
-    → let plan = plan_of layout k.shape in StandsFor k (run plan es) → DoesEvent layout k s o next
-    → (next.shape ≡ k.shape) × StandsFor next (run plan (es ++ one s)) × (o ≡ outcome_at plan (run plan es) s)
+    → let plan = plan_of layout k.shape in Represents k (run plan es) → DoesEvent layout k s o next
+    → (next.shape ≡ k.shape) × Represents next (run plan (es ++ one s)) × (o ≡ outcome_at plan (run plan es) s)
 stands_more layout k next es (Some m) o stands does =
     let plan : Plan = plan_of layout k.shape in (
       does.shape,
-      subst (λ (w : World). StandsFor next w) (sym (run_snoc plan (open_world plan) es m))
+      subst (λ (w : World). Represents next w) (sym (run_snoc plan (open_world plan) es m))
           (does.world (run plan es) stands),
       does.outcome_is (run plan es) stands,
     )
 stands_more layout k next es None o stands does =
     let plan : Plan = plan_of layout k.shape in
     let all : es ++ [] ≡ es = append-nil es in
-    let kept : StandsFor next (run plan es) = subst (λ (n : KeptWorld). StandsFor n (run plan es)) (sym does.1) stands
+    let kept : Represents next (run plan es) = subst (λ (n : KeptWorld). Represents n (run plan es)) (sym does.1) stands
     in (
       ap (λ (n : KeptWorld). n.shape) does.1,
-      subst (λ (xs : List Event). StandsFor next (run plan xs)) (sym all) kept,
+      subst (λ (xs : List Event). Represents next (run plan xs)) (sym all) kept,
       does.0,
     )
 
@@ -128,11 +128,11 @@ stands_more layout k next es None o stands does =
 pub record EventsRan (layout : Layout) (shape : Numbers) (tag : Option ℕ) (es : List Event) (k : KeptWorld)
     (text : List ℕ) : Type 0 where
   pub shape_is : k.shape ≡ shape
-  pub stands : StandsFor k (run (plan_of layout shape) (events_shown tag es))
+  pub stands : Represents k (run (plan_of layout shape) (events_shown tag es))
   pub is : text ≡ event_lines tag es (outcomes (plan_of layout shape) (events_shown tag es))
 
 pub ran_none : (layout : Layout) (shape : Numbers) (tag : Option ℕ) (k : KeptWorld) (text : List ℕ) → k.shape ≡ shape
-    → StandsFor k (open_world (plan_of layout shape)) → text ≡ [] → EventsRan layout shape tag [] k text
+    → Represents k (open_world (plan_of layout shape)) → text ≡ [] → EventsRan layout shape tag [] k text
 unfolding event_lines run_from
 ran_none layout shape tag k text same stands none = record { shape_is = same; stands = stands; is = none }
 
@@ -143,18 +143,18 @@ pub ran_more : (layout : Layout) (shape : Numbers) (tag : Option ℕ) (es : List
     → EventsRan layout shape tag (es ++ e ∷ []) next new
 ran_more layout shape tag es e k next o old new ran does is =
     let plan : Plan = plan_of layout shape in
-    let stands : StandsFor k (run (plan_of layout k.shape) (events_shown tag es)) = subst
-    (λ n. StandsFor k (run (plan_of layout n) (events_shown tag es))) (sym ran.shape_is) ran.stands in
+    let stands : Represents k (run (plan_of layout k.shape) (events_shown tag es)) = subst
+    (λ n. Represents k (run (plan_of layout n) (events_shown tag es))) (sym ran.shape_is) ran.stands in
     let more = stands_more layout k next (events_shown tag es) (event_shown tag e) o stands does in
-    let kept : StandsFor next (run plan (events_shown tag es ++ one (event_shown tag e))) = subst
-    (λ n. StandsFor next (run (plan_of layout n) (events_shown tag es ++ one (event_shown tag e)))) ran.shape_is
+    let kept : Represents next (run plan (events_shown tag es ++ one (event_shown tag e))) = subst
+    (λ n. Represents next (run (plan_of layout n) (events_shown tag es ++ one (event_shown tag e)))) ran.shape_is
     more.1 in
     let came : o ≡ outcome_at plan (run plan (events_shown tag es)) (event_shown tag e) = subst
     (λ n. o ≡ outcome_at (plan_of layout n) (run (plan_of layout n) (events_shown tag es)) (event_shown tag e))
     ran.shape_is more.2 in
     record {
       shape_is = more.0 ∙ ran.shape_is;
-      stands = subst (λ (xs : List Event). StandsFor next (run plan xs)) (sym (shown_more tag es e)) kept;
+      stands = subst (λ (xs : List Event). Represents next (run plan xs)) (sym (shown_more tag es e)) kept;
       is = is ∙ ap (λ t. t ++ line_of tag e o) ran.is ∙ ap (λ (x : Outcome). event_lines tag es
           (outcomes plan (events_shown tag es)) ++ line_of tag e x) came
           ∙ sym (lines_more plan (open_world plan) tag es e);

@@ -4,7 +4,7 @@ ghost use Rattle.sh_key.specs.Layout.{first_key, key_count};
 ghost use Rattle.sh_shape.specs.Shape.{IsShape, Fits};
 ghost use Rattle.sh_step.specs.declared.action.Event.{Event};
 ghost use Rattle.sh_step.specs.Plans.{plan_of};
-ghost use Rattle.sh_core.specs.Kept.{StandsFor, StepsWorld, Opens};
+ghost use Rattle.sh_core.specs.Kept.{Represents, StepsWorld, Opens};
 ghost use Rattle.sh_core.specs.Worlds.{run};
 ghost use Rattle.script_models.specs.StepsOutput.{action_shown, event_shown};
 ghost use Rattle.script_models.specs.StepsKeys.{KeysWithin, DoesEvent};
@@ -60,7 +60,7 @@ fn step<L: KeyLayout>(world: &mut World<L>, event: &Event) -> Result<Outcome, Fa
     requires shape { IsShape world.old.shape }
     requires fits { Fits L.layout world.old.shape }
     ensures steps { IfOk result (λ outcome. StepsWorld L.layout world.old event.now outcome world.new) }
-    ensures keys { (es : List Event) → StandsFor world.old (run (plan_of L.layout world.old.shape) es)
+    ensures keys { (es : List Event) → Represents world.old (run (plan_of L.layout world.old.shape) es)
         → IfOk result (KeysWithin (first_key L.layout + key_count L.layout)) }
     ensures undone { OnErr result (world.new ≡ world.old) }
     ensures memory { IfErr result (λ fault. fault ≡ Fault.Memory) }
@@ -79,7 +79,7 @@ pub fn do_event<L: KeyLayout>(world: &mut World<L>, event: Option<Event>) -> Res
     requires shape { IsShape world.old.shape }
     requires fits { Fits L.layout world.old.shape }
     ensures does { IfOk result (λ outcome. DoesEvent L.layout world.old event outcome world.new) }
-    ensures keys { (es : List Event) → StandsFor world.old (run (plan_of L.layout world.old.shape) es)
+    ensures keys { (es : List Event) → Represents world.old (run (plan_of L.layout world.old.shape) es)
         → IfOk result (KeysWithin (first_key L.layout + key_count L.layout)) }
     ensures undone { OnErr result (world.new ≡ world.old) }
     ensures memory { IfErr result (λ fault. fault ≡ Fault.Memory) }

@@ -15,7 +15,7 @@ use Rattle.sh_step.specs.Parts.{newcomer}
 use Rattle.sh_step.specs.Plans.{Plan, plan_of}
 use Rattle.sh_step.specs.Rows.{Row}
 use Rattle.sh_core.specs.declared.outcome.Outcome.{Outcome}
-use Rattle.sh_core.specs.Kept.{KeptWorld, HoldsWords, StandsFor, StepsWorld}
+use Rattle.sh_core.specs.Kept.{KeptWorld, HoldsWords, Represents, StepsWorld}
 use Rattle.sh_core.specs.Outcomes.{row_of_event, outcome_of}
 use Rattle.sh_core.specs.Words.{Words, read}
 use Rattle.sh_core.specs.Worlds.{World, step, apply, run, run_from, open_world}
@@ -148,7 +148,7 @@ outcome_relogged plan w e log = refl
 -- ---- each world of a state goes on alike
 
 module _ (layout : Layout) (p : Program) (s t : State) (k k' : KeptWorld) (e : Event) (o : Outcome)
-    (same : k.shape ≡ p.shape) (stands : StandsFor k (world_by layout p s.order.items))
+    (same : k.shape ≡ p.shape) (stands : Represents k (world_by layout p s.order.items))
     (steps : StepsWorld layout k e o k')
     (holds : HoldsWords p.shape s.words.items (world_by layout p s.order.items).words) where
   abbrev state_plan : Plan
@@ -157,7 +157,7 @@ module _ (layout : Layout) (p : Program) (s t : State) (k k' : KeptWorld) (e : E
   abbrev its_world : World
   its_world = world_by layout p s.order.items
 
-  also_stands : (v : World) → IsWorldOf layout p s v → StandsFor k (relogged v k.log)
+  also_stands : (v : World) → IsWorldOf layout p s v → Represents k (relogged v k.log)
   also_stands v is = record {
     words = record {
       count = stands.words.count;
@@ -182,7 +182,7 @@ module _ (layout : Layout) (p : Program) (s t : State) (k k' : KeptWorld) (e : E
   pub world_alike : (v : World) → IsWorldOf layout p s v → t.words.items ≡ k'.words
       → world_by layout p t.order.items ≡ step state_plan its_world e → IsWorldOf layout p t (step state_plan v e)
   world_alike v is words led =
-      let P : World → Numbers → Type 0 = λ u n. StandsFor k' (step (plan_of layout n) u e) in
+      let P : World → Numbers → Type 0 = λ u n. Represents k' (step (plan_of layout n) u e) in
       let mine = subst (P (relogged v k.log)) same (steps.world (relogged v k.log) (also_stands v is)) in
       let theirs = subst (P its_world) same (steps.world its_world stands) in
       let Q : Numbers → List ℕ → Words → Type 0 = λ n ws u. HoldsWords n ws u in

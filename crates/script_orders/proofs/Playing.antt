@@ -11,7 +11,7 @@ use Rattle.sh_shape.specs.Shape.{Numbers}
 use Rattle.sh_step.specs.declared.action.Event.{Event}
 use Rattle.sh_step.specs.Plans.{Plan, plan_of}
 use Rattle.sh_core.specs.declared.outcome.Outcome.{Outcome}
-use Rattle.sh_core.specs.Kept.{KeptWorld, StandsFor, HoldsWords, StepsWorld, RunsWorld}
+use Rattle.sh_core.specs.Kept.{KeptWorld, Represents, HoldsWords, StepsWorld, RunsWorld}
 use Rattle.sh_core.specs.Worlds.{World, step, run, open_world}
 use Rattle.sh_core.proofs.Words.Steps.{run_snoc}
 use Rattle.script_orders.specs.declared.found.Program.{Program}
@@ -29,8 +29,8 @@ pub runs_step : (layout : Layout) (shape : Numbers) (es : List Event) (e : Event
     → RunsWorld layout shape es (Ok k) → StepsWorld layout k e o k' → RunsWorld layout shape (es ++ e ∷ []) (Ok k')
 runs_step layout shape es e o k k' (fits, is, stands) steps =
     let plan : Plan = plan_of layout shape in
-    let P : Numbers → Type 0 = λ n. StandsFor k' (step (plan_of layout n) (run plan es) e) in
-    let Q : World → Type 0 = λ w. StandsFor k' w in (
+    let P : Numbers → Type 0 = λ n. Represents k' (step (plan_of layout n) (run plan es) e) in
+    let Q : World → Type 0 = λ w. Represents k' w in (
       fits,
       steps.shape ∙ is,
       subst Q (sym (run_snoc plan (open_world plan) es e)) (subst P is (steps.world (run plan es) stands)),

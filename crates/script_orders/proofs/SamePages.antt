@@ -11,7 +11,7 @@ use Rattle.sh_shape.proofs.PlaceLaws.{page_is_below}
 use Rattle.sh_step.specs.declared.action.Event.{Event}
 use Rattle.sh_step.specs.Plans.{plan_of}
 use Rattle.sh_core.specs.declared.accounts.Accounts.{Accounts}
-use Rattle.sh_core.specs.Kept.{KeptWorld, StandsFor, FromEvents}
+use Rattle.sh_core.specs.Kept.{KeptWorld, Represents, FromEvents}
 use Rattle.sh_core.specs.Lists.{accounts, class_named, lists_of}
 use Rattle.sh_core.specs.Refines.{Always, KindsAddUp}
 use Rattle.sh_core.specs.Worlds.{run}
@@ -65,8 +65,8 @@ module _ (layout : Layout) (k : KeptWorld) (log : List Entry) (q : ℕ) (reached
       let a : Accounts = no_slots None in
       (a, are_none layout k q kinds reached there a named refl, are_none layout other q kinds also there a named refl)
 
-  pub accounts_same : (es fs : List Event) → StandsFor k (run (plan_of layout k.shape) es)
-      → StandsFor other (run (plan_of layout k.shape) fs)
+  pub accounts_same : (es fs : List Event) → Represents k (run (plan_of layout k.shape) es)
+      → Represents other (run (plan_of layout k.shape) fs)
       → accounts (run (plan_of layout k.shape) es) (lists_of (plan_of layout k.shape) es) q
       ≡ accounts (run (plan_of layout k.shape) fs) (lists_of (plan_of layout k.shape) fs) q
   accounts_same es fs stands stood =
@@ -80,8 +80,8 @@ pages_same layout p s order heap reached is =
     let w = world_by layout p s.order.items in
     let v = world_by layout p order in
     let k : KeptWorld = record { shape = p.shape; words = s.words.items; parts = w.parts; log = w.log } in
-    let stands : StandsFor k w = record { words = reached.holds; parts = refl; log = refl } in
-    let stood : StandsFor (record k { log = v.log }) v =
+    let stands : Represents k w = record { words = reached.holds; parts = refl; log = refl } in
+    let stood : Represents (record k { log = v.log }) v =
     record { words = is.words; parts = sym is.parts; log = refl } in
     let from : FromEvents layout k = record {
       is_layout = heap.is_layout;

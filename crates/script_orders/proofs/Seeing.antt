@@ -11,7 +11,7 @@ use Rattle.sh_step.specs.Moves.{row, row_of, move_of, step_at}
 use Rattle.sh_step.specs.Operations.{StoresWord}
 use Rattle.sh_step.specs.Plans.{Plan, plan_of}
 use Rattle.sh_step.proofs.StepLaws.{steps_same}
-use Rattle.sh_core.specs.Kept.{KeptWorld, StandsFor, FromEvents, IsReady}
+use Rattle.sh_core.specs.Kept.{KeptWorld, Represents, FromEvents, IsReady}
 use Rattle.sh_core.specs.Outcomes.{row_of_event}
 use Rattle.sh_core.specs.Words.{read}
 use Rattle.sh_core.specs.Worlds.{World}
@@ -36,7 +36,7 @@ module _ (layout : Layout) (k : KeptWorld) (e : Event) (part : Body) (m : Move) 
   step_stores = subst (λ (s : Step). StoresWord s.operation) (steps_same kept_plan part m) ready_row.row.stores
 
   pub sees : (found seen : ℕ) → found ≡ get_or k.words (number k.shape (step_at kept_plan m).place) 0
-      → seen ≡ seen_in kept_plan m found → (w : World) → StandsFor k w → Sees kept_plan w e seen
+      → seen ≡ seen_in kept_plan m found → (w : World) → Represents k w → Sees kept_plan w e seen
   sees found seen looked is_seen w stands =
       let row = row_of kept_plan part m in
       let word : found ≡ read w.words row.place =
@@ -52,7 +52,7 @@ module _ (layout : Layout) (k : KeptWorld) (e : Event) (part : Body) (m : Move) 
 
 -- no move of the pass's part, or no part
 pub no_move_no_row : (layout : Layout) (k : KeptWorld) (e : Event) (part : Body) → slice_get k.parts e.pass ≡ Some part
-    → move_of (plan_of layout k.shape) part e.action ≡ None → (w : World) → StandsFor k w
+    → move_of (plan_of layout k.shape) part e.action ≡ None → (w : World) → Represents k w
     → row_of_event (plan_of layout k.shape) w e ≡ None
 unfolding row
 no_move_no_row layout k e part at is w stands =

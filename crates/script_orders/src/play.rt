@@ -1,7 +1,7 @@
 //! Doing lines on a heap.
 ghost use Rattle.std.specs.Prelude.{◌≡◌, None, MatchOption, IfOk, OnErr, Ok};
 ghost use Rattle.sh_step.specs.Plans.{plan_of};
-ghost use Rattle.sh_core.specs.Kept.{StandsFor, StepsWorld, RunsWorld};
+ghost use Rattle.sh_core.specs.Kept.{Represents, StepsWorld, RunsWorld};
 ghost use Rattle.sh_core.specs.Outcomes.{row_of_event};
 ghost use Rattle.sh_core.specs.Worlds.{World as Core};
 ghost use Rattle.script_orders.specs.Reached.{done_by};
@@ -55,8 +55,8 @@ pub fn played<L: KeyLayout>(
 /// What the event's step finds, as far as it matters to its pass; none if its condition does not hold.
 pub fn seen_by<L: KeyLayout>(world: &World<L>, event: &Event) -> Option<u64>
     ensures { MatchOption result
-        ((w : Core) → StandsFor world.now w → row_of_event (plan_of L.layout world.now.shape) w event.now ≡ None)
-        (λ seen. (w : Core) → StandsFor world.now w → Sees (plan_of L.layout world.now.shape) w event.now seen) }
+        ((w : Core) → Represents world.now w → row_of_event (plan_of L.layout world.now.shape) w event.now ≡ None)
+        (λ seen. (w : Core) → Represents world.now w → Sees (plan_of L.layout world.now.shape) w event.now seen) }
 {
     let shape = world.shape();
     let part = world.parts().get(event.pass as usize)?;

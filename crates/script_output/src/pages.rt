@@ -7,7 +7,7 @@ ghost use Rattle.sh_core.specs.Event.{Event};
 ghost use Rattle.sh_core.specs.Plans.{plan_of};
 ghost use Rattle.sh_core.specs.declared.accounts.Accounts.{Accounts};
 ghost use Rattle.sh_core.specs.Worlds.{run};
-ghost use Rattle.sh_core.specs.Kept.{StandsFor};
+ghost use Rattle.sh_core.specs.Kept.{Represents};
 ghost use Rattle.sh_accounts.specs.Accounts.{ShapeHasPage};
 ghost use Rattle.script_output.specs.AccountLines.{Later, accounts_after};
 
@@ -53,7 +53,7 @@ impl<L: KeyLayout> Pages for World<L> {
 
     ghost numbers = { λ w. w.shape };
 
-    ghost leads = { λ w events. StandsFor w (run (plan_of L.layout w.shape) events) };
+    ghost leads = { λ w events. Represents w (run (plan_of L.layout w.shape) events) };
 
     ghost says = { λ w q a. Unit {0} };
 

@@ -12,7 +12,7 @@ use Rattle.sh_core.specs.declared.outcome.Outcome.{Outcome}
 use Rattle.sh_core.specs.declared.outcome.Outcome.TheVariants.{Skipped}
 use Rattle.sh_core.specs.Words.{read}
 use Rattle.sh_core.specs.Worlds.{World, run, entry_of, value_at_place}
-use Rattle.sh_core.specs.Kept.{KeptWorld, StandsFor, FromEvents, StepsWorld}
+use Rattle.sh_core.specs.Kept.{KeptWorld, Represents, FromEvents, StepsWorld}
 use Rattle.sh_core.specs.Outcomes.{row_of_event, outcome_of, done}
 use Rattle.script_show.specs.declared.touched.Touched.{Touched}
 use Rattle.script_show.specs.Sessions.{has_reason, is_skipped, TellsWhy}
@@ -38,14 +38,14 @@ skips plan w e = go (row_of_event plan w e) where
 at_body : (plan : Plan) (e : Event) (o : Option Body) → Option Row
 at_body plan e o = elim o as (λ _. Option Row) [ Some p ↦ row plan p e.action | None ↦ None ]
 
-pub row_of_body : (plan : Plan) (k : KeptWorld) (w : World) (e : Event) (p : Body) → StandsFor k w
+pub row_of_body : (plan : Plan) (k : KeptWorld) (w : World) (e : Event) (p : Body) → Represents k w
     → slice_get k.parts e.pass ≡ Some p → row_of_event plan w e ≡ row plan p e.action
 unfolding row_of_event at_body
 row_of_body plan k w e p stands at =
     let here : slice_get w.parts e.pass ≡ Some p = rw (← stands.parts) at in
     ap (at_body plan e) here
 
-pub row_of_none : (plan : Plan) (k : KeptWorld) (w : World) (e : Event) → StandsFor k w
+pub row_of_none : (plan : Plan) (k : KeptWorld) (w : World) (e : Event) → Represents k w
     → slice_get k.parts e.pass ≡ None → row_of_event plan w e ≡ None
 unfolding row_of_event at_body
 row_of_none plan k w e stands at =
@@ -54,7 +54,7 @@ row_of_none plan k w e stands at =
 
 -- what a step of this event touched: it has a reason exactly if the event has no row
 pub tells_why : (layout : Layout) (k k' : KeptWorld) (e : Event) (touched : Touched) (came : Outcome)
-    → FromEvents layout k → ((w : World) → StandsFor k w
+    → FromEvents layout k → ((w : World) → Represents k w
     → has_reason touched ≡ is_none (row_of_event (plan_of layout k.shape) w e)) → StepsWorld layout k e came k'
     → TellsWhy touched came
 tells_why layout k k' e touched came from touches steps =

@@ -5,7 +5,7 @@ ghost use Rattle.sh_key.specs.Layout.{first_key, key_count};
 ghost use Rattle.sh_step.specs.Plans.{plan_of};
 ghost use Rattle.sh_core.specs.Worlds.{World as Modelled};
 ghost use Rattle.sh_core.specs.Outcomes.{row_of_event};
-ghost use Rattle.sh_core.specs.Kept.{Opens, StandsFor};
+ghost use Rattle.sh_core.specs.Kept.{Opens, Represents};
 ghost use Rattle.script_output.specs.Keys.{HasTagRoom};
 ghost use Rattle.script_models.specs.StepsKeys.{DoesEvent, KeysWithin};
 ghost use Rattle.script_models.specs.StepsOutput.{event_line};
@@ -32,7 +32,7 @@ use std::alloc::{AllocError, Global};
 // What an event would touch, in a world of this shape: nothing, with a reason, exactly if it has no row.
 fn touched_in<L: KeyLayout>(world: &World<L>, shape: &Shape, event: &Event) -> Touched
     requires { shape.now ≡ world.now.shape }
-    ensures { (w : Modelled) → StandsFor world.now w
+    ensures { (w : Modelled) → Represents world.now w
         → has_reason result ≡ is_none (row_of_event (plan_of L.layout world.now.shape) w event.now) }
 {
     match world.parts().get(event.pass as usize) {

@@ -16,7 +16,7 @@ use Rattle.sh_step.specs.declared.action.Event.{Event}
 use Rattle.sh_step.specs.Collections.{total, if1}
 use Rattle.sh_step.specs.Plans.{Plan, plan_of}
 use Rattle.sh_core.specs.declared.accounts.Accounts.{Accounts}
-use Rattle.sh_core.specs.Kept.{KeptWorld, StandsFor, FromEvents}
+use Rattle.sh_core.specs.Kept.{KeptWorld, Represents, FromEvents}
 use Rattle.sh_core.specs.Lists.{PutLists, accounts, among, class_named, lists_of, mine_at, in_hand, slots_under}
 use Rattle.sh_core.specs.Lists.{state_of, times}
 use Rattle.sh_core.specs.Refines.{Always, KindsAddUp, ClassesAreKnown, kind_count}
@@ -60,7 +60,7 @@ names_none n e = go (n == 0) refl e where
   go false is e = absurd (let z : None ≡ Some (n - 1) = e in cc)
 
 -- what is kept represents the world, and all that holds of runs holds of this world
-module _ (plan : Plan) (k : KeptWorld) (w : World) (l : PutLists) (stands : StandsFor k w) (kinds : KindsAddUp w l)
+module _ (plan : Plan) (k : KeptWorld) (w : World) (l : PutLists) (stands : Represents k w) (kinds : KindsAddUp w l)
     (q : ℕ) (there : q < all_pages k.shape) where
   class_is : class_word k q ≡ w.words.class_at q
   class_is = stands.words.at (Class q) there

@@ -13,7 +13,7 @@ use Rattle.sh_step.specs.declared.action.Event.{Event}
 use Rattle.sh_step.specs.Collections.{if1}
 use Rattle.sh_step.specs.Plans.{plan_of}
 use Rattle.sh_core.specs.declared.accounts.Accounts.{Accounts}
-use Rattle.sh_core.specs.Kept.{KeptWorld, StandsFor}
+use Rattle.sh_core.specs.Kept.{KeptWorld, Represents}
 use Rattle.sh_core.specs.Lists.{accounts, lists_of, among}
 use Rattle.sh_core.specs.Worlds.{run}
 use Rattle.sh_accounts.specs.declared.kinds.SlotKind.{SlotKind}
@@ -26,7 +26,7 @@ ShapeHasPage shape shard page = (shard < shape.shards) × (page < pages_of shape
 
 -- they are those of page q over the whole heap, after each list of events that leads to what is kept
 abbrev pub AreAccounts : Layout → KeptWorld → ℕ → Accounts → Type 0
-AreAccounts layout k q a = (es : List Event) → StandsFor k (run (plan_of layout k.shape) es)
+AreAccounts layout k q a = (es : List Event) → Represents k (run (plan_of layout k.shape) es)
     → a ≡ accounts (run (plan_of layout k.shape) es) (lists_of (plan_of layout k.shape) es) q
 
 -- the six numbers together

@@ -25,7 +25,7 @@ use Rattle.sh_step.specs.Fields.{Fields, fields_of}
 use Rattle.sh_core.specs.AtomicMap.{map_of, Finds, made_by, IsOneOperation, EventsAreOperations, OpensEmpty}
 use Rattle.sh_core.specs.Lists.{PutLists, lists_of}
 use Rattle.sh_core.specs.Outcomes.{row_of_event, outcome_of, done}
-use Rattle.sh_core.specs.Refines.{Refines, KeyTold}
+use Rattle.sh_core.specs.Refines.{Refines, KeyMatchesLog}
 use Rattle.sh_core.specs.Words.{read}
 use Rattle.sh_core.specs.Worlds.{World, apply, run, run_from, open_world, entry, entry_of, joined, value_at}
 use Rattle.sh_core.specs.Worlds.{value_at_place}
@@ -58,7 +58,7 @@ module _ (plan : Plan) (w : World) (l : PutLists) (all : Refines plan w l) (k : 
   abbrev st : Fields
   st = fields_of (w.words.state_at n.page n.slot)
 
-  told : KeyTold w.log k n.generation st (value_at w.words n.page n.slot)
+  told : KeyMatchesLog w.log k n.generation st (value_at w.words n.page n.slot)
   told = all.keys k n names
 
   shown : map_of plan w.words k
@@ -219,7 +219,8 @@ not_removed : (plan : Plan) (w : World) (l : PutLists) → Refines plan w l → 
     → plan.keys.unpack k ≡ Some n → value_of w.log k ≡ None → is_removed w.log k ≡ false
 not_removed plan w l all k n names none =
     go ((fields_of (w.words.state_at n.page n.slot)).generation == n.generation) refl where
-      told : KeyTold w.log k n.generation (fields_of (w.words.state_at n.page n.slot)) (value_at w.words n.page n.slot)
+      told : KeyMatchesLog w.log k n.generation (fields_of (w.words.state_at n.page n.slot))
+          (value_at w.words n.page n.slot)
       told = all.keys k n names
 
       unissued : {A : Type 0} (v : List ℕ) → value_of w.log k ≡ Some v → A

@@ -30,7 +30,7 @@ use Rattle.sh_step.proofs.LookupLaws.{place_is}
 use Rattle.sh_step.proofs.Truths.{and2}
 use Rattle.sh_core.specs.Lists.{lists_of, state_of, times}
 use Rattle.sh_core.specs.Quiet.{Quiet}
-use Rattle.sh_core.specs.Refines.{Refines, KeyTold, live, marked, retired, holds_now}
+use Rattle.sh_core.specs.Refines.{Refines, KeyMatchesLog, live, marked, retired, holds_now}
 use Rattle.sh_core.specs.Tallies.{at_slot, current, visits, finishing}
 use Rattle.sh_core.specs.Trails.{trail_of, body_by}
 use Rattle.sh_core.specs.Worlds.{World, run, value_at}
@@ -132,10 +132,10 @@ module _ (layout : Layout) (shape : Numbers) (is_layout : IsLayout layout) (is_s
   is_filled : (at_w.present || at_w.marked) ≡ true
   is_filled = used_by at_w.present at_w.marked used
 
-  told_first : KeyTold w.log key at_w.generation at_w (value_at w.words x.page x.slot)
+  told_first : KeyMatchesLog w.log key at_w.generation at_w (value_at w.words x.page x.slot)
   told_first = all_old.keys key name key_names
 
-  told_second : KeyTold u.log key at_w.generation at_u (value_at u.words x.page x.slot)
+  told_second : KeyMatchesLog u.log key at_w.generation at_u (value_at u.words x.page x.slot)
   told_second = all_new.keys key name key_names
 
   still_issued : value_of u.log key ≢ None
@@ -284,10 +284,10 @@ module _ (layout : Layout) (shape : Numbers) (is_layout : IsLayout layout) (is_s
       ∙ (value_of-append_none old.log (Insert a k v ∷ []) k not_issued
       ∙ ap (λ (b : Bool). if b then Some v else None) (eq-eqb k k refl))
 
-  told_old : KeyTold old.log k n.generation old_state (value_at old.words n.page n.slot)
+  told_old : KeyMatchesLog old.log k n.generation old_state (value_at old.words n.page n.slot)
   told_old = was.keys k n place.unpacks
 
-  told_new : KeyTold new.log k n.generation new_state (value_at new.words n.page n.slot)
+  told_new : KeyMatchesLog new.log k n.generation new_state (value_at new.words n.page n.slot)
   told_new = is_now.keys k n place.unpacks
 
   not_past : n.generation < old_state.generation → ⊥

@@ -95,7 +95,7 @@ pub record DoesRow (shape : Numbers) (a : ℕ) (r : Row) (list : List ℕ) (entr
   pub outcome : came ≡ done (new_entry shape list a r)
 
 -- the kept world represents this world
-pub record StandsFor (k : KeptWorld) (w : World) : Type 0 where
+pub record Represents (k : KeptWorld) (w : World) : Type 0 where
   pub words : HoldsWords k.shape k.words w.words
   pub parts : k.parts ≡ w.parts
   pub log : k.log ≡ w.log
@@ -106,22 +106,22 @@ pub record FromEvents (layout : Layout) (k : KeptWorld) : Type 0 where
   pub is_shape : IsShape k.shape
   pub fits : Fits layout k.shape
   pub events : List Event
-  pub stands : StandsFor k (run (plan_of layout k.shape) events)
+  pub stands : Represents k (run (plan_of layout k.shape) events)
 
 -- what an event leaves, and its outcome
 pub record StepsWorld (layout : Layout) (before : KeptWorld) (e : Event) (outcome : Outcome) (after : KeptWorld) : Type
     0 where
   pub shape : after.shape ≡ before.shape
-  pub world : (w : World) → StandsFor before w → StandsFor after (step (plan_of layout before.shape) w e)
-  pub outcome_is : (w : World) → StandsFor before w → outcome ≡ outcome_of (plan_of layout before.shape) w e
+  pub world : (w : World) → Represents before w → Represents after (step (plan_of layout before.shape) w e)
+  pub outcome_is : (w : World) → Represents before w → outcome ≡ outcome_of (plan_of layout before.shape) w e
 
 -- the event is not skipped
 abbrev pub IsDone : Layout → KeptWorld → Event → Type 0
-IsDone layout k e = (w : World) → StandsFor k w → outcome_of (plan_of layout k.shape) w e ≢ Skipped
+IsDone layout k e = (w : World) → Represents k w → outcome_of (plan_of layout k.shape) w e ≢ Skipped
 
 -- a heap of this shape is opened, unless the shape does not fit the layout or memory is refused
 abbrev pub Opens : Layout → Numbers → Result KeptWorld Refusal → Type 0
-Opens layout shape (Ok k) = Fits layout shape × (k.shape ≡ shape) × StandsFor k (open_world (plan_of layout shape))
+Opens layout shape (Ok k) = Fits layout shape × (k.shape ≡ shape) × Represents k (open_world (plan_of layout shape))
 Opens layout shape (Err BadShape) = ¬ Fits layout shape
 Opens layout shape (Err Memory) = Fits layout shape
 Opens layout shape (Err _) = ⊥
@@ -141,7 +141,7 @@ RefusesToOpen layout shape _ = ⊥
 
 -- a heap of this shape after these events, unless the shape does not fit the layout or memory is refused
 abbrev pub RunsWorld : Layout → Numbers → List Event → Result KeptWorld Refusal → Type 0
-RunsWorld layout shape es (Ok k) = Fits layout shape × (k.shape ≡ shape) × StandsFor k (run (plan_of layout shape) es)
+RunsWorld layout shape es (Ok k) = Fits layout shape × (k.shape ≡ shape) × Represents k (run (plan_of layout shape) es)
 RunsWorld layout shape es (Err BadShape) = ¬ Fits layout shape
 RunsWorld layout shape es (Err Memory) = Fits layout shape
 RunsWorld layout shape es (Err _) = ⊥

@@ -141,18 +141,18 @@ RetiredIsLast plan w = (x : SlotRef) → (state_of w x).present ≡ false → (s
 -- What the log says of a key of generation g, at a slot in the state st whose words hold `now`. The key of the present
 -- generation was issued with the value in the words if the slot is live, marked or retired, and not if it is empty. It
 -- was removed exactly if the mark is set. A key of a later generation was neither issued nor removed
-pub record KeyTold (log : List Entry) (k g : ℕ) (st : Fields) (now : List ℕ) : Type 0 where
+pub record KeyMatchesLog (log : List Entry) (k g : ℕ) (st : Fields) (now : List ℕ) : Type 0 where
   pub issued : g ≡ st.generation → (st.present || st.marked) ≡ true → value_of log k ≡ Some now
   pub empty : g ≡ st.generation → (st.present || st.marked) ≡ false → value_of log k ≡ None
   pub removed : g ≡ st.generation → is_removed log k ≡ st.marked
   pub later : st.generation < g → (value_of log k ≡ None) × (is_removed log k ≡ false)
 
-abbrev pub KeysAreTold : Plan → World → Type 0
-KeysAreTold plan w = (k : ℕ) (n : KeyRef) → plan.keys.unpack k ≡ Some n
-    → KeyTold w.log k n.generation (state_of w (slot_ref_of n)) (value_at w.words n.page n.slot)
+abbrev pub KeysMatchLog : Plan → World → Type 0
+KeysMatchLog plan w = (k : ℕ) (n : KeyRef) → plan.keys.unpack k ≡ Some n
+    → KeyMatchesLog w.log k n.generation (state_of w (slot_ref_of n)) (value_at w.words n.page n.slot)
 
 -- the Got entries of a key number its Released entries and its holds, for each pass and for all passes together
-pub record HoldsAreTold (w : World) : Type 0 where
+pub record HoldsMatchLog (w : World) : Type 0 where
   pub of_pass : (a : ℕ) (p : Body) (k : ℕ) → slice_get w.parts a ≡ Some p
       → got_count_by w.log a k ≡ released_count_by w.log a k + times k p.holds
   pub together : (k : ℕ) → got_count w.log k ≡ released_count w.log k + total (λ (p : Body). times k p.holds) w.parts
@@ -259,12 +259,12 @@ pub record Refines (plan : Plan) (w : World) (l : PutLists) : Type 0 where
   pub held : HeldKeysAreValid plan w
   pub reads : ReadsWithin plan w
   pub notes : NotesAreTrue plan w
-  pub holds : HoldsAreTold w
+  pub holds : HoldsMatchLog w
   pub counted : Counted plan w
   pub few : CountIsFew plan w
   pub counts : CountsFit plan w
   pub past : PastIsRemoved plan w
-  pub keys : KeysAreTold plan w
+  pub keys : KeysMatchLog plan w
   pub generations : GenerationsEnd plan w
   pub retired : RetiredIsLast plan w
   pub finished : Finished plan w

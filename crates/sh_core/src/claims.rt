@@ -6,8 +6,8 @@ ghost use Rattle.sh_core.specs.LinkWords.{EachLinked};
 ghost use Rattle.sh_core.specs.InHeap.{StepsWithin, CountsFit, BellsAreSmall, ValuesFit, StoresWords, IssuesKeys};
 ghost use Rattle.sh_core.specs.Refines.{Always, OneKind, KindsAddUp, Filled, ClassesAreKnown, HeldKeysAreValid};
 ghost use Rattle.sh_core.specs.Refines.{ReadsWithin};
-ghost use Rattle.sh_core.specs.Refines.{NotesAreTrue, HoldsAreTold, Counted, CountIsFew};
-ghost use Rattle.sh_core.specs.Refines.{PastIsRemoved, KeysAreTold, EntriesAreOurs, GenerationsEnd, RetiredIsLast};
+ghost use Rattle.sh_core.specs.Refines.{NotesAreTrue, HoldsMatchLog, Counted, CountIsFew};
+ghost use Rattle.sh_core.specs.Refines.{PastIsRemoved, KeysMatchLog, EntriesAreOurs, GenerationsEnd, RetiredIsLast};
 ghost use Rattle.sh_core.specs.Refines.{Finished, OneOwner, Armed, LeftEmpty, ShardlessHaveNothing, Linked};
 ghost use Rattle.sh_core.specs.Refines.{OwnPartsAreValid, FillsAreKeys, HoldsAreFew, FlaggedAreEmpty, KeysInHandName};
 ghost use Rattle.sh_core.specs.Refines.{GoesOn};
@@ -30,7 +30,7 @@ pub fn refines_map()
     ensures held { Always (λ plan w l. HeldKeysAreValid plan w) }
     ensures reads { Always (λ plan w l. ReadsWithin plan w) }
     ensures notes { Always (λ plan w l. NotesAreTrue plan w) }
-    ensures holds { Always (λ plan w l. HoldsAreTold w) }
+    ensures holds { Always (λ plan w l. HoldsMatchLog w) }
     ensures few_holds { Always (λ plan w l. HoldsAreFew plan w) }
 
     // A slot's count is its holds and the passes on it for a moment, and has room.
@@ -40,7 +40,7 @@ pub fn refines_map()
 
     // Generations go up, and end; the log says of each key what its slot's state word does.
     ensures past { Always (λ plan w l. PastIsRemoved plan w) }
-    ensures keys { Always (λ plan w l. KeysAreTold plan w) }
+    ensures keys { Always (λ plan w l. KeysMatchLog plan w) }
     ensures generations { Always (λ plan w l. GenerationsEnd plan w) }
     ensures retired { Always (λ plan w l. RetiredIsLast plan w) }
     ensures finished { Always (λ plan w l. Finished plan w) }

@@ -14,7 +14,7 @@ ghost use Rattle.sh_core.specs.WrongRows.{ignores_room, never_answers_gone, reme
 ghost use Rattle.sh_core.specs.WrongRows.{keeps_flag, cannot_ring};
 ghost use Rattle.sh_core.specs.LinkWords.{EachLinked};
 ghost use Rattle.sh_core.specs.InHeap.{StepsWithin, CountsFit, BellsAreSmall, ValuesFit, StoresWords, IssuesKeys};
-ghost use Rattle.sh_core.specs.Refines.{KindsAddUp, Filled, HoldsAreTold, CountIsFew, PastIsRemoved, KeysAreTold};
+ghost use Rattle.sh_core.specs.Refines.{KindsAddUp, Filled, HoldsMatchLog, CountIsFew, PastIsRemoved, KeysMatchLog};
 ghost use Rattle.sh_core.specs.Refines.{RetiredIsLast, OneOwner, ShardlessHaveNothing, FillsAreKeys, ReadsWithin};
 ghost use Rattle.sh_core.specs.Refines.{EntriesAreOurs};
 ghost use Rattle.sh_core.specs.MoreWrongRows.{retires_early, skips_generation, adopts_taken, leaves_cursors};
@@ -67,8 +67,8 @@ pub fn refutes_more_wrong_tables()
     ensures leaves_slots_shardless { ¬ AlwaysBy leaves_slots (λ plan w l. ShardlessHaveNothing w) }
     ensures leaves_bell_armed { ¬ AlwaysBy leaves_bell (λ plan w l. LeftEmpty plan w) }
     ensures leaves_cursors { ¬ AlwaysBy leaves_cursors (λ plan w l. LeftEmpty plan w) }
-    ensures publishes_next { ¬ AlwaysBy publishes_next (λ plan w l. KeysAreTold plan w) }
-    ensures keeps_hold { ¬ AlwaysBy keeps_hold (λ plan w l. HoldsAreTold w) }
+    ensures publishes_next { ¬ AlwaysBy publishes_next (λ plan w l. KeysMatchLog plan w) }
+    ensures keeps_hold { ¬ AlwaysBy keeps_hold (λ plan w l. HoldsMatchLog w) }
     ensures fills_any_slot { ¬ AlwaysBy fills_any_slot (λ plan w l. HeldKeysAreValid plan w) }
     ensures reads_wrong_class { ¬ AlwaysBy reads_wrong_class (λ plan w l. NotesAreTrue plan w) }
     ensures reads_wrong_length { ¬ AlwaysBy reads_wrong_length (λ plan w l. NotesAreTrue plan w) }

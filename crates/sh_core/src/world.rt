@@ -7,7 +7,7 @@ ghost use Rattle.sh_core.specs.Worlds.{open_world, run};
 ghost use Rattle.sh_step.specs.Parts.{newcomer};
 ghost use Rattle.sh_core.specs.Lists.{lists_of};
 ghost use Rattle.sh_core.specs.Refines.{Refines};
-ghost use Rattle.sh_core.specs.Kept.{StandsFor, FromEvents, Opens, RunsWorld, StepsWorld, IsDone, NeedsMemory};
+ghost use Rattle.sh_core.specs.Kept.{Represents, FromEvents, Opens, RunsWorld, StepsWorld, IsDone, NeedsMemory};
 
 use crate::Outcome;
 use crate::moving::do_move;

@@ -16,7 +16,7 @@ use Rattle.sh_step.specs.Collections.{total, if1}
 use Rattle.sh_step.specs.Plans.{Plan, Lawful, heap_pages}
 use Rattle.sh_step.proofs.Truths.{lt_of}
 use Rattle.sh_core.specs.Lists.{PutLists, times, state_of}
-use Rattle.sh_core.specs.Refines.{Refines, KeyTold, holds_now}
+use Rattle.sh_core.specs.Refines.{Refines, KeyMatchesLog, holds_now}
 use Rattle.sh_core.specs.Tallies.{visits, finishing, at_slot, current}
 use Rattle.sh_core.specs.Worlds.{World, value_at}
 use Rattle.sh_core.proofs.Slots.Slots.{same_slot-true}
@@ -86,7 +86,7 @@ module _ (plan : Plan) (w : World) (l : PutLists) (laws : Lawful plan) (core : R
   unpacks : (g : ℕ) → 0 < g → g ≤ plan.keys.gen_max → plan.keys.unpack (key g) ≡ Some (name_at x g)
   unpacks g some le = laws.names (name_at x g) some le page slot
 
-  told : (g : ℕ) → 0 < g → g ≤ plan.keys.gen_max → KeyTold w.log (key g) g st (value_at w.words x.page x.slot)
+  told : (g : ℕ) → 0 < g → g ≤ plan.keys.gen_max → KeyMatchesLog w.log (key g) g st (value_at w.words x.page x.slot)
   told g some le = core.keys (key g) (name_at x g) (unpacks g some le)
 
   -- who holds the key finds its value present in the slot

@@ -12,7 +12,7 @@ use Rattle.sh_history.specs.History.{value_of, holds_by, is_got_by, is_release_b
 use Rattle.sh_history.specs.History.{Allowed, LegalAfter, Legal}
 use Rattle.sh_history.specs.declared.log.LogEntry.{LogEntry}
 use Rattle.sh_history.specs.declared.log.LogEntry.TheVariants.{Known}
-use Rattle.sh_history.specs.Log.{Agrees, pass_of, entries_of, Stands, is_logged_got_by, is_logged_release_by}
+use Rattle.sh_history.specs.Log.{Agrees, pass_of, entries_of, IsLegalLog, is_logged_got_by, is_logged_release_by}
 use Rattle.sh_history.specs.Log.{logged_holds_by, filled, HasValue, AllHaveValue}
 
 cond_kept : (b : Bool) (v w : List ℕ) (x y : Option (List ℕ)) → (x ≡ Some w → y ≡ Some w)
@@ -66,7 +66,7 @@ agrees_with_itself [] = tt
 agrees_with_itself (x ∷ xs) = (refl, agrees_with_itself xs)
 
 pub known_stands : (passes guard_max : ℕ) (xs : List Entry) → Legal passes guard_max xs
-    → Stands passes guard_max (λ _. true) (map Known xs)
+    → IsLegalLog passes guard_max (λ _. true) (map Known xs)
 known_stands passes guard_max xs legal = record { history = xs; legal = legal; agrees = agrees_with_itself xs }
 
 pub known_got : (xs : List Entry) (pass key : ℕ) → count_by (is_logged_got_by pass key) (map Known xs)
@@ -217,7 +217,7 @@ filter_splits p (x ∷ xs) front rest e is =
 
 -- an entry of the log is in the history
 pub stands_in : (passes guard_max : ℕ) (of_pass : ℕ → Bool) (front rest : List LogEntry) (e : Entry)
-    → (book : Stands passes guard_max of_pass (front ++ Known e ∷ rest))
+    → (book : IsLegalLog passes guard_max of_pass (front ++ Known e ∷ rest))
     → (front' : List Entry) × (rest' : List Entry) × (book.history ≡ front' ++ e ∷ rest')
 stands_in passes guard_max of_pass front rest e book =
     let r = zip_splits front rest e (entries_of of_pass book.history) book.agrees in
@@ -225,7 +225,7 @@ stands_in passes guard_max of_pass front rest e book =
 
 -- what a get returned is what was inserted
 pub same_value : (passes guard_max : ℕ) (of_pass : ℕ → Bool) (log front rest front' rest' : List LogEntry)
-    (p q key : ℕ) (given got : List ℕ) → Stands passes guard_max of_pass log
+    (p q key : ℕ) (given got : List ℕ) → IsLegalLog passes guard_max of_pass log
     → log ≡ front ++ Known (Insert p key given) ∷ rest → log ≡ front' ++ Known (Got q key got) ∷ rest' → got ≡ given
 same_value passes guard_max of_pass log front rest front' rest' p q key given got book is is' =
     let P : List LogEntry → Type 0 = λ l. AllZip Agrees l (entries_of of_pass book.history) in

@@ -25,7 +25,7 @@ abbrev pub entries_of : (ℕ → Bool) → List Entry → List Entry
 entries_of of_pass history = filter (λ entry. of_pass (pass_of entry)) history
 
 -- there is a legal history in which the entries of these passes are the log, in order
-pub record Stands (passes guard_max : ℕ) (of_pass : ℕ → Bool) (log : List LogEntry) : Type 0 where
+pub record IsLegalLog (passes guard_max : ℕ) (of_pass : ℕ → Bool) (log : List LogEntry) : Type 0 where
   pub history : List Entry
   pub legal : Legal passes guard_max history
   pub agrees : AllZip Agrees log (entries_of of_pass history)

@@ -9,7 +9,7 @@ pub fn one_value_a_key()
 {}
 
 /// A key was removed exactly if a removal of it is in the history.
-pub fn removals_stand()
+pub fn removals_are_recorded()
     ensures { RemovedHasRemoval }
 {}
 

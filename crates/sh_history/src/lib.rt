@@ -14,5 +14,5 @@ pub mod look;
 
 pub use checker::{Why, check};
 pub use entry::Entry;
-pub use law::{one_value_a_key, releases_are_got, removals_stand, removed_once};
+pub use law::{one_value_a_key, releases_are_got, removals_are_recorded, removed_once};
 pub use log::LogEntry;

@@ -8,7 +8,7 @@ use Rattle.sh_value.specs.declared.refusal.Refusal.TheVariants.{HoldsFull, NotHe
 use Rattle.sh_history.specs.declared.entry.Entry.TheVariants.{Insert, Gone, Crowded, Removed, Released}
 use Rattle.sh_history.specs.declared.log.LogEntry.{LogEntry}
 use Rattle.sh_history.specs.declared.log.LogEntry.TheVariants.{Known}
-use Rattle.sh_history.specs.Log.{Stands, IsGotBy, filled, AllHaveValue, logged_holds_by}
+use Rattle.sh_history.specs.Log.{IsLegalLog, IsGotBy, filled, AllHaveValue, logged_holds_by}
 
 -- what stays the same over the calls of one caller
 pub record Setting : Type 0 where
@@ -22,7 +22,7 @@ pub record Setting : Type 0 where
 
 -- there is a legal history in which the entries of these passes are the book, in order
 abbrev pub IsBook : Setting → List LogEntry → Type 0
-IsBook s book = Stands s.passes s.guard_max s.answers_for book
+IsBook s book = IsLegalLog s.passes s.guard_max s.answers_for book
 
 -- an insert adds its entry, or nothing if it is refused
 abbrev pub InsertLeaves : Setting → List ℕ → List LogEntry → Result ℕ Refusal → List LogEntry → Type 0

@@ -4,14 +4,14 @@ use Rattle.std.specs.Prelude.{◌==◌}
 use Rattle.sh_plain.specs.Entry.TheVariants.{Insert, Got, Released}
 use Rattle.sh_plain.specs.LogEntry.{LogEntry}
 use Rattle.sh_plain.specs.LogEntry.TheVariants.{Known, Unread}
-use Rattle.sh_plain.specs.Log.{Stands, IsGotBy, logged_holds_by}
+use Rattle.sh_plain.specs.Log.{IsLegalLog, IsGotBy, logged_holds_by}
 
 -- nothing was asked yet
-pub idle_stands : Stands 2 4 (λ pass. pass == 1) []
+pub idle_stands : IsLegalLog 2 4 (λ pass. pass == 1) []
 idle_stands = record { history = []; legal = tt; agrees = tt }
 
 -- the key's value, which pass 0 inserted, was given and not read yet
-pub lent_stands : (value : List ℕ) → Stands 2 4 (λ pass. pass == 1) (Unread 1 4096 ∷ [])
+pub lent_stands : (value : List ℕ) → IsLegalLog 2 4 (λ pass. pass == 1) (Unread 1 4096 ∷ [])
 lent_stands value = record {
   history = Insert 0 4096 value ∷ Got 1 4096 value ∷ [];
   legal = (refl, ((refl, refl), tt));
@@ -19,7 +19,7 @@ lent_stands value = record {
 }
 
 -- it was read
-pub read_stands : (value : List ℕ) → Stands 2 4 (λ pass. pass == 1) (Known (Got 1 4096 value) ∷ [])
+pub read_stands : (value : List ℕ) → IsLegalLog 2 4 (λ pass. pass == 1) (Known (Got 1 4096 value) ∷ [])
 read_stands value = record {
   history = Insert 0 4096 value ∷ Got 1 4096 value ∷ [];
   legal = (refl, ((refl, refl), tt));
@@ -27,7 +27,7 @@ read_stands value = record {
 }
 
 -- and the hold was given back
-pub returned_stands : (value : List ℕ) → Stands 2 4 (λ pass. pass == 1)
+pub returned_stands : (value : List ℕ) → IsLegalLog 2 4 (λ pass. pass == 1)
     (Known (Got 1 4096 value) ∷ Known (Released 1 4096) ∷ [])
 returned_stands value = record {
   history = Insert 0 4096 value ∷ Got 1 4096 value ∷ Released 1 4096 ∷ [];

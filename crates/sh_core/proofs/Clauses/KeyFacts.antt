@@ -6,7 +6,7 @@ use Rattle.sh_step.specs.Collections.{if1}
 use Rattle.sh_step.specs.Plans.{Plan}
 use Rattle.sh_core.specs.Lists.{PutLists, state_of}
 use Rattle.sh_core.specs.Placed.{Agreement}
-use Rattle.sh_core.specs.Refines.{KeysAreTold, HoldsAreTold, PastIsRemoved}
+use Rattle.sh_core.specs.Refines.{KeysMatchLog, HoldsMatchLog, PastIsRemoved}
 use Rattle.sh_core.specs.Stories.{removals}
 use Rattle.sh_core.specs.Worlds.{World, value_at}
 use Rattle.sh_core.proofs.Slots.Permits.{value_none, value_one, value_some, removed_by, gots_are, releases_are}
@@ -24,7 +24,7 @@ module _ (plan : Plan) (w : World) (l : PutLists) (all : Agreement plan w l) whe
       let once = story.0 in
       let gone = story.1 in (value_some k w.log (omega arith), (removed_by k w.log).1 (omega arith))
 
-  pub keys_told : KeysAreTold plan w
+  pub keys_told : KeysMatchLog plan w
   keys_told k n name = let story = all.sums.keys k n name in record {
     issued = λ now there. value_one k w.log (value_at w.words n.page n.slot) (story.value now there);
     empty = λ now none. value_none k w.log (story.fresh now none);
@@ -32,7 +32,7 @@ module _ (plan : Plan) (w : World) (l : PutLists) (all : Agreement plan w l) whe
     later = λ less. (value_none k w.log (story.later less).0, (removed_by k w.log).0 (story.later less).1);
   }
 
-  pub holds_told : HoldsAreTold w
+  pub holds_told : HoldsMatchLog w
   holds_told = record {
     of_pass = λ a p k at. let h = all.sums.holds a p at k in let g = gots_by_are a k w.log
         in let r = releases_by_are a k w.log in omega arith;

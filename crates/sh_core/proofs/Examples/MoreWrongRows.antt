@@ -16,9 +16,9 @@ use Rattle.sh_step.specs.Rows.{drop_hand, finish, publish}
 use Rattle.sh_core.specs.LinkWords.{EachLinked}
 use Rattle.sh_core.specs.InHeap.{StepsWithin, CountsFit, BellsAreSmall, ValuesFit, StoresWords, IssuesKeys}
 use Rattle.sh_core.specs.Lists.{times}
-use Rattle.sh_core.specs.Refines.{KindsAddUp, Filled, HeldKeysAreValid, NotesAreTrue, HoldsAreTold, CountIsFew}
+use Rattle.sh_core.specs.Refines.{KindsAddUp, Filled, HeldKeysAreValid, NotesAreTrue, HoldsMatchLog, CountIsFew}
 use Rattle.sh_core.specs.Refines.{PastIsRemoved}
-use Rattle.sh_core.specs.Refines.{KeysAreTold, RetiredIsLast, OneOwner, LeftEmpty, ShardlessHaveNothing, Linked}
+use Rattle.sh_core.specs.Refines.{KeysMatchLog, RetiredIsLast, OneOwner, LeftEmpty, ShardlessHaveNothing, Linked}
 use Rattle.sh_core.specs.Refines.{FillsAreKeys, ReadsWithin}
 use Rattle.sh_core.specs.Stacks.{slot_ref}
 use Rattle.sh_core.specs.Variants.{step_by, run_from_by, run_by, list_step_by, lists_from_by, AlwaysBy}
@@ -83,15 +83,15 @@ left_page_has_a_cursor = refuted leaves_cursors (λ plan w l. LeftEmpty plan w) 
     ev 0 Leave ∷ [])
     (λ h. let z : 1 ≡ 0 = (h 0 refl).1 0 0 refl in absurd (omega arith))
 
-pub live_key_was_not_issued : ¬ AlwaysBy publishes_next (λ plan w l. KeysAreTold plan w)
+pub live_key_was_not_issued : ¬ AlwaysBy publishes_next (λ plan w l. KeysMatchLog plan w)
 unfolding more_wrongly
-live_key_was_not_issued = refuted publishes_next (λ plan w l. KeysAreTold plan w) 1 (omega arith) (omega arith)
+live_key_was_not_issued = refuted publishes_next (λ plan w l. KeysMatchLog plan w) 1 (omega arith) (omega arith)
     (three_slots ++ inserted 0)
     (λ h. let z : None ≡ Some [] = (h 4096 (first 1) refl).issued refl refl in cc)
 
-pub released_is_held : ¬ AlwaysBy keeps_hold (λ plan w l. HoldsAreTold w)
+pub released_is_held : ¬ AlwaysBy keeps_hold (λ plan w l. HoldsMatchLog w)
 unfolding more_wrongly
-released_is_held = refuted keeps_hold (λ plan w l. HoldsAreTold w) 1 (omega arith) (omega arith)
+released_is_held = refuted keeps_hold (λ plan w l. HoldsMatchLog w) 1 (omega arith) (omega arith)
     (three_slots ++ inserted 0 ++ ev 0 (EnterGet 4096) ∷ ev 0 (DropHold 4096) ∷ [])
     (λ h. let z : 1 ≡ 1 + 1 = h.together 4096 in absurd (omega arith))
 

@@ -24,7 +24,7 @@ use Rattle.std.proofs.lemmas.List.{take_more}
 use Rattle.sh_core.proofs.Words.Steps.{run_snoc, row_of_at}
 use Rattle.sh_core.specs.Worlds.{World, step, run, open_world, words_from, value_at, value_at_place, entry_of, joined}
 use Rattle.sh_core.specs.Outcomes.{row_of_event, outcome_of, done}
-use Rattle.sh_core.specs.Kept.{KeptWorld, StandsFor, HoldsWords, FromEvents, IsReady, DoesRow, StepsWorld, IsDone}
+use Rattle.sh_core.specs.Kept.{KeptWorld, Represents, HoldsWords, FromEvents, IsReady, DoesRow, StepsWorld, IsDone}
 use Rattle.sh_core.specs.Kept.{AsksMemory, NeedsMemory, SlotHasValue, KeepsValue, value_in, value_kept, word_at}
 use Rattle.sh_core.specs.Kept.{new_entry}
 use Rattle.sh_shape.proofs.ClassLaws.{slots_few}
@@ -76,7 +76,7 @@ entry_same a v u (Some (reply.Removed k)) h = refl
 entry_same a v u (Some (reply.Released k)) h = refl
 entry_same a v u None h = refl
 
-new_same : (layout : Layout) (k : KeptWorld) (w : World) (a : ℕ) (r : Row) → StandsFor k w
+new_same : (layout : Layout) (k : KeptWorld) (w : World) (a : ℕ) (r : Row) → Represents k w
     → IsReady layout k.shape k.words r → new_entry k.shape k.words a r
     ≡ entry_of a (value_at_place w.words r.place) (r.reply (word_at k.shape k.words r.place))
 new_same layout k w a r s ready = entry_same a (value_kept k.shape k.words r.place) (value_at_place w.words r.place)
@@ -96,10 +96,10 @@ module _ (layout : Layout) (k k' : KeptWorld) (e : Event) (p : Body) (r : Row) (
   abbrev plan : Plan
   plan = plan_of layout k.shape
 
-  event_row : (w : World) → StandsFor k w → row_of_event plan w e ≡ Some r
+  event_row : (w : World) → Represents k w → row_of_event plan w e ≡ Some r
   event_row w s = let here : slice_get w.parts e.pass ≡ Some p = rw (← s.parts) at in row_of_at plan w e p here ∙ is
 
-  world_done : Done k k' e r came → (w : World) → StandsFor k w → StandsFor k' (step plan w e)
+  world_done : Done k k' e r came → (w : World) → Represents k w → Represents k' (step plan w e)
   world_done d w s =
       let n : ℕ = word_at k.shape k.words r.place in
       let new : Option Entry = entry_of e.pass (value_at_place w.words r.place) (r.reply n) in
@@ -109,10 +109,10 @@ module _ (layout : Layout) (k k' : KeptWorld) (e : Event) (p : Body) (r : Row) (
         parts = (sym (ap (λ (b : Body). set k.parts e.pass b) d.does.part) ∙ sym d.parts) i;
         log = (sym (ap (joined k.log) (new_same layout k w e.pass r s ready)) ∙ sym d.does.log) i;
       } in
-      let P : KeptWorld → Type 0 = λ u. StandsFor u (step plan w e) in
+      let P : KeptWorld → Type 0 = λ u. Represents u (step plan w e) in
       subst P same (stands_moves plan k w e p r s at is ready.row.place)
 
-  outcome_is : Done k k' e r came → (w : World) → StandsFor k w → came ≡ outcome_of plan w e
+  outcome_is : Done k k' e r came → (w : World) → Represents k w → came ≡ outcome_of plan w e
   outcome_is d w s =
       let n : word_at k.shape k.words r.place ≡ read w.words r.place = s.words.at r.place ready.row.place in
       d.does.outcome ∙ (ap done (new_same layout k w e.pass r s ready)
@@ -200,15 +200,15 @@ needs_after layout k e p r at is (Err x) h = (p, r, at, is, h)
 
 -- one more event of a list
 pub goes_on : (plan : Numbers → Plan) (k k' : KeptWorld) (es : List Event) (i : ℕ) (e : Event) {shape : Numbers}
-    → k.shape ≡ shape → i < length es → e ≡ get_or es i e → ((w : World) → StandsFor k w
-    → StandsFor k' (step (plan k.shape) w e))
-    → StandsFor k (run (plan shape) (take i es)) → StandsFor k' (run (plan shape) (take (i + 1) es))
+    → k.shape ≡ shape → i < length es → e ≡ get_or es i e → ((w : World) → Represents k w
+    → Represents k' (step (plan k.shape) w e))
+    → Represents k (run (plan shape) (take i es)) → Represents k' (run (plan shape) (take (i + 1) es))
 goes_on plan k k' es i e {shape} same less is steps old =
     let more : take (i + 1) es ≡ take i es ++ e ∷ [] = take_more es i e less
     ∙ ap (λ (d : Event). take i es ++ d ∷ []) (sym is) in
-    let P : Numbers → Type 0 = λ n. StandsFor k (run (plan n) (take i es)) in
-    let Q : Numbers → Type 0 = λ n. StandsFor k' (run (plan n) (take (i + 1) es)) in
-    let R : World → Type 0 = λ w. StandsFor k' w in
+    let P : Numbers → Type 0 = λ n. Represents k (run (plan n) (take i es)) in
+    let Q : Numbers → Type 0 = λ n. Represents k' (run (plan n) (take (i + 1) es)) in
+    let R : World → Type 0 = λ w. Represents k' w in
     let here : run (plan k.shape) (take (i + 1) es) ≡ step (plan k.shape) (run (plan k.shape) (take i es)) e = ap
     (λ (ds : List Event). run (plan k.shape) ds) more ∙ run_snoc (plan k.shape) (open_world (plan k.shape))
     (take i es) e in

@@ -20,7 +20,7 @@ use Rattle.sh_core.specs.Worlds.{World, run}
 use Rattle.sh_core.specs.Lists.{lists_of}
 use Rattle.sh_core.specs.Refines.{Refines}
 use Rattle.sh_core.specs.InHeap.{PlansHaveShapesPlaces, CountFits, BellsAreSmall, ValuesFit}
-use Rattle.sh_core.specs.Kept.{KeptWorld, StandsFor, FromEvents, IsReady, SlotHasValue, KeepsValue, word_at}
+use Rattle.sh_core.specs.Kept.{KeptWorld, Represents, FromEvents, IsReady, SlotHasValue, KeepsValue, word_at}
 use Rattle.sh_step.proofs.Truths.{and3}
 use Rattle.sh_shape.proofs.ClassLaws.{slots_few}
 use Rattle.sh_core.proofs.Clauses.RunTheorem.{theorem}
@@ -85,7 +85,7 @@ word_fits plan w h (PageLink q) = h.1 q
 word_fits plan w h _ = tt
 
 -- if a slot has a value in the world, it has one in the list
-keeps : (layout : Layout) (k : KeptWorld) (w : World) (q s : ℕ) → StandsFor k w → ValuesFit (plan_of layout k.shape) w
+keeps : (layout : Layout) (k : KeptWorld) (w : World) (q s : ℕ) → Represents k w → ValuesFit (plan_of layout k.shape) w
     → (fields_of (w.words.state_at q s)).present ≡ true → SlotHasValue k.shape k.words (record { page = q; slot = s })
 keeps layout k w q s st fits there = go (fits (record { page = q; slot = s }) (rw there refl)) where
   go : (0 < w.words.class_at q) × (w.words.class_at q ≤ 8) × (q < heap_pages (plan_of layout k.shape))
@@ -110,7 +110,7 @@ pub ready : (layout : Layout) (k : KeptWorld) (a : ℕ) (p : Body) (x : Action) 
 ready layout k a p x r reached at e =
     let plan : Plan = plan_of layout k.shape in
     let w : World = run plan reached.events in
-    let st : StandsFor k w = reached.stands in
+    let st : Represents k w = reached.stands in
     let f : Refines plan w (lists_of plan reached.events) = theorem layout k.shape reached.is_layout reached.is_shape
     reached.fits reached.events in
     let here : slice_get w.parts a ≡ Some p = rw (← st.parts) at in

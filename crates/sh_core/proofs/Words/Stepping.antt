@@ -19,7 +19,7 @@ use Rattle.sh_core.specs.Words.{read}
 use Rattle.sh_core.specs.Worlds.{World, step, apply, run, run_from, open_world, joined, entry_of, value_at_place}
 use Rattle.sh_step.specs.Parts.{newcomer}
 use Rattle.sh_core.specs.Outcomes.{row_of_event, outcome_of, done}
-use Rattle.sh_core.specs.Kept.{KeptWorld, StandsFor, FromEvents, OpensWith}
+use Rattle.sh_core.specs.Kept.{KeptWorld, Represents, FromEvents, OpensWith}
 use Rattle.sh_core.proofs.Words.KeptWords.{hold_write}
 use Rattle.sh_core.proofs.Clauses.RunTheorem.{legal_of}
 use Rattle.sh_core.proofs.Words.Steps.{step_moves, step_skips, step_past, run_snoc}
@@ -34,16 +34,16 @@ moved k a m n new = record k {
 }
 
 -- a row of a pass, at a place of the heap
-pub stands_moves : (plan : Plan) (k : KeptWorld) (w : World) (e : Event) (p : Body) (m : Row) → StandsFor k w
+pub stands_moves : (plan : Plan) (k : KeptWorld) (w : World) (e : Event) (p : Body) (m : Row) → Represents k w
     → slice_get k.parts e.pass ≡ Some p → row plan p e.action ≡ Some m → IsPlace k.shape m.place
-    → (let n = get_or k.words (number k.shape m.place) 0 in StandsFor
+    → (let n = get_or k.words (number k.shape m.place) 0 in Represents
     (moved k e.pass m n (entry_of e.pass (value_at_place w.words m.place) (m.reply n))) (step plan w e))
 unfolding apply
 stands_moves plan k w e p m s at is within =
     let here : slice_get w.parts e.pass ≡ Some p = rw (← s.parts) at in
     let f : get_or k.words (number k.shape m.place) 0 ≡ read w.words m.place = s.words.at m.place within in
     let v = value_at_place w.words m.place in
-    let Q : World → Type 0 = λ u. StandsFor (moved k e.pass m (get_or k.words (number k.shape m.place) 0)
+    let Q : World → Type 0 = λ u. Represents (moved k e.pass m (get_or k.words (number k.shape m.place) 0)
     (entry_of e.pass v (m.reply (get_or k.words (number k.shape m.place) 0)))) u in
     subst Q (sym (step_moves plan w e p m here is)) (record {
       words = rw f (hold_write k.shape k.words w.words m.place (operate m.operation (read w.words m.place)) s.words
@@ -53,17 +53,17 @@ stands_moves plan k w e p m s at is within =
     })
 
 -- an event that has no row
-pub stands_skips : (plan : Plan) (k : KeptWorld) (w : World) (e : Event) (p : Body) → StandsFor k w
-    → slice_get k.parts e.pass ≡ Some p → row plan p e.action ≡ None → StandsFor k (step plan w e)
+pub stands_skips : (plan : Plan) (k : KeptWorld) (w : World) (e : Event) (p : Body) → Represents k w
+    → slice_get k.parts e.pass ≡ Some p → row plan p e.action ≡ None → Represents k (step plan w e)
 stands_skips plan k w e p s at is =
     let here : slice_get w.parts e.pass ≡ Some p = rw (← s.parts) at in
-    let Q : World → Type 0 = λ u. StandsFor k u in subst Q (sym (step_skips plan w e p here is)) s
+    let Q : World → Type 0 = λ u. Represents k u in subst Q (sym (step_skips plan w e p here is)) s
 
-pub stands_past : (plan : Plan) (k : KeptWorld) (w : World) (e : Event) → StandsFor k w → slice_get k.parts e.pass
-    ≡ None → StandsFor k (step plan w e)
+pub stands_past : (plan : Plan) (k : KeptWorld) (w : World) (e : Event) → Represents k w → slice_get k.parts e.pass
+    ≡ None → Represents k (step plan w e)
 stands_past plan k w e s at =
     let here : slice_get w.parts e.pass ≡ None = rw (← s.parts) at in
-    let Q : World → Type 0 = λ u. StandsFor k u in subst Q (sym (step_past plan w e here)) s
+    let Q : World → Type 0 = λ u. Represents k u in subst Q (sym (step_past plan w e here)) s
 
 -- the outcome of the event
 pub row_of_past : (plan : Plan) (w : World) (e : Event) → slice_get w.parts e.pass ≡ None → row_of_event plan w e ≡ None
@@ -100,11 +100,11 @@ outcome_not_skipped plan w e m is h = done_is (entry_of e.pass (value_at_place w
 
 -- one more event
 pub reached_on : (layout : Layout) (k k' : KeptWorld) (e : Event) → FromEvents layout k → k'.shape ≡ k.shape
-    → ((w : World) → StandsFor k w → StandsFor k' (step (plan_of layout k.shape) w e)) → FromEvents layout k'
+    → ((w : World) → Represents k w → Represents k' (step (plan_of layout k.shape) w e)) → FromEvents layout k'
 reached_on layout k k' e r same on =
     let plan : Plan = plan_of layout k.shape in
-    let P : Numbers → Type 0 = λ n. StandsFor k' (run (plan_of layout n) (r.events ++ e ∷ [])) in
-    let Q : World → Type 0 = λ u. StandsFor k' u in
+    let P : Numbers → Type 0 = λ n. Represents k' (run (plan_of layout n) (r.events ++ e ∷ [])) in
+    let Q : World → Type 0 = λ u. Represents k' u in
     record {
       is_layout = r.is_layout;
       is_shape = rw same r.is_shape;
@@ -117,11 +117,11 @@ reached_on layout k k' e r same on =
 -- the world as it opens
 pub stands_open : (layout : Layout) (shape : Numbers) (words : List ℕ) (parts : List Body) (log : List Entry)
     → OpensWith layout shape words → parts ≡ replicate shape.passes newcomer → log ≡ []
-    → StandsFor (record { shape = shape; words = words; parts = parts; log = log }) (open_world (plan_of layout shape))
+    → Represents (record { shape = shape; words = words; parts = parts; log = log }) (open_world (plan_of layout shape))
 stands_open layout shape words parts log o p l = record { words = o.words; parts = p; log = l }
 
 pub reached_open : (layout : Layout) (k : KeptWorld) → IsLayout layout → IsShape k.shape → Fits layout k.shape
-    → StandsFor k (open_world (plan_of layout k.shape)) → FromEvents layout k
+    → Represents k (open_world (plan_of layout k.shape)) → FromEvents layout k
 unfolding run_from
 reached_open layout k a b c s = record { is_layout = a; is_shape = b; fits = c; events = []; stands = s }
 

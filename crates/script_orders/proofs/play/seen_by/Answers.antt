@@ -8,7 +8,7 @@ use Rattle.sh_step.specs.declared.step.Step.{Step}
 use Rattle.sh_step.specs.Moves.{move_of, step_at}
 use Rattle.sh_step.specs.Operations.{StoresWord}
 use Rattle.sh_step.specs.Plans.{plan_of}
-use Rattle.sh_core.specs.Kept.{StandsFor}
+use Rattle.sh_core.specs.Kept.{Represents}
 use Rattle.sh_core.specs.Outcomes.{row_of_event}
 use Rattle.sh_core.specs.Worlds.{World}
 use Rattle.script_orders.specs.Seen.{Sees}
@@ -20,9 +20,9 @@ use Rattle.script_orders.proofs.play.seen_by.Goals as goal
 pub returns-in_err-part : goal.returns-in_err-part
 returns-in_err-part g c =
     subst (λ (o : Option ℕ). MatchOption o
-    ((w : World) → StandsFor c.args.world.now w
+    ((w : World) → Represents c.args.world.now w
     → row_of_event (plan_of g.L.KeyLayout.layout c.args.world.now.shape) w c.args.event.now ≡ None)
-    (λ seen. (w : World) → StandsFor c.args.world.now w
+    (λ seen. (w : World) → Represents c.args.world.now w
     → Sees (plan_of g.L.KeyLayout.layout c.args.world.now.shape) w c.args.event.now seen))
     (sym c.from_residual.ensures) (λ w stands.
     let e = c.args.event.now in
@@ -41,9 +41,9 @@ returns-in_err-the_move g c =
     let is = sym (subst (λ (n : Numbers). None ≡ move_of (plan_of layout n) part e.action)
     c.shape-shape.ensures.is c.in_err-the_move.ensures) in
     subst (λ (o : Option ℕ). MatchOption o
-    ((w : World) → StandsFor c.args.world.now w
+    ((w : World) → Represents c.args.world.now w
     → row_of_event (plan_of g.L.KeyLayout.layout c.args.world.now.shape) w c.args.event.now ≡ None)
-    (λ seen. (w : World) → StandsFor c.args.world.now w
+    (λ seen. (w : World) → Represents c.args.world.now w
     → Sees (plan_of g.L.KeyLayout.layout c.args.world.now.shape) w c.args.event.now seen))
     (sym c.from_residual-in_err-the_move.ensures) (λ w stands. no_move_no_row layout k e part at is w stands)
 

@@ -5,7 +5,7 @@ use Rattle.sh_step.specs.declared.action.Event.{Event}
 use Rattle.sh_step.specs.Plans.{plan_of}
 use Rattle.sh_shape.specs.Shape.{IsShape}
 use Rattle.sh_core.specs.Worlds.{World, run, open_world}
-use Rattle.sh_core.specs.Kept.{StandsFor}
+use Rattle.sh_core.specs.Kept.{Represents}
 use Rattle.sh_core.proofs.Words.Steps.{run_none}
 use Rattle.sh_core.proofs.Words.Doing.{goes_on}
 use Rattle.sh_core.proofs.Clauses.RunTheorem.{theorem, legal_of}
@@ -19,7 +19,7 @@ loop-event-init g c =
       is_shape = subst IsShape opened.1 c.in_ok-world.ensures.reached.is_shape;
       fits = opened.0;
       shape = opened.1;
-      stands = subst (λ (w : World). StandsFor c.in_ok-world.world w) (sym (run_none plan (open_world plan))) opened.2;
+      stands = subst (λ (w : World). Represents c.in_ok-world.world w) (sym (run_none plan (open_world plan))) opened.2;
     }
 
 pub loop-event-preserved : goal.loop-event-preserved
