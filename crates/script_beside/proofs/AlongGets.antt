@@ -14,7 +14,7 @@ use Rattle.script_models.specs.Reference.TheVariants as reference
 use Rattle.script_models.specs.Call.TheVariants as call
 use Rattle.script_models.specs.Answer.{Answer}
 use Rattle.script_models.specs.Results.{done_answer}
-use Rattle.script_models.specs.PlainRun.{Run, Tells}
+use Rattle.script_models.specs.PlainRun.{Run, HasReply}
 use Rattle.script_beside.specs.Beside.{GetsBeside, IsLimit, WherePlaced, IfPlaced}
 use Rattle.script_beside.specs.Along.{CallAlong}
 use Rattle.script_beside.proofs.OnKeys.{placed_is_key}
@@ -30,9 +30,9 @@ module _ (n : Numbering) (run next : Run) (i : ℕ) (a : Answer) (keys : KeysAre
   AlongGet = CallAlong n.layout (own n run) (call.Get (reference.Name i)) a (own n next)
 
   get_by_key : (k : Result ℕ Answer) → key_named run i ≡ k
-      → Tells (get_reply n.layout) (own n run) (own_key n k) a (own n next) → AlongGet
+      → HasReply (get_reply n.layout) (own n run) (own_key n k) a (own n next) → AlongGet
   get_by_key k e h = plainly n (own n run) (own n next) (call.Get (reference.Name i)) a
-      (subst (λ (x : Result ℕ Answer). Tells (get_reply n.layout) (own n run) x a (own n next))
+      (subst (λ (x : Result ℕ Answer). HasReply (get_reply n.layout) (own n run) x a (own n next))
       (sym (own_meant n run i k e)) h)
 
   module _ (key : ℕ) (e : key_named run i ≡ Ok key) (is : KeyIs n (Some key)) (limit : ℕ)

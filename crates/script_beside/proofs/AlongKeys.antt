@@ -11,7 +11,7 @@ use Rattle.script_models.specs.Reference.TheVariants as reference
 use Rattle.script_models.specs.Call.TheVariants as call
 use Rattle.script_models.specs.Answer.{Answer}
 use Rattle.script_models.specs.Results.{value_answer}
-use Rattle.script_models.specs.PlainRun.{Run, Tells, Reads}
+use Rattle.script_models.specs.PlainRun.{Run, HasReply, Reads}
 use Rattle.script_beside.specs.Beside.{WherePlaced, IfPlaced}
 use Rattle.script_beside.specs.Along.{CallAlong}
 use Rattle.script_beside.proofs.OnKeys.{placed_is_key}
@@ -23,15 +23,15 @@ module _ (n : Numbering) (run next : Run) (i : ℕ) (a : Answer) (keys : KeysAre
   -- ---- remove
 
   remove_by : (k : Result ℕ Answer) → key_named run i ≡ k
-      → Tells (remove_reply n.layout) (own n run) (own_key n k) a (own n next)
+      → HasReply (remove_reply n.layout) (own n run) (own_key n k) a (own n next)
       → CallAlong n.layout (own n run) (call.Remove (reference.Name i)) a (own n next)
   remove_by k e h = plainly n (own n run) (own n next) (call.Remove (reference.Name i)) a
-      (subst (λ (x : Result ℕ Answer). Tells (remove_reply n.layout) (own n run) x a (own n next))
+      (subst (λ (x : Result ℕ Answer). HasReply (remove_reply n.layout) (own n run) x a (own n next))
       (sym (own_meant n run i k e)) h)
 
   own_removed : (key : ℕ) → KeyIs n (Some key) → (o : Option (List ℕ)) → present_value run.store.entries key ≡ o
       → Told (remove_reply n.layout run.store key) a run next
-      → Tells (remove_reply n.layout) (own n run) (Ok (n.number key)) a (own n next)
+      → HasReply (remove_reply n.layout) (own n run) (Ok (n.number key)) a (own n next)
   own_removed key is None p h =
       let is_key = placed_is_key n.layout n.shape key is.0 in
       let q : remove_reply n.layout run.store key ≡ removed_reply run.store key None = rw (is_key, p) refl in
@@ -50,14 +50,14 @@ module _ (n : Numbering) (run next : Run) (i : ℕ) (a : Answer) (keys : KeysAre
       rw (own_is_key, own_p) (t.0, ap (own n) t.1 ∙ own_added n run (Removed run.store.pass key))
 
   pub remove_along : WherePlaced n.layout n.shape (key_named run i)
-      (Tells (remove_reply n.layout) run (key_named run i) a next) run a next
+      (HasReply (remove_reply n.layout) run (key_named run i) a next) run a next
       → Found n run next (call.Remove (reference.Name i)) a
   remove_along h = go (key_named run i) refl
     where
       at : (k : Result ℕ Answer) → key_named run i ≡ k
-          → WherePlaced n.layout n.shape k (Tells (remove_reply n.layout) run k a next) run a next
+          → WherePlaced n.layout n.shape k (HasReply (remove_reply n.layout) run k a next) run a next
       at k e = subst (λ (x : Result ℕ Answer). WherePlaced n.layout n.shape x
-          (Tells (remove_reply n.layout) run x a next) run a next) e h
+          (HasReply (remove_reply n.layout) run x a next) run a next) e h
 
       go : (k : Result ℕ Answer) → key_named run i ≡ k → Found n run next (call.Remove (reference.Name i)) a
       go (Err b) e =
@@ -68,8 +68,8 @@ module _ (n : Numbering) (run next : Run) (i : ℕ) (a : Answer) (keys : KeysAre
           }
       go (Ok key) e =
           let is = known n run i key keys e in
-          let g : Tells (remove_reply n.layout) run (Ok key) a next =
-          subst (λ (b : Bool). IfPlaced b (Tells (remove_reply n.layout) run (Ok key) a next) run a next) is.0
+          let g : HasReply (remove_reply n.layout) run (Ok key) a next =
+          subst (λ (b : Bool). IfPlaced b (HasReply (remove_reply n.layout) run (Ok key) a next) run a next) is.0
           (at (Ok key) e) in
           record {
             along = remove_by (Ok key) e (own_removed key is (present_value run.store.entries key) refl g);
@@ -80,13 +80,13 @@ module _ (n : Numbering) (run next : Run) (i : ℕ) (a : Answer) (keys : KeysAre
 
   own_released : (key : ℕ) (b : Bool) → nat_lt 0 (holds_by run.store.entries run.store.pass key) ≡ b
       → Told (release_reply run.store key) a run next
-      → Tells release_reply (own n run) (Ok (n.number key)) a (own n next)
+      → HasReply release_reply (own n run) (Ok (n.number key)) a (own n next)
   own_released key b p h =
       go b p (ap (nat_lt 0) (same_holds_by n.number n.one run.store.entries run.store.pass key) ∙ p)
     where
       go : (b : Bool) → nat_lt 0 (holds_by run.store.entries run.store.pass key) ≡ b
           → nat_lt 0 (holds_by (map (renumbered n.number) run.store.entries) run.store.pass (n.number key)) ≡ b
-          → Tells release_reply (own n run) (Ok (n.number key)) a (own n next)
+          → HasReply release_reply (own n run) (Ok (n.number key)) a (own n next)
       go true p q =
           let c : release_reply run.store key ≡ record { answer = Ok tt; adds = Some (Released run.store.pass key) } =
           rw p refl in
@@ -97,18 +97,18 @@ module _ (n : Numbering) (run next : Run) (i : ℕ) (a : Answer) (keys : KeysAre
           let t = subst (λ (x : PlainReply (Unit {0})). Told x a run next) c h in
           rw q (t.0, ap (own n) t.1)
 
-  pub release_along : Tells release_reply run (key_named run i) a next
+  pub release_along : HasReply release_reply run (key_named run i) a next
       → Found n run next (call.Release (reference.Name i)) a
   release_along h = go (key_named run i) refl
     where
-      by : (k : Result ℕ Answer) → key_named run i ≡ k → Tells release_reply (own n run) (own_key n k) a (own n next)
+      by : (k : Result ℕ Answer) → key_named run i ≡ k → HasReply release_reply (own n run) (own_key n k) a (own n next)
           → CallAlong n.layout (own n run) (call.Release (reference.Name i)) a (own n next)
       by k e t = plainly n (own n run) (own n next) (call.Release (reference.Name i)) a
-          (subst (λ (x : Result ℕ Answer). Tells release_reply (own n run) x a (own n next))
+          (subst (λ (x : Result ℕ Answer). HasReply release_reply (own n run) x a (own n next))
           (sym (own_meant n run i k e)) t)
 
-      at : (k : Result ℕ Answer) → key_named run i ≡ k → Tells release_reply run k a next
-      at k e = subst (λ (x : Result ℕ Answer). Tells release_reply run x a next) e h
+      at : (k : Result ℕ Answer) → key_named run i ≡ k → HasReply release_reply run k a next
+      at k e = subst (λ (x : Result ℕ Answer). HasReply release_reply run x a next) e h
 
       go : (k : Result ℕ Answer) → key_named run i ≡ k → Found n run next (call.Release (reference.Name i)) a
       go (Err b) e =

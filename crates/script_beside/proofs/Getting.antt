@@ -19,7 +19,7 @@ use Rattle.script_models.specs.Call.TheVariants as call
 use Rattle.script_models.specs.Answer.{Answer}
 use Rattle.script_models.specs.Answer.TheVariants as answer
 use Rattle.script_models.specs.Results.{done_answer}
-use Rattle.script_models.specs.PlainRun.{Tells}
+use Rattle.script_models.specs.PlainRun.{HasReply}
 use Rattle.script_heap.specs.Parts.{PassPart, Becomes, is_placed_key}
 use Rattle.script_heap.specs.Calls.{CallAnswers, AnswerSays, GetAnswers, UnlessRefused, HoldGot}
 use Rattle.script_heap.specs.InOrder.{is_done_gone_or_crowded}
@@ -79,7 +79,7 @@ module _ (t : Turn) (r : Reference) (a : Answer) (ready : Ready t (call.Get r) a
     module _ (f : is_placed_key t.terms.layout t.terms.shape key ≡ true) where
       -- the answer of mode plain with this limit in the layout
       abbrev GetTells : ℕ → Type 0
-      GetTells limit = Tells (get_reply (record t.terms.layout { guard_max = limit })) (plain_before t) (Ok key) a
+      GetTells limit = HasReply (get_reply (record t.terms.layout { guard_max = limit })) (plain_before t) (Ok key) a
           (plain_after t)
 
       get_placed : t.w.shard ≡ t.v.shard → AreIssued t.terms.layout t.after → (limit : ℕ)

@@ -12,7 +12,7 @@ use Rattle.script_models.specs.Call.TheVariants as call
 use Rattle.script_models.specs.Answer.{Answer}
 use Rattle.script_models.specs.Answer.TheVariants as answer
 use Rattle.script_models.specs.Results.{done_answer}
-use Rattle.script_models.specs.PlainRun.{Tells}
+use Rattle.script_models.specs.PlainRun.{HasReply}
 use Rattle.script_heap.specs.Parts.{PassPart, Becomes}
 use Rattle.script_heap.specs.Calls.{CallAnswers, AnswerSays, ReleaseAnswers, UnlessRefused, HoldReleased}
 use Rattle.script_heap.specs.InOrder.{is_done}
@@ -23,9 +23,9 @@ use Rattle.script_beside.proofs.OnKeys.{key_here, number_here, heap_key, by_key,
 
 module _ (t : Turn) (r : Reference) (a : Answer) (ready : Ready t (call.Release r) a) where
   release_said : (k : Result ℕ Answer) → key_here t r ≡ k → t.w.shard ≡ t.v.shard → AreIssued t.terms.layout t.after
-      → Tells release_reply (plain_before t) k a (plain_after t) → Stepped t (call.Release r) a
+      → HasReply release_reply (plain_before t) k a (plain_after t) → Stepped t (call.Release r) a
   release_said k e same issued h = stays t (call.Release r) a ready same ready.names issued
-      (inl (subst (λ (x : Result ℕ Answer). Tells release_reply (plain_before t) x a (plain_after t)) (sym e) h))
+      (inl (subst (λ (x : Result ℕ Answer). HasReply release_reply (plain_before t) x a (plain_after t)) (sym e) h))
 
   release_keyless : (b : Answer) → key_here t r ≡ Err b → heap_key t r ≡ Err b → a ≡ b → t.w ≡ t.v
       → Stepped t (call.Release r) a

@@ -12,7 +12,7 @@ use Rattle.script_models.specs.Call.TheVariants as call
 use Rattle.script_models.specs.Answer.{Answer}
 use Rattle.script_models.specs.Answer.TheVariants as answer
 use Rattle.script_models.specs.Results.{done_answer}
-use Rattle.script_models.specs.PlainRun.{Tells}
+use Rattle.script_models.specs.PlainRun.{HasReply}
 use Rattle.script_heap.specs.Parts.{PassPart, Becomes, is_placed_key}
 use Rattle.script_heap.specs.Calls.{CallAnswers, AnswerSays, RemoveAnswers, UnlessRefused, KeyRemoved}
 use Rattle.script_heap.specs.InOrder.{is_done_or_gone}
@@ -27,7 +27,7 @@ module _ (t : Turn) (r : Reference) (a : Answer) (ready : Ready t (call.Remove r
   -- the answer of mode plain to this remove of this key
   abbrev RemoveSays : Result ℕ Answer → Type 0
   RemoveSays k = WherePlaced t.terms.layout t.terms.shape k
-      (Tells (remove_reply t.terms.layout) (plain_before t) k a (plain_after t)) (plain_before t) a (plain_after t)
+      (HasReply (remove_reply t.terms.layout) (plain_before t) k a (plain_after t)) (plain_before t) a (plain_after t)
 
   remove_said : (k : Result ℕ Answer) → key_here t r ≡ k → t.w.shard ≡ t.v.shard → AreIssued t.terms.layout t.after
       → RemoveSays k → Stepped t (call.Remove r) a
@@ -43,7 +43,7 @@ module _ (t : Turn) (r : Reference) (a : Answer) (ready : Ready t (call.Remove r
 
   module _ (key : ℕ) (e : key_here t r ≡ Ok key) where
     abbrev RemoveTells : Type 0
-    RemoveTells = Tells (remove_reply t.terms.layout) (plain_before t) (Ok key) a (plain_after t)
+    RemoveTells = HasReply (remove_reply t.terms.layout) (plain_before t) (Ok key) a (plain_after t)
 
     remove_placeless : is_placed_key t.terms.layout t.terms.shape key ≡ false → a ≡ answer.Refused refusal.BadKey
         → Becomes t.v t.w → Stepped t (call.Remove r) a

@@ -15,7 +15,7 @@ use Rattle.script_models.specs.CallLine.{CallLine}
 use Rattle.script_models.specs.Answer.{Answer}
 use Rattle.script_models.specs.Answer.TheVariants as answer
 use Rattle.script_models.specs.Keys.{shown}
-use Rattle.script_models.specs.PlainRun.{Run, CallDoes, Tells, at_turn, has_shard, key_of, opening_run, adopt_answer}
+use Rattle.script_models.specs.PlainRun.{Run, CallDoes, HasReply, at_turn, has_shard, key_of, opening_run, adopt_answer}
 use Rattle.script_models.specs.PlainRun.{leave_answer, insert_attempt}
 use Rattle.script_heap.specs.Parts.{is_placed_key}
 
@@ -64,7 +64,7 @@ pub record IsLimit (layout : Layout) (run : Run) (limit : ℕ) : Type 0 where
 pub record GetsBeside (layout : Layout) (run : Run) (key : Result ℕ Answer) (told : Answer) (next : Run) : Type 0 where
   pub limit : ℕ
   pub is_limit : IsLimit layout run limit
-  pub tells : Tells (get_reply (record layout { guard_max = limit })) run key told next
+  pub tells : HasReply (get_reply (record layout { guard_max = limit })) run key told next
 
 -- ---- a line
 

@@ -14,7 +14,7 @@ use Rattle.script_calls.specs.Told.{part_told}
 use Rattle.script_calls.specs.InOrder.{adding_passes, times, AllHeard}
 use Rattle.script_calls.specs.Alone.{OrderedSoFar}
 use Rattle.script_calls.specs.Finished.{IsOrderedBy}
-use Rattle.script_calls.specs.Hearing.{AllHear}
+use Rattle.script_calls.specs.Hearing.{AllHeedInTurn}
 use Rattle.script_calls.specs.Meeting.{HasMet, KeepsOrders, tales_told, orders_of}
 use Rattle.script_calls.proofs.HeardAll.{heard_head, heard_tales, heard_all}
 use Rattle.script_calls.proofs.ListLemmas.{take_past, up_get}
@@ -44,7 +44,7 @@ none_by passes p le (e ∷ es) h = go (nat_lt (pass_of e) passes) refl (none_by 
 module _ (heap : Option Heap) (terms : RunTerms) (tag : Option ℕ) (lines : List CallLine) (i : ℕ)
     (numbers : List (Option ℕ)) (sides : List SeenPass) (output : List ℕ) (last : Option Caller)
     (was : OrderedSoFar heap terms tag lines i numbers sides output last) (past : length lines ≤ i)
-    (ts : List SeenPass) (hear : AllHear last sides ts) (c : SeenPass)
+    (ts : List SeenPass) (hear : AllHeedInTurn last sides ts) (c : SeenPass)
     (m : HasMet heap terms c (tales_told ts) (orders_of ts)) where
   abbrev tellers : List ℕ
   tellers = adding_passes (take i lines) was.so_far.answers
@@ -53,7 +53,7 @@ module _ (heap : Option Heap) (terms : RunTerms) (tag : Option ℕ) (lines : Lis
   all_heard : (history : List Entry) → Each (Before history) c.orders → AllHeard history tellers
   all_heard history each = go sides ts hear m.carries.2 m.heard
     where
-      go : (ss ts : List SeenPass) → AllHear last ss ts → tale_told c ≡ tales_told ts
+      go : (ss ts : List SeenPass) → AllHeedInTurn last ss ts → tale_told c ≡ tales_told ts
           → KeepsOrders (orders_of ts) c.orders → AllHeard history tellers
       go ss [] h tale keeps =
           absurd (let z : record { pass = c.pass; log = c.part.log } ∷ c.told ≡ [] = tale in cc)

@@ -18,7 +18,7 @@ use Rattle.script_calls.specs.Receipts.{MayHeed, SideHeeded}
 use Rattle.script_calls.specs.Calls.{LeaveAnswers}
 use Rattle.script_calls.specs.Meeting.{JoinsParts, EndsAmong, EndedAmong, HasEnded, CarriesEnd, parts_carried}
 use Rattle.script_calls.specs.Alone.{AnsweredSoFar}
-use Rattle.script_calls.specs.Hearing.{AllHear}
+use Rattle.script_calls.specs.Hearing.{AllHeedInTurn}
 use Rattle.script_calls.proofs.ListLemmas.{get_some, map_more}
 
 -- ---- leaving
@@ -112,7 +112,7 @@ at_all P (y ∷ ys) (suc k) x e h = at_all P ys k x e (All-tail P y ys h)
 pub parts_ended : (heap : Option Heap) (terms : RunTerms) (tag : Option ℕ) (lines : List CallLine) (i : ℕ)
     (numbers : List (Option ℕ)) (sides : List SeenPass) (output : List ℕ)
     (h : AnsweredSoFar heap terms tag lines i numbers sides output) (last : Option Caller) (ts : List SeenPass)
-    → AllHear last sides ts → (c : SeenPass) → All (HasEnded c) ts → (p : ℕ) → p < terms.shape.passes
+    → AllHeedInTurn last sides ts → (c : SeenPass) → All (HasEnded c) ts → (p : ℕ) → p < terms.shape.passes
     → EndedAmong (parts_carried c) p (h.run.parts p)
 parts_ended heap terms tag lines i numbers sides output h last ts hear c all p lt =
     let many : length sides ≡ terms.shape.passes = h.all in

@@ -25,7 +25,8 @@ use Rattle.script_calls.specs.Receipts.{SeenReceipt, seen_of_receipt, receipt_se
 use Rattle.script_calls.specs.Receipts.{MayHeed, HasOrderedTale}
 use Rattle.script_calls.specs.Meeting.{AllOfHeap, KeepsOrders}
 use Rattle.script_calls.specs.Alone.{HeedsLast, IsLastOf}
-use Rattle.script_calls.specs.Hearing.{HearsReceipt, Hears, AllHear, AreInHistory, KnowsReceipt, LastKnows, HeardSoFar}
+use Rattle.script_calls.specs.Hearing.{CoversReceipt, HeedsInTurn, AllHeedInTurn, AreInHistory, KnowsReceipt, LastKnows}
+use Rattle.script_calls.specs.Hearing.{HeardSoFar}
 use Rattle.script_calls.proofs.EndLaws.{side_heeds}
 use Rattle.script_calls.proofs.ListLemmas.{get_some, get_snoc, take_at, take_past}
 use Rattle.script_calls.proofs.NameLemmas.{heeds_keeps, heeded_order, may_log}
@@ -113,7 +114,7 @@ module _ (heap : Option Heap) (terms : RunTerms) (first : Option Caller) (ss : L
         (ap (λ (z : SeenPass). z.heap) only ∙ of.0, ap (λ (z : SeenPass). z.terms) only ∙ of.1)
 
     covered : (first last : Option Caller) → LastKnows first (take n ss) last → HeedsLast last side mid
-        → HearsReceipt first side mid
+        → CoversReceipt first side mid
     covered None last k e = tt
     covered (Some q) None k e = absurd (none-some q (sym k.0))
     covered (Some q) (Some r) k e = (
@@ -121,7 +122,7 @@ module _ (heap : Option Heap) (terms : RunTerms) (first : Option Caller) (ss : L
       λ o c. heeded_old r side mid e o (k.0.1 o c),
     )
 
-    hears : Hears first side mid
+    hears : HeedsInTurn first side mid
     hears = record {
       is = orders_only last side mid heeds;
       heeds = may_heed last side mid heeds;
@@ -146,7 +147,7 @@ module _ (heap : Option Heap) (terms : RunTerms) (first : Option Caller) (ss : L
         (λ (e : (p ≡ length (take n ss)) × (side ≡ s)). subst P e.1 here)
         (get_snoc (take n ss) side s p (subst (λ (z : List SeenPass). slice_get z p ≡ Some s) more at))
 
-    knows_first : (first : Option Caller) → HearsReceipt first side mid → (r : Caller)
+    knows_first : (first : Option Caller) → CoversReceipt first side mid → (r : Caller)
         → seen_of_receipt r ≡ receipt_seen mid → KnowsReceipt first r
     knows_first None covers r tells = tt
     knows_first (Some q) covers r tells = (
@@ -197,12 +198,12 @@ module _ (heap : Option Heap) (terms : RunTerms) (first : Option Caller) (ss : L
     }
       where
         here : (p : ℕ) (s t : SeenPass) → p ≡ n → slice_get ss p ≡ Some s → slice_get (set ts n mid) p ≡ Some t
-            → Hears first s t
+            → HeedsInTurn first s t
         here p s t is e g =
             let its : side ≡ s = same_Some side s (sym side_at ∙ (ap (slice_get ss) (sym is) ∙ e)) in
             let now : mid ≡ t = same_Some mid t (sym (get_set_here ts n side mid at)
             ∙ (ap (slice_get (set ts n mid)) (sym is) ∙ g)) in
-            let H : SeenPass × SeenPass → Type 0 = λ z. Hears first z.0 z.1 in
+            let H : SeenPass × SeenPass → Type 0 = λ z. HeedsInTurn first z.0 z.1 in
             subst H (λ j. (its j, now j)) hears
 
 -- ---- the beginning and the end
@@ -224,7 +225,7 @@ hearing_begins heap terms first ss of = record {
 
 pub hearing_ends : (heap : Option Heap) (terms : RunTerms) (first : Option Caller) (ss : List SeenPass) (n : ℕ)
     (ts : List SeenPass) (last : Option Caller) → length ss ≤ n → HeardSoFar heap terms first ss n ts last
-    → AllHear first ss ts
+    → AllHeedInTurn first ss ts
 hearing_ends heap terms first ss n ts last past was = record {
   all = was.all;
   each = λ p s t e f. let inside = slice_get_within ss p s e in was.done p s t (omega (arith, inside, past)) e f;

@@ -18,7 +18,7 @@ use Rattle.script_calls.specs.Runs.{CallsRun, LineAnswered, LinesAnswered, openi
 use Rattle.script_calls.specs.Runs.{with_number}
 use Rattle.script_calls.specs.Runs.{number_meant}
 use Rattle.script_calls.specs.Receipts.{MayHeed, part_heard}
-use Rattle.script_calls.specs.Hearing.{AllHear, AreInHistory}
+use Rattle.script_calls.specs.Hearing.{AllHeedInTurn, AreInHistory}
 use Rattle.script_calls.specs.Stepping.{StepsInTurn}
 use Rattle.script_calls.specs.Told.{AreReplies, part_told}
 use Rattle.script_calls.specs.Meeting.{HasMet, HasEnded, SomeWaits, tales_told, AllOfHeap, orders_of}
@@ -209,7 +209,7 @@ tale_of_parts heap terms tag lines i numbers sides output h = sym (bare_tales si
 carrier_ran : (alone : Bool) (heap : Option Heap) (terms : RunTerms) (tag : Option ℕ) (lines : List CallLine) (i : ℕ)
     (numbers : List (Option ℕ)) (sides : List SeenPass) (output : List ℕ) (c : SeenPass) (last : Option Caller)
     (ts : List SeenPass) → length lines ≤ i → All (λ (l : CallLine). l.pass < terms.shape.passes) lines
-    → (h : AnsweredSoFar heap terms tag lines i numbers sides output) → AllHear last sides ts
+    → (h : AnsweredSoFar heap terms tag lines i numbers sides output) → AllHeedInTurn last sides ts
     → (alone ≡ true → IsOrderedBy terms lines h.answers c × StepsInTurn c.orders heap terms tag lines h.answers h.run)
     → HasMet heap terms c (tales_told ts) (orders_of ts) → All (HasEnded c) ts
     → CarrierRan alone heap terms tag lines output c
@@ -255,7 +255,7 @@ none_met seen f (Some s) h = h
 module _ (heap : Option Heap) (terms : RunTerms) (tag : Option ℕ) (lines : List CallLine) (i : ℕ)
     (numbers : List (Option ℕ)) (sides : List SeenPass) (output : List ℕ) (last : Option Caller) (ts : List SeenPass)
     (past : length lines ≤ i) (h : AnsweredSoFar heap terms tag lines i numbers sides output)
-    (hear : AllHear last sides ts) (told : (sides ≡ []) ⊎ AreInHistory terms sides) where
+    (hear : AllHeedInTurn last sides ts) (told : (sides ≡ []) ⊎ AreInHistory terms sides) where
   -- the leave of this pass was refused
   waits_so : SomeWaits ts → AreWaiting heap terms tag lines output
   waits_so o =
@@ -296,7 +296,7 @@ pub lines_ran : {S : Type 0} (seen : S → SeenPass) (alone : Bool) (heap : Opti
     (tag : Option ℕ) (lines : List CallLine) (i : ℕ) (numbers : List (Option ℕ)) (sides : List SeenPass)
     (output : List ℕ) (carrier : Option S) (last : Option Caller) (ts : List SeenPass) → length lines ≤ i
     → All (λ (l : CallLine). l.pass < terms.shape.passes) lines
-    → (h : AnsweredSoFar heap terms tag lines i numbers sides output) → AllHear last sides ts
+    → (h : AnsweredSoFar heap terms tag lines i numbers sides output) → AllHeedInTurn last sides ts
     → (sides ≡ []) ⊎ AreInHistory terms sides
     → ((c : SeenPass) → HasMet heap terms c (tales_told ts) (orders_of ts) → alone ≡ true
     → IsOrderedBy terms lines h.answers c × StepsInTurn c.orders heap terms tag lines h.answers h.run)

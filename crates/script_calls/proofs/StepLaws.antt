@@ -15,7 +15,7 @@ use Rattle.script_calls.specs.Parts.{RunTerms, PassPart, SeenPass, SamePass}
 use Rattle.script_calls.specs.Runs.{CallsRun, LineAnswered, opening_calls, with_part, next_run}
 use Rattle.script_calls.specs.Receipts.{SeenReceipt, seen_of_receipt, receipt_seen, order_seen, part_heard}
 use Rattle.script_calls.specs.Alone.{AnsweredSoFar, HeedsLast, seen_with_part}
-use Rattle.script_calls.specs.Hearing.{AllHear, HearsReceipt}
+use Rattle.script_calls.specs.Hearing.{AllHeedInTurn, CoversReceipt}
 use Rattle.script_calls.specs.Meeting.{KeepsOrders, orders_of}
 use Rattle.script_calls.specs.Stepping.{HeardOfSteps, LinesHeard, StepsInTurn, LastHasSteps}
 use Rattle.script_calls.proofs.HeardAll.{heard_orders}
@@ -177,7 +177,7 @@ pub steps_in_turn : (heap : Option Heap) (terms : RunTerms) (tag : Option ℕ) (
     (numbers : List (Option ℕ)) (sides : List SeenPass) (output : List ℕ) (last : Option Caller)
     (was : AnsweredSoFar heap terms tag lines i numbers sides output) → length lines ≤ i
     → LinesHeard (orders_of sides) terms tag (opening_calls heap) (take i lines) was.answers was.run
-    → LastHasSteps was.run.parts last → (ts : List SeenPass) → AllHear last sides ts → (orders : List Order)
+    → LastHasSteps was.run.parts last → (ts : List SeenPass) → AllHeedInTurn last sides ts → (orders : List Order)
     → KeepsOrders (orders_of ts) orders → StepsInTurn orders heap terms tag lines was.answers was.run
 steps_in_turn heap terms tag lines i numbers sides output last was past heard steps ts hear orders keeps = (
   lines_kept (orders_of sides) orders terms tag (opening_calls heap) lines was.answers was.run
@@ -198,7 +198,7 @@ steps_in_turn heap terms tag lines i numbers sides output last was past heard st
       go last steps s.0 t.0 h.covers (ap (λ (z : SeenPass). z.pass) is)
       (ap (λ (z : SeenPass). steps_of z.part.stands) is) there
     where
-      go : (last : Option Caller) → LastHasSteps was.run.parts last → (s t : SeenPass) → HearsReceipt last s t
+      go : (last : Option Caller) → LastHasSteps was.run.parts last → (s t : SeenPass) → CoversReceipt last s t
           → s.pass ≡ p → steps_of s.part.stands ≡ steps_of (was.run.parts p).stands → KeepsOrders t.orders orders
           → HeardOfSteps orders was.run.parts p
       go None e s t covers pass own there q some = absurd (let none = e q in omega (arith, none, some))

@@ -13,22 +13,22 @@ use Rattle.script_calls.specs.Alone.{IsLastOf}
 use Rattle.script_calls.specs.Meeting.{KeepsOrders}
 
 -- the pass heard of all that the receipt contains, if there is one
-abbrev pub HearsReceipt : Option Caller → SeenPass → SeenPass → Type 0
-HearsReceipt None s t = Unit {0}
-HearsReceipt (Some r) s t = ((h : Heard) → Contains (seen_of_receipt r).heard h → Contains t.orders (order_seen s h))
+abbrev pub CoversReceipt : Option Caller → SeenPass → SeenPass → Type 0
+CoversReceipt None s t = Unit {0}
+CoversReceipt (Some r) s t = ((h : Heard) → Contains (seen_of_receipt r).heard h → Contains t.orders (order_seen s h))
     × KeepsOrders (seen_of_receipt r).orders t.orders
 
 -- the same, and the pass may have heeded one receipt, but is otherwise as it was
-pub record Hears (last : Option Caller) (s t : SeenPass) : Type 0 where
+pub record HeedsInTurn (last : Option Caller) (s t : SeenPass) : Type 0 where
   pub is : t ≡ record s { part = t.part; orders = t.orders }
   pub heeds : MayHeed s.part t.part
   pub keeps : KeepsOrders s.orders t.orders
-  pub covers : HearsReceipt last s t
+  pub covers : CoversReceipt last s t
 
 -- each of these passes heard of the receipt
-pub record AllHear (last : Option Caller) (ss ts : List SeenPass) : Type 0 where
+pub record AllHeedInTurn (last : Option Caller) (ss ts : List SeenPass) : Type 0 where
   pub all : length ts ≡ length ss
-  pub each : (p : ℕ) (s t : SeenPass) → slice_get ss p ≡ Some s → slice_get ts p ≡ Some t → Hears last s t
+  pub each : (p : ℕ) (s t : SeenPass) → slice_get ss p ≡ Some s → slice_get ts p ≡ Some t → HeedsInTurn last s t
 
 -- there is one legal history in which the first entries of each of these passes are its own, in order
 pub record AreInHistory (terms : RunTerms) (ss : List SeenPass) : Type 0 where
@@ -54,7 +54,8 @@ LastKnows first ss (Some r) = KnowsReceipt first r
 pub record HeardSoFar (heap : Option Heap) (terms : RunTerms) (first : Option Caller) (ss : List SeenPass) (n : ℕ)
     (ts : List SeenPass) (last : Option Caller) : Type 0 where
   pub all : length ts ≡ length ss
-  pub done : (p : ℕ) (s t : SeenPass) → p < n → slice_get ss p ≡ Some s → slice_get ts p ≡ Some t → Hears first s t
+  pub done : (p : ℕ) (s t : SeenPass) → p < n → slice_get ss p ≡ Some s → slice_get ts p ≡ Some t
+      → HeedsInTurn first s t
   pub left : (p : ℕ) (s t : SeenPass) → n ≤ p → slice_get ss p ≡ Some s → slice_get ts p ≡ Some t → t ≡ s
   pub of : IsLastOf heap last
   pub knows : LastKnows first (take n ss) last

@@ -7,7 +7,7 @@ ghost use Rattle.script_output.specs.Keys.{HasTagRoom};
 ghost use Rattle.script_calls.specs.Parts.{RunTerms, new_passes};
 ghost use Rattle.script_calls.specs.Finished.{heap_seen, terms_seen, AreAllNew, LinesRan};
 
-use crate::hearing::{all_hear, heed_last};
+use crate::hearing::{heed_in_turn, heed_last};
 use crate::line::{answered, number_meant};
 use crate::meeting::met;
 use crate::reporting::{NoRoom, tell};
@@ -44,7 +44,7 @@ fn lines_in_turn<S: Side>(
         last = Some(side.receipt());
         tell(&mut output, &mut numbers, line, &answer)?;
     }
-    Ok((output, met(all_hear(sides, last))))
+    Ok((output, met(heed_in_turn(sides, last))))
 }
 
 /// Runs the lines in their order, each with a receipt of the line before. Then all passes hear of all lines, all owners

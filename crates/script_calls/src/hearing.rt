@@ -3,7 +3,7 @@ ghost use Rattle.std.specs.Prelude.{◌≡◌, ◌⊎◌, [], Option, map};
 ghost use Rattle.sh_pass.specs.Seats.{Heap};
 ghost use Rattle.script_calls.specs.Parts.{RunTerms};
 ghost use Rattle.script_calls.specs.Alone.{IsLastOf, HeedsLast};
-ghost use Rattle.script_calls.specs.Hearing.{AllHear, AreInHistory};
+ghost use Rattle.script_calls.specs.Hearing.{AllHeedInTurn, AreInHistory};
 ghost use Rattle.script_calls.specs.Meeting.{AllOfHeap};
 
 use crate::side::Side;
@@ -22,11 +22,11 @@ pub fn heed_last<S: Side>(side: &mut S, last: Option<Receipt>)
 /// The sides, each of which has heeded a receipt of the side before, and the first one this receipt. So what each does
 /// to leave its shard comes after all that the receipt contains. And the last side has heard of all others: one legal
 /// history has what was returned to each of them.
-pub fn all_hear<S: Side>(sides: Vec<S>, last: Option<Receipt>) -> Vec<S>
+pub fn heed_in_turn<S: Side>(sides: Vec<S>, last: Option<Receipt>) -> Vec<S>
     ghost at: { Option Heap × RunTerms }
     requires of { AllOfHeap at.0 at.1 (map S.seen sides.items) }
     requires last { IsLastOf at.0 last }
-    ensures hear { AllHear last (map S.seen sides.items) (map S.seen result.items) }
+    ensures hear { AllHeedInTurn last (map S.seen sides.items) (map S.seen result.items) }
     ensures told { (map S.seen sides.items ≡ []) ⊎ AreInHistory at.1 (map S.seen sides.items) }
 {
     let count = sides.len();

@@ -94,9 +94,9 @@ key_of run (reference.Key number) = ok_or (key_shown run.tag number) (answer.Ref
 key_of run (reference.Name i) = bound_key (slice_get run.keys i)
 
 -- the call on a key has this reply, whose entry the store gains
-abbrev pub Tells : {A : Type 0} → (Plain → ℕ → PlainReply A) → Run → Result ℕ Answer → Answer → Run → Type 0
-Tells reply run (Err a) told next = (told ≡ a) × (next ≡ run)
-Tells reply run (Ok key) told next =
+abbrev pub HasReply : {A : Type 0} → (Plain → ℕ → PlainReply A) → Run → Result ℕ Answer → Answer → Run → Type 0
+HasReply reply run (Err a) told next = (told ≡ a) × (next ≡ run)
+HasReply reply run (Ok key) told next =
     (told ≡ done_answer (reply run.store key).answer)
     × (next ≡ record run { store = with_added run.store (reply run.store key).adds })
 
@@ -115,10 +115,10 @@ abbrev pub CallDoes : Layout → Run → Call → Answer → Run → Type 0
 CallDoes layout run (call.Adopt shard) told next = (told ≡ adopt_answer run shard) × (next ≡ adopts run shard)
 CallDoes layout run (call.Insert words) told next = Inserts layout run words told next
 CallDoes layout run call.Leave told next = (told ≡ leave_answer run) × (next ≡ leaves run)
-CallDoes layout run (call.Get r) told next = Tells (get_reply layout) run (key_of run r) told next
+CallDoes layout run (call.Get r) told next = HasReply (get_reply layout) run (key_of run r) told next
 CallDoes layout run (call.Read r) told next = Reads run (key_of run r) told next
-CallDoes layout run (call.Remove r) told next = Tells (remove_reply layout) run (key_of run r) told next
-CallDoes layout run (call.Release r) told next = Tells release_reply run (key_of run r) told next
+CallDoes layout run (call.Remove r) told next = HasReply (remove_reply layout) run (key_of run r) told next
+CallDoes layout run (call.Release r) told next = HasReply release_reply run (key_of run r) told next
 CallDoes layout run call.Post told next = (told ≡ answer.Done) × (next ≡ record run { keys = run.keys ++ None ∷ [] })
 CallDoes layout run (call.Wait name) told next = (told ≡ answer.Done) × (next ≡ run)
 

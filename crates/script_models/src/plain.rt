@@ -6,7 +6,7 @@ ghost use Rattle.sh_plain.specs.Plain.{Plain, PlainReply, Replied, with_added, g
 ghost use Rattle.script_output.specs.Keys.{HasTagRoom};
 ghost use Rattle.script_models.specs.PlainRun.{run_of, at_turn, has_shard, adopt_answer, adopts, opening_run};
 ghost use Rattle.script_models.specs.PlainRun.{leave_answer};
-ghost use Rattle.script_models.specs.PlainRun.{leaves, insert_attempt, Inserts, key_of, done_answer, Tells, MayEnd};
+ghost use Rattle.script_models.specs.PlainRun.{leaves, insert_attempt, Inserts, key_of, done_answer, HasReply, MayEnd};
 ghost use Rattle.script_models.specs.PlainRun.{Reads};
 ghost use Rattle.script_models.specs.PlainRun.{EndsAt, TakesLine};
 
@@ -194,7 +194,7 @@ impl<L: KeyLayout> PlainRun<L> {
     }
 
     fn get(&mut self, reference: Reference) -> Result<Answer, Fault>
-        ensures tells { IfOk result (λ answer. Tells (get_reply L.layout)
+        ensures tells { IfOk result (λ answer. HasReply (get_reply L.layout)
             (run_of self.old.shards self.old.tag self.old.store self.old.owners self.old.keys.items)
             (key_of (run_of self.old.shards self.old.tag self.old.store self.old.owners self.old.keys.items) reference)
             answer
@@ -230,7 +230,7 @@ impl<L: KeyLayout> PlainRun<L> {
     }
 
     fn remove(&mut self, reference: Reference) -> Result<Answer, Fault>
-        ensures tells { IfOk result (λ answer. Tells (remove_reply L.layout)
+        ensures tells { IfOk result (λ answer. HasReply (remove_reply L.layout)
             (run_of self.old.shards self.old.tag self.old.store self.old.owners self.old.keys.items)
             (key_of (run_of self.old.shards self.old.tag self.old.store self.old.owners self.old.keys.items) reference)
             answer
@@ -249,7 +249,7 @@ impl<L: KeyLayout> PlainRun<L> {
     }
 
     fn release(&mut self, reference: Reference) -> Result<Answer, Fault>
-        ensures tells { IfOk result (λ answer. Tells release_reply
+        ensures tells { IfOk result (λ answer. HasReply release_reply
             (run_of self.old.shards self.old.tag self.old.store self.old.owners self.old.keys.items)
             (key_of (run_of self.old.shards self.old.tag self.old.store self.old.owners self.old.keys.items) reference)
             answer

@@ -15,7 +15,7 @@ use crate::merge::merged;
 use crate::room::Room;
 use crate::run::run_all;
 use crate::worker::{Shared, Worker};
-use script_calls::hearing::all_hear;
+use script_calls::hearing::heed_in_turn;
 use script_calls::line::binds;
 use script_calls::meeting::met;
 use script_calls::side::Side;
@@ -100,7 +100,7 @@ fn played<S: Side + Send, B: Room + Send + Sync, R: Threads + Wait + Sync, G: Ga
     let workers = run_all(rt, &shared, workers)?;
     let ended = all_ended(empty, workers, lines.len())?;
     let (output, sides) = merged::<S, B>(alloc, lines, ended)?;
-    Ok((output, met(all_hear(sides, None))))
+    Ok((output, met(heed_in_turn(sides, None))))
 }
 
 /// Runs each pass's lines in a thread of its own, in the order of the script. A line that uses a name waits until it is

@@ -84,8 +84,8 @@ loop-line-preserved g c =
     c.answered-answer.ensures.same a room (subst D bound c.answered-answer.ensures.does) stands
     c.tell.new.numbers.items _ c.tell.new.output.items c.receipt.result named put printed c.receipt.ensures.tells
 
-pub all_hear-requires : goal.all_hear-requires
-all_hear-requires g c κs within = (
+pub heed_in_turn-requires : goal.heed_in_turn-requires
+heed_in_turn-requires g c κs within = (
   within,
   (
     all_are g.at.0 g.at.1 c.args.tag c.args.lines.now c.loop-line.line-index c.loop-line.numbers.items
@@ -97,8 +97,8 @@ all_hear-requires g c κs within = (
 pub met-requires : goal.met-requires
 met-requires g c κs within =
     let sides = map g.S.Side.seen c.loop-line.sides.items in
-    let ts = map g.S.Side.seen c.all_hear.result.items in
-    let hear = c.all_hear.ensures.hear in (
+    let ts = map g.S.Side.seen c.heed_in_turn.result.items in
+    let hear = c.heed_in_turn.ensures.hear in (
       within,
       (
         heard_of_heap c.loop-line.last g.at.0 g.at.1 sides ts hear (all_are g.at.0 g.at.1 c.args.tag c.args.lines.now
@@ -114,14 +114,14 @@ pub returns : goal.returns
 returns g c =
     let seen = g.S.Side.seen in
     let sides = map seen c.loop-line.sides.items in
-    let ts = map seen c.all_hear.result.items in
-    let hear = c.all_hear.ensures.hear in
+    let ts = map seen c.heed_in_turn.result.items in
+    let hear = c.heed_in_turn.ensures.hear in
     let past : length c.args.lines.now ≤ c.loop-line.line-index = search rules in
     let fits : All (λ (l : CallLine). l.pass < g.at.1.shape.passes) c.args.lines.now = search rules in
     record {
       ran = lines_ran seen true g.at.0 g.at.1 c.args.tag c.args.lines.now c.loop-line.line-index
           c.loop-line.numbers.items sides c.loop-line.output.items c.met.result c.loop-line.last ts past fits
-          c.loop-line.invariant.so_far hear c.all_hear.ensures.told
+          c.loop-line.invariant.so_far hear c.heed_in_turn.ensures.told
           (λ s m e. (
             ordered_by g.at.0 g.at.1 c.args.tag c.args.lines.now c.loop-line.line-index c.loop-line.numbers.items sides
                 c.loop-line.output.items c.loop-line.last c.loop-line.invariant past ts hear s m,

@@ -2,8 +2,8 @@ use Rattle.std.proofs.Common.{map}
 use Rattle.script_calls.specs.Alone.{OrderedSoFar}
 use Rattle.script_calls.proofs.alone.lines_in_turn.Given as goal
 
-abbrev pub ghost-all_hear : goal.ghost-all_hear
-ghost-all_hear g a = g.at
+abbrev pub ghost-heed_in_turn : goal.ghost-heed_in_turn
+ghost-heed_in_turn g a = g.at
 
 abbrev pub ghost-met : goal.ghost-met
 ghost-met g a = g.at

@@ -25,8 +25,8 @@ all_ended-requires-clause-space g c =
       omega (arith, sides, workers, long, wide, empty.rests.1, count),
     )
 
-pub all_hear-requires : goal.all_hear-requires
-all_hear-requires g c κs within =
+pub heed_in_turn-requires : goal.heed_in_turn-requires
+heed_in_turn-requires g c κs within =
     let room = g.B.Room in
     let lines = c.args.lines.now in
     let sides = map g.S.Side.seen c.in_ok-output.sides.items in
@@ -44,8 +44,8 @@ met-requires g c κs within =
     let room = g.B.Room in
     let lines = c.args.lines.now in
     let sides = map g.S.Side.seen c.in_ok-output.sides.items in
-    let ts = map g.S.Side.seen c.all_hear.result.items in
-    let hear = c.all_hear.ensures.hear in
+    let ts = map g.S.Side.seen c.heed_in_turn.result.items in
+    let hear = c.heed_in_turn.ensures.hear in
     let output = c.in_ok-output.output.items in
     let answered = c.in_ok-output.ensures.answered in (
       within,
@@ -63,12 +63,12 @@ returns-clause-ran g c =
     let seen = g.S.Side.seen in
     let lines = c.args.lines.now in
     let sides = map seen c.in_ok-output.sides.items in
-    let ts = map seen c.all_hear.result.items in
+    let ts = map seen c.heed_in_turn.result.items in
     let output = c.in_ok-output.output.items in
     let answered = c.in_ok-output.ensures.answered in
     let past : length lines ≤ length lines = omega arith in
     let R : Option ℕ → Type 0 = λ tag. LinesRan false room.heap room.terms tag lines output
     (option_map seen c.met.result) in
     subst R (sym c.requires.tag) (lines_ran seen false room.heap room.terms room.tag lines (length lines) answered.0
-    sides output c.met.result None ts past c.requires.passes answered.1 c.all_hear.ensures.hear
-    c.all_hear.ensures.told (λ s m. no_bool) c.met.ensures.met c.met.ensures.ended c.met.ensures.stays)
+    sides output c.met.result None ts past c.requires.passes answered.1 c.heed_in_turn.ensures.hear
+    c.heed_in_turn.ensures.told (λ s m. no_bool) c.met.ensures.met c.met.ensures.ended c.met.ensures.stays)
