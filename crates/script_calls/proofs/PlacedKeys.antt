@@ -9,7 +9,7 @@ use Rattle.sh_pass.specs.Shape.{Numbers}
 use Rattle.sh_pass.specs.Places.{pages_of, page_number}
 use Rattle.sh_pass.specs.KeyRef.{KeyRef}
 use Rattle.sh_pass.specs.Moves.{has_place, place_named}
-use Rattle.sh_pass.specs.Plans.{plan_of, home}
+use Rattle.sh_pass.specs.Plans.{plan_of, shard_of}
 use Rattle.sh_pass.proofs.NameLaws.{no_key, no_place, a_place}
 use Rattle.sh_pass.proofs.OwnMay.{home_is}
 use Rattle.script_calls.specs.Parts.{is_placed_key, is_key_of_shard}
@@ -70,7 +70,7 @@ both_of true false c e = absurd (let z : false ≡ true = e in cc)
 both_of false b c e = absurd (let z : false ≡ true = e in cc)
 
 pub of_shard : (layout : Layout) (shape : Numbers) (key n : ℕ) (x : KeyRef)
-    → place_named (plan_of layout shape) key ≡ Some x → home (plan_of layout shape) x.page ≡ n
+    → place_named (plan_of layout shape) key ≡ Some x → shard_of (plan_of layout shape) x.page ≡ n
     → is_key_of_shard layout (Some n) key ≡ true
 of_shard layout shape key n x e h = go (unpacked layout key) refl
   where
@@ -81,7 +81,7 @@ of_shard layout shape key n x e h = go (unpacked layout key) refl
         let few : p.page < pages_of shape = ltb-true p.page (pages_of shape)
         (both_of (nat_lt p.shard shape.shards) (nat_lt p.page (pages_of shape)) (nat_lt p.slot 48) inside) in
         sym (home_is (plan_of layout shape) p.shard p.page few) ∙
-        (ap (λ (z : KeyRef). home (plan_of layout shape) z.page) same ∙ h)
+        (ap (λ (z : KeyRef). shard_of (plan_of layout shape) z.page) same ∙ h)
 
     inside_or_not : (p : Parts) → unpacked layout key ≡ Some p → (b : Bool) → has_place shape p ≡ b
         → is_key_of_shard layout (Some n) key ≡ true

@@ -12,7 +12,7 @@ use Rattle.sh_core.specs.Body.{Body}
 use Rattle.sh_core.specs.Collections.{noted}
 use Rattle.sh_core.specs.Event.{Event}
 use Rattle.sh_core.specs.Places.{pages_of, page_number as number_of}
-use Rattle.sh_core.specs.Plans.{Plan, plan_of, home, page_number}
+use Rattle.sh_core.specs.Plans.{Plan, plan_of, shard_of, page_number}
 use Rattle.sh_core.specs.Refines.{OwnPartIsValid}
 use Rattle.sh_core.specs.Rows.{own, owned_by}
 use Rattle.sh_core.specs.Trails.{trail_of}
@@ -222,10 +222,10 @@ module _ (layout : Layout) (shape : Numbers) (la : IsLayout layout) (ls : IsShap
         let q : ℕ = n.pages.shard * fresh_plan.pages + p in
         let inside : p < n.pages.count = (let count = owner.count in let e = pages in omega (arith, below, count, e)) in
         let bare : BarePage (page_at n.pages p) = owner.pages p inside in
-        let home_is : home fresh_plan q ≡ n.pages.shard = ap (home fresh_plan) (sym (number_is p))
+        let home_is : shard_of fresh_plan q ≡ n.pages.shard = ap (shard_of fresh_plan) (sym (number_is p))
         ∙ home_number fresh_plan n.pages.shard p below in
         let mine : own fresh_plan owner_body q ≡ true = subst (λ (z : Option ℕ). owned_by fresh_plan z q ≡ true)
-        (sym owned) (eq-eqb n.pages.shard (home fresh_plan q) (sym home_is)) in
+        (sym owned) (eq-eqb n.pages.shard (shard_of fresh_plan q) (sym home_is)) in
         let word : adopt_world.words.class_at q ≡ bare.word = notes_stand.notes q bare.word mine
         (subst (λ (z : ℕ). noted z owner_body.classes ≡ Some bare.word) (page_is p) bare.class) in
         not_blank p inside (bare.class ∙ ap (λ (z : ℕ). Some z) (sym word ∙ none))

@@ -16,7 +16,7 @@ use Rattle.sh_core.specs.SlotRef.{SlotRef}
 use Rattle.sh_core.specs.Slots.{same_slot, slot_ref_of}
 use Rattle.sh_core.specs.Moves.{place_named}
 use Rattle.sh_core.specs.Places.{pages_of}
-use Rattle.sh_core.specs.Plans.{Plan, plan_of, keys_of, heap_pages, home, page_number}
+use Rattle.sh_core.specs.Plans.{Plan, plan_of, keys_of, heap_pages, shard_of, page_number}
 use Rattle.sh_core.specs.Rows.{own, owned_by}
 use Rattle.sh_core.specs.Lists.{lists_of, mine_at, slots_under, state_of}
 use Rattle.sh_core.specs.Quiet.{Quiet}
@@ -125,7 +125,7 @@ module _ (layout : Layout) (shape : Numbers) (la : IsLayout layout) (ls : IsShap
 
   owns_page : (b : Body) → b.owned ≡ Some shard → (p : ℕ) → p < old_plan.pages → own old_plan b (its_page p) ≡ true
   owns_page b has_it p lt = subst (λ (z : Option ℕ). owned_by old_plan z (its_page p) ≡ true) (sym has_it)
-      (eq-eqb shard (home old_plan (its_page p)) (sym (home_number old_plan shard p lt)))
+      (eq-eqb shard (shard_of old_plan (its_page p)) (sym (home_number old_plan shard p lt)))
 
   -- ---- what the owner knew before the line
 

@@ -15,7 +15,7 @@ use Rattle.sh_core.specs.Body.{Body}
 use Rattle.sh_core.specs.Places.{pages_of}
 use Rattle.sh_core.specs.Collections.{has, noted}
 use Rattle.sh_core.specs.Slots.{same_slot}
-use Rattle.sh_core.specs.Plans.{Plan, plan_of, home, page_number}
+use Rattle.sh_core.specs.Plans.{Plan, plan_of, shard_of, page_number}
 use Rattle.sh_core.specs.Rows.{own, owned_by}
 use Rattle.sh_core.specs.Lists.{lists_of}
 use Rattle.sh_core.specs.Quiet.{Quiet}
@@ -91,7 +91,7 @@ module _ (layout : Layout) (shape : Numbers) (la : IsLayout layout) (ls : IsShap
 
     is_own : (p : ℕ) → p < room_plan.pages → own room_plan room_body (page p) ≡ true
     is_own p lt = subst (λ (z : Option ℕ). owned_by room_plan z (page p) ≡ true) (sym owned)
-        (eq-eqb n.shard (home room_plan (page p)) (sym (home_number room_plan n.shard p lt)))
+        (eq-eqb n.shard (shard_of room_plan (page p)) (sym (home_number room_plan n.shard p lt)))
 
     -- the owner knows the class word
     word : (p : ℕ) → p < room_plan.pages → (page_at n p).class ≡ Some (class_word room_plan room_world n.shard p)

@@ -3,11 +3,11 @@
 ghost use Rattle.std.specs.Prelude.{◌≡◌, true, position};
 ghost use Rattle.sh_shape.specs.declared.places.Place.TheVariants.{Class, Head, State, Link, Payload};
 ghost use Rattle.sh_shape.specs.Places.{IsPlace, pages_of};
-ghost use Rattle.sh_bell.specs.Bell.{home_of, local_of};
+ghost use Rattle.sh_bell.specs.Bell.{shard_of_page, local_of};
 ghost use Rattle.script_show.specs.Views.{IsViewOf, has_place, word_seen, payload_at, page_over_heap, owns};
 ghost use Rattle.script_show.specs.Views.{key_written};
 
-use sh_bell::{home_of, local_of};
+use sh_bell::{local_of, shard_of_page};
 use sh_core::World;
 use sh_history::Entry;
 use sh_key::{KeyLayout, Tagged};
@@ -130,9 +130,9 @@ impl<'a> View<'a> {
 
     /// The shard of a page.
     pub fn shard_of(&self, page: u64) -> u64
-        ensures { result ≡ home_of (pages_of self.now.shape) page }
+        ensures { result ≡ shard_of_page (pages_of self.now.shape) page }
     {
-        home_of(u64::from(self.shape.pages()), page)
+        shard_of_page(u64::from(self.shape.pages()), page)
     }
 
     /// The number of a page in its shard.

@@ -12,8 +12,8 @@ abbrev pub head_word : ℕ → ℕ
 head_word top = top * 2
 
 -- the shard of a page, and the page's number there, given the number of pages of a shard
-abbrev pub home_of : (pages page : ℕ) → ℕ
-home_of pages page = page / pages
+abbrev pub shard_of_page : (pages page : ℕ) → ℕ
+shard_of_page pages page = page / pages
 
 abbrev pub local_of : (pages page : ℕ) → ℕ
 local_of pages page = page % pages

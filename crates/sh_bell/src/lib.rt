@@ -9,4 +9,4 @@ pub mod head;
 pub mod pages;
 
 pub use head::{ARMED, head_word, is_armed, top_of};
-pub use pages::{home_of, local_of, named_over_heap};
+pub use pages::{local_of, named_over_heap, shard_of_page};

@@ -1,11 +1,11 @@
 //! Pages of a shard, by their numbers there and over the whole heap.
 ghost use Rattle.std.specs.Prelude.{◌≡◌, ◌^◌, ◌+◌, ◌*◌, ◌<◌};
-ghost use Rattle.sh_bell.specs.Bell.{home_of, local_of, named_over_heap};
+ghost use Rattle.sh_bell.specs.Bell.{shard_of_page, local_of, named_over_heap};
 
 /// The shard of a page, if each shard has `pages` pages.
-pub fn home_of(pages: u64, page: u64) -> u64
+pub fn shard_of_page(pages: u64, page: u64) -> u64
     requires { 0 < pages }
-    ensures { result ≡ home_of pages page }
+    ensures { result ≡ shard_of_page pages page }
 {
     page / pages
 }
@@ -37,7 +37,7 @@ mod tests {
 
     #[test]
     fn pages_of_the_second_shard(rt: HostRuntime) {
-        assert_eq!(rt; home_of(8, 11), 1);
+        assert_eq!(rt; shard_of_page(8, 11), 1);
         assert_eq!(rt; local_of(8, 11), 3);
         assert_eq!(rt; named_over_heap(8, 1, 1, 0), 0);
         assert_eq!(rt; named_over_heap(8, 1, 1, 4), 12);

@@ -6,7 +6,7 @@ use Rattle.std.proofs.lemmas.Bool.Decides.{nat_tests}
 use Rattle.sh_slots.specs.declared.hand.SlotRef.{SlotRef}
 use Rattle.sh_step.specs.declared.body.Body.{Body}
 use Rattle.sh_step.specs.Collections.{total}
-use Rattle.sh_step.specs.Plans.{Plan, plan_of, home}
+use Rattle.sh_step.specs.Plans.{Plan, plan_of, shard_of}
 use Rattle.sh_core.specs.Worlds.{World, run}
 use Rattle.sh_core.specs.Lists.{PutLists, times, lists_of, in_hand}
 use Rattle.sh_core.specs.Stacks.{top, link_to, slot_ref, ties_of}
@@ -85,7 +85,7 @@ module _ (plan : Plan) (w : World) (l : PutLists) (all : Refines plan w l) (quie
   left_on_stacks : LeftIsOnStacks plan w l
   unfolding total
   left_on_stacks x is free =
-      let nothing = all.left (home plan x.page) free in
+      let nothing = all.left (shard_of plan x.page) free in
       let no_mine = nothing.0 x refl in
       let chain = no_first (l.chain x.page)
       (λ s. sym (all.linked.0.cursors x.page s) ∙ nothing.1 x.page s refl) in

@@ -1,7 +1,7 @@
 -- The duty to ring for an armed page: a unit that moves from the flag to a pass, to the bell, to the bell's chain.
 use Rattle.std.specs.Prelude.{ℕ, ◌+◌, ◌%◌, ◌≡◌, ◌≤◌, ◌==◌, cond, List, Some, None}
 use Rattle.sh_slots.specs.declared.hand.Hand.TheVariants.{Tying, Ringing}
-use Rattle.sh_step.specs.Plans.{Plan, home}
+use Rattle.sh_step.specs.Plans.{Plan, shard_of}
 use Rattle.sh_step.specs.Collections.{total, if1}
 use Rattle.sh_step.specs.declared.body.Body.{Body}
 use Rattle.sh_core.specs.Lists.{PutLists, times}
@@ -21,4 +21,4 @@ Owned owner ps = (n : ℕ) → (owner n ≡ total (owns n) ps) × (owner n ≤ 1
 
 abbrev pub Duty : Plan → (ℕ → ℕ) → List Body → PutLists → Type 0
 Duty plan head ps l = (q : ℕ) → (total (armed_at q) ps ≡ head q % 2 + total (rings q) ps + times q
-    (l.bells (home plan q)) + times q (l.bell_chain (home plan q))) × (total (armed_at q) ps ≤ 1)
+    (l.bells (shard_of plan q)) + times q (l.bell_chain (shard_of plan q))) × (total (armed_at q) ps ≤ 1)

@@ -1,7 +1,7 @@
 -- What the links of stacks, chains and bells are, in words: it follows from the sums that are kept.
 use Rattle.std.specs.Prelude.{ℕ, ◌+◌, ◌≡◌, ◌<◌, ◌⊎◌, List, [], ◌∷◌}
 use Rattle.sh_step.specs.Collections.{total}
-use Rattle.sh_step.specs.Plans.{Plan, heap_pages, home}
+use Rattle.sh_step.specs.Plans.{Plan, heap_pages, shard_of}
 use Rattle.sh_core.specs.Lists.{PutLists, times}
 use Rattle.sh_core.specs.Stacks.{slot_ref, link_to, ties_of, ring_ties, bell_link}
 use Rattle.sh_core.specs.Worlds.{World}
@@ -21,5 +21,5 @@ pub record EachLinked (plan : Plan) (w : World) (l : PutLists) : Type 0 where
       (l.bells n)
   pub bell_chain : (n : ℕ) → LinksOn (bell_link plan w.words.page_link_at n) (λ q. total (ring_ties plan n q) w.parts)
       (l.bell_chain n)
-  pub home_pages : (n q : ℕ) → 0 < times q (l.bells n) + times q (l.bell_chain n) → (home plan q ≡ n)
+  pub home_pages : (n q : ℕ) → 0 < times q (l.bells n) + times q (l.bell_chain n) → (shard_of plan q ≡ n)
       × (q < heap_pages plan)

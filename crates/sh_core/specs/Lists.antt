@@ -9,7 +9,7 @@ use Rattle.sh_slots.specs.declared.hand.SlotRef.{SlotRef}
 use Rattle.sh_core.specs.declared.accounts.Accounts.{Accounts}
 use Rattle.sh_core.specs.Words.{put, read}
 use Rattle.sh_step.specs.Fields.{Fields, fields_of}
-use Rattle.sh_step.specs.Plans.{Plan, page_of, slot_of, home}
+use Rattle.sh_step.specs.Plans.{Plan, page_of, slot_of, shard_of}
 use Rattle.sh_shape.specs.Classes.{slots}
 use Rattle.sh_slots.specs.Slots.{same_slot, slot_refs}
 use Rattle.sh_step.specs.Collections.{total, if1}
@@ -46,7 +46,7 @@ listed plan p (Arm x) n l = taken l (page_of plan x)
 listed plan p (Follow x) n l = cond (n == 0) l (chain_followed l (page_of plan x))
 listed plan p Ring n l = elim (p.hand) [
   | Ringing q ↦ record l
-      { bells = put l.bells (home plan q) (q ∷ l.bells (home plan q)) }
+      { bells = put l.bells (shard_of plan q) (q ∷ l.bells (shard_of plan q)) }
   | _ ↦ l
 ]
 listed plan p TakeBell n l = elim (p.owned) [ Some k ↦ bells_taken l k | None ↦ l ]

@@ -14,7 +14,7 @@ use Rattle.sh_step.specs.declared.body.Body.{Body}
 use Rattle.sh_step.specs.declared.moves.Move.TheVariants as move
 use Rattle.sh_step.specs.Conditions.{May, page_name}
 use Rattle.sh_step.specs.Collections.{total}
-use Rattle.sh_step.specs.Plans.{Plan, plan_of, home}
+use Rattle.sh_step.specs.Plans.{Plan, plan_of, shard_of}
 use Rattle.sh_core.specs.Worlds.{World, run}
 use Rattle.sh_core.specs.Lists.{PutLists, times, state_of, lists_of, accounts}
 use Rattle.sh_core.specs.Stacks.{top, first_is, cursor_at}
@@ -54,7 +54,7 @@ NoneLost w l = (x : SlotRef) → IsEmptySlot w x
 
 -- each empty slot of a shard without an owner is in its page's stack list, once
 abbrev pub LeftIsOnStacks : Plan → World → PutLists → Type 0
-LeftIsOnStacks plan w l = (x : SlotRef) → IsEmptySlot w x → w.words.owner_at (home plan x.page) ≡ 0
+LeftIsOnStacks plan w l = (x : SlotRef) → IsEmptySlot w x → w.words.owner_at (shard_of plan x.page) ≡ 0
     → times x.slot (l.stack x.page) ≡ 1
 
 pub record LosesNothing (plan : Plan) (w : World) (l : PutLists) : Type 0 where

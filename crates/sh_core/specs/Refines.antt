@@ -15,7 +15,7 @@ use Rattle.sh_core.specs.Variants.{Table}
 use Rattle.sh_core.specs.InHeap.{StepsWithin, CountsFit, BellsAreSmall, ValuesFit, StoresWords, IssuesKeys}
 use Rattle.sh_slots.specs.declared.hand.Hand.TheVariants.{Idle, Filling}
 use Rattle.sh_slots.specs.Slots.{name_at}
-use Rattle.sh_step.specs.Plans.{plan_of, Plan, heap_pages, home}
+use Rattle.sh_step.specs.Plans.{plan_of, Plan, heap_pages, shard_of}
 use Rattle.sh_shape.specs.Classes.{class_count, slots, width}
 use Rattle.sh_slots.specs.Slots.{slot_ref_of}
 use Rattle.sh_step.specs.Collections.{total, if1, noted}
@@ -171,7 +171,7 @@ Finished plan w = (x : SlotRef) → (state_of w x).present ≡ true → (state_o
 -- another page has none
 abbrev pub Armed : Plan → World → PutLists → Type 0
 Armed plan w l = (q : ℕ) → (total (armed_at q) w.parts ≡ w.words.head_at q % 2 + total (rings q) w.parts + times q
-    (l.bells (home plan q)) + times q (l.bell_chain (home plan q))) × (total (armed_at q) w.parts ≤ 1)
+    (l.bells (shard_of plan q)) + times q (l.bell_chain (shard_of plan q))) × (total (armed_at q) w.parts ≤ 1)
 
 -- a shard's owner word is 1 if exactly one pass owns it, and 0 if none does
 pub record OneOwner (w : World) : Type 0 where
@@ -185,9 +185,9 @@ pub record OneOwner (w : World) : Type 0 where
 -- a shard without an owner has no cursor, no armed page and no slot in a pass's `mine`
 abbrev pub LeftEmpty : Plan → World → Type 0
 LeftEmpty plan w = (n : ℕ) → w.words.owner_at n ≡ 0
-    → ((x : SlotRef) → home plan x.page ≡ n → mine w x ≡ 0)
-    × ((q s : ℕ) → home plan q ≡ n → total (cursor_at q s) w.parts ≡ 0)
-    × ((q : ℕ) → home plan q ≡ n → total (armed_at q) w.parts ≡ 0)
+    → ((x : SlotRef) → shard_of plan x.page ≡ n → mine w x ≡ 0)
+    × ((q s : ℕ) → shard_of plan q ≡ n → total (cursor_at q s) w.parts ≡ 0)
+    × ((q : ℕ) → shard_of plan q ≡ n → total (armed_at q) w.parts ≡ 0)
 
 -- a pass that owns no shard has no slot, no cursor, no armed page and no bell cursor
 abbrev pub ShardlessHaveNothing : World → Type 0

@@ -2,7 +2,7 @@
 use Rattle.std.specs.Prelude.{ℕ, ◌+◌, ◌≡◌, ◌==◌, cond, not, ◌&&◌, List, [], ◌∷◌, Option, Some, None}
 use Rattle.sh_slots.specs.declared.hand.Hand.TheVariants.{Tying, RingTying}
 use Rattle.sh_slots.specs.declared.hand.SlotRef.{SlotRef}
-use Rattle.sh_step.specs.Plans.{Plan, home, over_heap}
+use Rattle.sh_step.specs.Plans.{Plan, shard_of, over_heap}
 use Rattle.sh_slots.specs.Slots.{same_slot}
 use Rattle.sh_step.specs.Collections.{total, if1}
 use Rattle.sh_step.specs.declared.body.Body.{Body}
@@ -52,12 +52,12 @@ cursor_at q s p = total (λ c. if1 ((c.0 == q) && (c.1 == s))) p.cursors
 -- the same for pages on the bell of shard n
 abbrev pub ring_tying : Plan → ℕ → ℕ → Body → ℕ
 ring_tying plan n q p = elim (p.hand) [
-  | RingTying k l ↦ cond ((n == home plan k) && (q == k)) (over_heap plan n 2 l) 0
+  | RingTying k l ↦ cond ((n == shard_of plan k) && (q == k)) (over_heap plan n 2 l) 0
   | _ ↦ 0
 ]
 
 abbrev pub ring_ties : Plan → ℕ → ℕ → Body → ℕ
-ring_ties plan n q p = elim (p.hand) [ RingTying k l ↦ if1 ((n == home plan k) && (q == k)) | _ ↦ 0 ]
+ring_ties plan n q p = elim (p.hand) [ RingTying k l ↦ if1 ((n == shard_of plan k) && (q == k)) | _ ↦ 0 ]
 
 abbrev pub is_at : Option ℕ → ℕ → ℕ
 is_at (Some j) q = if1 (j == q)
@@ -67,7 +67,7 @@ abbrev pub bell_cursor_at : ℕ → ℕ → Body → ℕ
 bell_cursor_at n q p = elim (p.owned) [ Some k ↦ cond (k == n) (is_at p.bell_cursor q) 0 | None ↦ 0 ]
 
 abbrev pub bell_link : Plan → (ℕ → ℕ) → ℕ → ℕ → ℕ
-bell_link plan f n q = cond (n == home plan q) (over_heap plan n 2 (f q)) 0
+bell_link plan f n q = cond (n == shard_of plan q) (over_heap plan n 2 (f q)) 0
 
 -- what the bell of shard n names
 abbrev pub bell_head : Plan → (ℕ → ℕ) → ℕ → ℕ

@@ -14,7 +14,7 @@ use Rattle.sh_step.specs.declared.moves.Move.{Move}
 use Rattle.sh_step.specs.declared.moves.Move.TheVariants as move
 use Rattle.sh_step.specs.Collections.{without}
 use Rattle.sh_step.specs.Footsteps.{takes_page, takes_bell, meets_page, meets_bell, puts_slot, arms_page}
-use Rattle.sh_step.specs.Plans.{Plan, plan_of, home, over_heap, page_number}
+use Rattle.sh_step.specs.Plans.{Plan, plan_of, shard_of, over_heap, page_number}
 use Rattle.sh_table.specs.Steps.{row_by}
 use Rattle.sh_table.specs.Tales.{OwnerIsValid}
 use Rattle.sh_pass.specs.Passes.{Caller}
@@ -59,7 +59,7 @@ module _ (layout : Layout) (v w : Caller) where
 module _ (layout : Layout) (v w : Caller) (x : PageName) (own : OwnerIsValid (plan_of layout v.view.shape) (own_body v))
   where
     bell_none : (n : ℕ) → (n == 0) ≡ true → (own_body v).hand ≡ Idle
-        → home (plan_of layout v.view.shape) (heap_page v x) ≡ x.shard
+        → shard_of (plan_of layout v.view.shape) (heap_page v x) ≡ x.shard
         → OwnerDid layout action.FollowBell (move.FollowBell (heap_page v x)) n v w
         → OwnerActs Idle [] 1 v w × (seen_bell layout w x.shard ≡ record (seen_bell layout v x.shard)
         { met = (seen_bell layout v x.shard).met + 1 }) × OnPage (heap_page v x) (seen_page v (heap_page v x)) v w
@@ -71,14 +71,14 @@ module _ (layout : Layout) (v w : Caller) (x : PageName) (own : OwnerIsValid (pl
         let m : Move = move.FollowBell q in
         let is : (row_by layout v.view m).part n ≡ p = ap (λ c. cond c p
         (record p {
-          bell_cursor = link_item (over_heap plan (home plan q) 2 n);
+          bell_cursor = link_item (over_heap plan (shard_of plan q) 2 n);
           armed = without (λ y. y == q) p.armed;
         })) none in (
           acts layout action.FollowBell m n v w d p is Idle [] refl refl idle refl refl,
           bell_after layout action.FollowBell m n v w d p is x.shard p.bell_cursor _ _ refl
               (still layout action.FollowBell m n v w d p is (takes_bell x.shard) refl)
               (more layout action.FollowBell m n v w d p is (meets_bell plan x.shard)
-              (and_from (home plan q == x.shard) (n == 0) (ap (λ k. k == x.shard) at ∙ eqb_self x.shard) none)),
+              (and_from (shard_of plan q == x.shard) (n == 0) (ap (λ k. k == x.shard) at ∙ eqb_self x.shard) none)),
           record {
             here = pages_same layout action.FollowBell m n v w d p is refl refl refl refl (λ r. refl) (λ r. refl) q;
             others = λ r ne. pages_same layout action.FollowBell m n v w d p is refl refl refl refl (λ r. refl)
@@ -89,7 +89,7 @@ module _ (layout : Layout) (v w : Caller) (x : PageName) (own : OwnerIsValid (pl
         )
 
     bell_some : (n : ℕ) → (n == 0) ≡ false → (own_body v).hand ≡ Idle
-        → home (plan_of layout v.view.shape) (heap_page v x) ≡ x.shard
+        → shard_of (plan_of layout v.view.shape) (heap_page v x) ≡ x.shard
         → OwnerDid layout action.FollowBell (move.FollowBell (heap_page v x)) n v w
         → OwnerActs Idle [] 1 v w × (seen_bell layout w x.shard ≡ record (seen_bell layout v x.shard)
         { cursor = page_on_bell v x.shard 2 n })
@@ -101,7 +101,7 @@ module _ (layout : Layout) (v w : Caller) (x : PageName) (own : OwnerIsValid (pl
         let plan : Plan = plan_of layout v.view.shape in
         let m : Move = move.FollowBell q in
         let b : Body = record p {
-          bell_cursor = link_item (over_heap plan (home plan q) 2 n);
+          bell_cursor = link_item (over_heap plan (shard_of plan q) 2 n);
           armed = without
               (λ y. y == q) p.armed;
         } in
@@ -111,7 +111,7 @@ module _ (layout : Layout) (v w : Caller) (x : PageName) (own : OwnerIsValid (pl
               (ap (λ k. link_item (over_heap plan k 2 n)) at ∙ item_named plan x.shard 2 n)
               (still layout action.FollowBell m n v w d b is (takes_bell x.shard) refl)
               (still layout action.FollowBell m n v w d b is (meets_bell plan x.shard)
-              (and_right (home plan q == x.shard) (n == 0) some)),
+              (and_right (shard_of plan q == x.shard) (n == 0) some)),
           record {
             here = page_after layout action.FollowBell m n v w d b is q (record (seen_page v q) { armed = false })
                 (λ s. refl) refl (own.armed_once q) refl
@@ -126,7 +126,7 @@ module _ (layout : Layout) (v w : Caller) (x : PageName) (own : OwnerIsValid (pl
         )
 
     pub follow_bell_does : (n : ℕ) → (own_body v).hand ≡ Idle
-        → home (plan_of layout v.view.shape) (heap_page v x) ≡ x.shard
+        → shard_of (plan_of layout v.view.shape) (heap_page v x) ≡ x.shard
         → OwnerDid layout action.FollowBell (move.FollowBell (heap_page v x)) n v w
         → OwnerActs Idle [] 1 v w
         × (seen_bell layout w x.shard ≡ bell_followed v x.shard n (seen_bell layout v x.shard))

@@ -17,7 +17,7 @@ use Rattle.sh_step.specs.Collections.{has, noted, without}
 use Rattle.sh_step.specs.Footsteps.{takes_page, takes_bell, meets_page, meets_bell, arms_page, at_head, at_bell}
 use Rattle.sh_step.specs.Footsteps.{at_link, at_belled, did_find}
 use Rattle.sh_step.specs.Kinds.{kind_of_action}
-use Rattle.sh_step.specs.Plans.{Plan, plan_of, home, local}
+use Rattle.sh_step.specs.Plans.{Plan, plan_of, shard_of, local}
 use Rattle.sh_step.proofs.PartTests.{owns_is}
 use Rattle.sh_step.proofs.ListLaws.{has_front, without_front}
 use Rattle.sh_step.proofs.PageLaws.{shards_have_pages}
@@ -81,8 +81,8 @@ local_lt : (plan : Plan) (q : ℕ) → 0 < plan.pages → local plan q < plan.pa
 unfolding local
 local_lt plan q some = mod-lt q some
 
-page_is : (plan : Plan) (q : ℕ) → 0 < plan.pages → q ≡ home plan q * plan.pages + local plan q
-unfolding home local
+page_is : (plan : Plan) (q : ℕ) → 0 < plan.pages → q ≡ shard_of plan q * plan.pages + local plan q
+unfolding shard_of local
 page_is plan q some = page_split plan.pages q some
 
 module _ (layout : Layout) (v w : Caller) (same : SameTale v.view w.view) (alone : CallsAlone v.view w.view) where
@@ -112,7 +112,7 @@ module _ (layout : Layout) (v w : Caller) (same : SameTale v.view w.view) (alone
 
   slot : (r : Option SlotRef) → SameOwn (with_slot (own_body v) r) (own_body w) → (own_body v).hand ≡ Idle
       → IsOfShard plan (own_body v) r → OwnerIsValid plan (own_body w) → SlotCame r v w
-  slot None own idle home stands = λ q. page_left q (seen_page v q)
+  slot None own idle shard_of stands = λ q. page_left q (seen_page v q)
       (λ s. ap (has (same_slot (record { page = q; slot = s }))) own.mine) (ap (noted q) own.cursors)
       (ap (has (λ y. y == q)) own.armed) (ap (noted q) own.classes) refl refl
   slot (Some x) own idle at stands =
@@ -124,7 +124,7 @@ module _ (layout : Layout) (v w : Caller) (same : SameTale v.view w.view) (alone
       ap (has (same_slot x)) (sym (without_front (same_slot x) x p.mine here))
       ∙ (ap (λ ys. has (same_slot x) (without (same_slot x) ys)) (sym mine) ∙ stands.mine_once x) in
       let some : 0 < plan.pages = shards_have_pages plan.shards plan.pages x.page m.1 in
-      let y : PageName = record { shard = home plan x.page; page = local plan x.page } in (
+      let y : PageName = record { shard = shard_of plan x.page; page = local plan x.page } in (
         y,
         record { idle = idle; owned = owns_is plan p x.page at; page = local_lt plan x.page some },
         page_is plan x.page some,

@@ -14,7 +14,7 @@ use Rattle.sh_step.specs.declared.moves.Move.{Move}
 use Rattle.sh_step.specs.declared.moves.Move.TheVariants as move
 use Rattle.sh_step.specs.Collections.{has, noted, every}
 use Rattle.sh_step.specs.Conditions.{HasPage, Owns, May, action_of, page_name}
-use Rattle.sh_step.specs.Plans.{Plan, plan_of, home, heap_pages, page_number}
+use Rattle.sh_step.specs.Plans.{Plan, plan_of, shard_of, heap_pages, page_number}
 use Rattle.sh_step.specs.Rows.{own, all_mine, class_word_noted}
 use Rattle.sh_step.proofs.PartTests.{is_own}
 use Rattle.sh_step.proofs.PageLaws.{page_within, name_of_page}
@@ -23,8 +23,8 @@ use Rattle.sh_table.specs.Steps.{MayDo}
 use Rattle.sh_pass.specs.Passes.{Caller}
 use Rattle.sh_pass.specs.Owners.{MayTouch, MayGive, own_body, heap_page, heap_slot, slot_in, seen_page}
 
-pub home_is : (plan : Plan) (n p : ℕ) → p < plan.pages → home plan (n * plan.pages + p) ≡ n
-unfolding home
+pub home_is : (plan : Plan) (n p : ℕ) → p < plan.pages → shard_of plan (n * plan.pages + p) ≡ n
+unfolding shard_of
 home_is plan n p h = div-mul-add n plan.pages p h
 
 every_of : (f : SlotRef → Bool) (q s n : ℕ) → ((t : ℕ) → s ≤ t → t < s + n → f (record { page = q; slot = t }) ≡ true)

@@ -15,7 +15,7 @@ use Rattle.sh_step.specs.declared.action.Action.TheVariants as action
 use Rattle.sh_step.specs.declared.action.PageName.{PageName}
 use Rattle.sh_step.specs.declared.moves.Move.TheVariants as move
 use Rattle.sh_step.specs.Moves.{place_named}
-use Rattle.sh_step.specs.Plans.{Plan, plan_of, heap_pages, home}
+use Rattle.sh_step.specs.Plans.{Plan, plan_of, heap_pages, shard_of}
 use Rattle.sh_step.proofs.Truths.{lt_true}
 use Rattle.sh_pass.specs.Passes.{Caller}
 use Rattle.sh_pass.specs.Owners.{MayTouch, OwnerDid, OwnerActs, Aside, OnPage, SamePages, SeenPage, IsKeyIn, IsKeyOn}
@@ -84,5 +84,5 @@ key_in layout v x k m on =
     let plan : Plan = plan_of layout v.view.shape in (
       on.0,
       on.1,
-      ap (home plan) on.2 ∙ home_is plan x.shard x.page m.page,
+      ap (shard_of plan) on.2 ∙ home_is plan x.shard x.page m.page,
     )

@@ -11,7 +11,7 @@ use Rattle.sh_shape.specs.Shape.{Numbers, IsShape}
 use Rattle.sh_shape.specs.Places.{all_pages, page_number, pages_of}
 use Rattle.sh_shape.proofs.PlaceLaws.{few_pages}
 use Rattle.sh_slots.specs.declared.hand.KeyRef.{KeyRef}
-use Rattle.sh_step.specs.Plans.{plan_of, home, keys_of, parts_of}
+use Rattle.sh_step.specs.Plans.{plan_of, shard_of, keys_of, parts_of}
 use Rattle.sh_step.proofs.KeyLaws.{parts_in_range}
 use Rattle.sh_step.specs.Rows.{owned_by}
 use Rattle.sh_table.specs.declared.view.View.{View}
@@ -82,7 +82,7 @@ in_shard pages shard page some few wide =
 pub is_owned : (layout : Layout) (shape : Numbers) (o : Option ℕ) (shard page first pages : ℕ) → IsShape shape
     → o ≡ Some shard → shard < shape.shards → page < 2 ^ 64 → pages ≡ pages_of shape → first ≡ page_number shape shard 0
     → nat_lt (behind first page) pages ≡ owned_by (plan_of layout shape) o page
-unfolding home
+unfolding shard_of
 is_owned layout shape o shard page first pages s owned below wide many start =
     let few : all_pages shape ≤ 2 ^ 24 = few_pages shape s in
     let fits : shard * pages_of shape + pages_of shape ≤ shape.shards * pages_of shape = row_fits shard (pages_of shape)
@@ -95,9 +95,9 @@ is_owned layout shape o shard page first pages s owned below wide many start =
 pub parts_on : (pages shard page : ℕ) (x : KeyRef) → x.page ≡ shard * pages + page → page < pages
     → parts_of pages x ≡ record { generation = x.generation; shard = shard; page = page; slot = x.slot }
 parts_on pages shard page x at below =
-    let home : x.page / pages ≡ shard = ap (λ n. n / pages) at ∙ div-mul-add shard pages page below in
+    let shard_of : x.page / pages ≡ shard = ap (λ n. n / pages) at ∙ div-mul-add shard pages page below in
     let local : x.page % pages ≡ page = ap (λ n. n % pages) at ∙ mod-mul-add shard pages page below in
-    λ i. record { generation = x.generation; shard = home i; page = local i; slot = x.slot }
+    λ i. record { generation = x.generation; shard = shard_of i; page = local i; slot = x.slot }
 
 pub on_page_in_range : (layout : Layout) (shape : Numbers) (shard page : ℕ) (x : KeyRef)
     → x.page ≡ page_number shape shard page → page < pages_of shape

@@ -25,7 +25,7 @@ use Rattle.sh_step.specs.Fits.{RowFits}
 use Rattle.sh_step.specs.Footsteps.{takes, met, bell_takes, bell_met, owner_met, puts, arms, at_owner, did_find}
 use Rattle.sh_step.specs.Moves.{place_named}
 use Rattle.sh_step.specs.Operations.{answer}
-use Rattle.sh_step.specs.Plans.{Plan, plan_of, home}
+use Rattle.sh_step.specs.Plans.{Plan, plan_of, shard_of}
 use Rattle.sh_table.specs.declared.view.View.{View}
 use Rattle.sh_table.specs.Seats.{Heap, IsSeat}
 use Rattle.sh_table.specs.Steps.{WordSays, row_by, did}
@@ -260,7 +260,7 @@ published layout v x n = (plan_of layout v.view.shape).keys.pack (published_name
 -- the key names a slot of shard n
 abbrev pub IsKeyIn : Layout → Caller → (n key : ℕ) → Type 0
 IsKeyIn layout v n key = (x : KeyRef) × (place_named (plan_of layout v.view.shape) key ≡ Some x)
-    × (home (plan_of layout v.view.shape) x.page ≡ n)
+    × (shard_of (plan_of layout v.view.shape) x.page ≡ n)
 
 -- the key names a slot of page q of the heap
 abbrev pub IsKeyOn : Layout → Caller → (q key : ℕ) → Type 0

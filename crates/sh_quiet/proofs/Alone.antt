@@ -21,7 +21,7 @@ use Rattle.sh_core.specs.Footsteps.{footstep_of, takes, bell_takes, met, bell_me
 use Rattle.sh_core.specs.Footsteps.{meets_page, meets_bell, puts_slot, arms, arms_page}
 use Rattle.sh_core.specs.Moves.{row_of}
 use Rattle.sh_core.specs.Operations.{operate}
-use Rattle.sh_core.specs.Plans.{Plan, home, over_heap}
+use Rattle.sh_core.specs.Plans.{Plan, shard_of, over_heap}
 use Rattle.sh_core.specs.Rows.{own, hand}
 use Rattle.sh_core.proofs.FootstepLaws.{counts_grow}
 use Rattle.sh_core.proofs.PartTests.{owns_is}
@@ -53,7 +53,7 @@ no_ties x (Tying y l r) none = absurd none
 no_ties x _ none = refl
 
 no_ring_ties : (plan : Plan) (n q : ℕ) (h : Hand) → TiesNone h
-    → (elim h as (λ _. ℕ) [ RingTying k l ↦ if1 ((n == home plan k) && (q == k)) | _ ↦ 0 ]) ≡ 0
+    → (elim h as (λ _. ℕ) [ RingTying k l ↦ if1 ((n == shard_of plan k) && (q == k)) | _ ↦ 0 ]) ≡ 0
 no_ring_ties plan n q (RingTying k l) none = absurd none
 no_ring_ties plan n q _ none = refl
 
@@ -110,14 +110,14 @@ module _ (plan : Plan) (a : ℕ) (w : World) (l : PutLists) (all : Refines plan 
       ⊎_elim (λ h. let one = h.1 in absurd (omega (arith, one, free)))
       (λ h. let e = h.0 in not_0 (w.words.link_at q s) (omega (arith, e, some))) on.0
 
-  unlinked : (n q k : ℕ) → k ≡ 0 → (cond (n == home plan q) (over_heap plan n 2 k) 0) ≡ 0
+  unlinked : (n q k : ℕ) → k ≡ 0 → (cond (n == shard_of plan q) (over_heap plan n 2 k) 0) ≡ 0
   unfolding over_heap
-  unlinked n q k is = subst (λ j. (cond (n == home plan q) (over_heap plan n 2 j) 0) ≡ 0) (sym is)
-      (cond_either (λ (z : ℕ). z ≡ 0) (n == home plan q) 0 0 refl refl)
+  unlinked n q k is = subst (λ j. (cond (n == shard_of plan q) (over_heap plan n 2 j) 0) ≡ 0) (sym is)
+      (cond_either (λ (z : ℕ). z ≡ 0) (n == shard_of plan q) 0 0 refl refl)
 
   bell_link_found : (q : ℕ) → May plan p (move.FollowBell q) → (w.words.page_link_at q == 0) ≡ false
   bell_link_found q may =
-      let n = home plan q in
+      let n = shard_of plan q in
       let owned : p.owned ≡ Some n = owns_is plan p q ((all.parts a p at).bell q may.1).0 in
       let here : bell_cursor_at n q p ≡ 1 = rw (owned, may.1, eq-eqb n n refl, eq-eqb q q refl) refl in
       let more = total_at (bell_cursor_at n q) w.parts a p at in
@@ -132,10 +132,10 @@ module _ (plan : Plan) (a : ℕ) (w : World) (l : PutLists) (all : Refines plan 
       go (w.words.page_link_at q == 0) refl (⊎_elim (λ h. let one = h.1 in absurd (omega (arith, one, free)))
       (λ h. let e = h.0 in omega (arith, e, some)) on.0) where
         go : (b : Bool) → (w.words.page_link_at q == 0) ≡ b
-            → 0 < bell_link plan w.words.page_link_at (home plan q) q → b ≡ false
+            → 0 < bell_link plan w.words.page_link_at (shard_of plan q) q → b ≡ false
         go false is some = refl
         go true is some =
-            let none : bell_link plan w.words.page_link_at (home plan q) q ≡ 0 = unlinked (home plan q) q
+            let none : bell_link plan w.words.page_link_at (shard_of plan q) q ≡ 0 = unlinked (shard_of plan q) q
             (w.words.page_link_at q) (eqb-true (w.words.page_link_at q) 0 is) in absurd (omega (arith, some, none))
 
   -- ---- what each move leaves, if it puts nothing
@@ -231,7 +231,7 @@ module _ (plan : Plan) (a : ℕ) (w : World) (l : PutLists) (all : Refines plan 
 
   bell_met_after : (m : Move) → May plan p m → (n : ℕ) → bell_met plan n (t ++ trod m ∷ []) ≡ bell_met plan n t0
   bell_met_after (move.FollowBell r) may n = unmoved (meets_bell plan n) (trod (move.FollowBell r))
-      (and_false (home plan r == n) (w.words.page_link_at r == 0) (bell_link_found r may)) ∙ old.bell_met n
+      (and_false (shard_of plan r == n) (w.words.page_link_at r == 0) (bell_link_found r may)) ∙ old.bell_met n
   bell_met_after m may n = unmoved (meets_bell plan n) (trod m) refl ∙ old.bell_met n
 
   arms_before : (s : Footstep) → arms (t ++ s ∷ []) ≡ arms t0 → arms t ≡ arms t0

@@ -6,7 +6,7 @@ use Rattle.sh_core.specs.SlotRef.{SlotRef}
 use Rattle.sh_core.specs.Slots.{same_slot}
 use Rattle.sh_core.specs.Body.{Body}
 use Rattle.sh_core.specs.Collections.{total, has, noted}
-use Rattle.sh_core.specs.Plans.{Plan, home}
+use Rattle.sh_core.specs.Plans.{Plan, shard_of}
 use Rattle.sh_core.specs.Rows.{own}
 use Rattle.sh_core.proofs.PartTests.{owns_is}
 use Rattle.sh_core.specs.Bells.{rings, armed_at}
@@ -32,7 +32,8 @@ module _ (plan : Plan) (w : World) (l : PutLists) (all : Refines plan w l) (quie
 
   -- a pass that owns the page's shard is this one
   its_owner : (q b : ℕ) (u : Body) → own plan p q ≡ true → slice_get w.parts b ≡ Some u → own plan u q ≡ true → u ≡ p
-  its_owner q b u mine has its = same_part b u has (all.owners.alone b a u p (home plan q) has at (owns_is plan u q its)
+  its_owner q b u mine has its = same_part b u has
+      (all.owners.alone b a u p (shard_of plan q) has at (owns_is plan u q its)
       (owns_is plan p q mine))
 
   no_cursors : (q s : ℕ) → own plan p q ≡ true → noted q p.cursors ≡ None → total (cursor_at q s) w.parts ≡ 0
@@ -79,8 +80,8 @@ module _ (plan : Plan) (w : World) (l : PutLists) (all : Refines plan w l) (quie
   no_rings q = none_of (rings q) w.parts (λ b u at_b. rw (quiet b u at_b) refl)
 
   -- an armed page whose bell is empty has its flag, so nothing was put on it
-  pub armed_is_empty : (q : ℕ) → own plan p q ≡ true → has (λ r. r == q) p.armed ≡ true → l.bells (home plan q) ≡ []
-      → l.bell_chain (home plan q) ≡ [] → l.stack q ≡ []
+  pub armed_is_empty : (q : ℕ) → own plan p q ≡ true → has (λ r. r == q) p.armed ≡ true → l.bells (shard_of plan q) ≡ []
+      → l.bell_chain (shard_of plan q) ≡ [] → l.stack q ≡ []
   unfolding total
   armed_is_empty q mine armed bells chain =
       let here : 0 < armed_at q p = has_some (λ r. r == q) p.armed armed in
@@ -88,21 +89,21 @@ module _ (plan : Plan) (w : World) (l : PutLists) (all : Refines plan w l) (quie
       let sum = (all.armed q).0 in
       let few = (all.armed q).1 in
       let none = no_rings q in
-      let on_bell : times q (l.bells (home plan q)) ≡ 0 = ap (times q) bells in
-      let on_chain : times q (l.bell_chain (home plan q)) ≡ 0 = ap (times q) chain in
+      let on_bell : times q (l.bells (shard_of plan q)) ≡ 0 = ap (times q) bells in
+      let on_chain : times q (l.bell_chain (shard_of plan q)) ≡ 0 = ap (times q) chain in
       all.flags q (omega (arith, here, more, sum, few, none, on_bell, on_chain))
 
   -- an armed page whose head and bell are empty is due to nobody, so there is none
-  pub none_is_due : (q : ℕ) → has (λ r. r == q) p.armed ≡ true → l.bells (home plan q) ≡ []
-      → l.bell_chain (home plan q) ≡ [] → w.words.head_at q ≡ 0 → ⊥
+  pub none_is_due : (q : ℕ) → has (λ r. r == q) p.armed ≡ true → l.bells (shard_of plan q) ≡ []
+      → l.bell_chain (shard_of plan q) ≡ [] → w.words.head_at q ≡ 0 → ⊥
   unfolding total
   none_is_due q armed bells chain head =
       let here : 0 < armed_at q p = has_some (λ r. r == q) p.armed armed in
       let more = total_at (armed_at q) w.parts a p at in
       let sum = (all.armed q).0 in
       let none = no_rings q in
-      let on_bell : times q (l.bells (home plan q)) ≡ 0 = ap (times q) bells in
-      let on_chain : times q (l.bell_chain (home plan q)) ≡ 0 = ap (times q) chain in
+      let on_bell : times q (l.bells (shard_of plan q)) ≡ 0 = ap (times q) bells in
+      let on_chain : times q (l.bell_chain (shard_of plan q)) ≡ 0 = ap (times q) chain in
       omega (arith, here, more, sum, none, on_bell, on_chain, head)
 
   -- if nothing is queued on an own page, a slot that is not the owner's has a value or is retired

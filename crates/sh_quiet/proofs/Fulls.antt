@@ -7,7 +7,7 @@ use Rattle.sh_core.specs.Hand.TheVariants.{Idle}
 use Rattle.sh_core.specs.Event.{Event}
 use Rattle.sh_core.specs.Body.{Body}
 use Rattle.sh_core.specs.Footsteps.{met, bell_met}
-use Rattle.sh_core.specs.Plans.{Plan, plan_of, home}
+use Rattle.sh_core.specs.Plans.{Plan, plan_of, shard_of}
 use Rattle.sh_core.specs.Rows.{own}
 use Rattle.sh_core.specs.Lists.{PutLists, lists_of}
 use Rattle.sh_core.specs.Worlds.{World, run}
@@ -69,7 +69,7 @@ module _ (layout : Layout) (shape : Numbers) (is_layout : IsLayout layout) (is_s
       let some = has_some (λ r. r == q) body.armed ends.1 in
       let stands = all.parts a body g.body in
       let mine : own full_plan body q ≡ true = (stands.armed q some).1 in
-      let its : n.shard ≡ home full_plan q =
+      let its : n.shard ≡ shard_of full_plan q =
       home_is layout shape is_layout is_shape fits early more a o n g had has_now owned idle through q mine in
       let stack = armed_is_empty full_plan full_world full_lists all quiet a body g.body q mine ends.1
       (subst (λ z. full_lists.bells z ≡ []) its bells) (subst (λ z. full_lists.bell_chain z ≡ []) its bell_chain) in

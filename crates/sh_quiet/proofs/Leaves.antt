@@ -6,14 +6,14 @@ use Rattle.sh_core.specs.Hand.TheVariants.{Idle}
 use Rattle.sh_core.specs.Event.{Event}
 use Rattle.sh_core.specs.Body.{Body}
 use Rattle.sh_core.specs.Footsteps.{takes, met, bell_met}
-use Rattle.sh_core.specs.Plans.{Plan, plan_of, home}
+use Rattle.sh_core.specs.Plans.{Plan, plan_of, shard_of}
 use Rattle.sh_core.specs.Rows.{own}
 use Rattle.sh_core.specs.Lists.{PutLists, lists_of}
 use Rattle.sh_core.specs.Worlds.{World, run}
 use Rattle.sh_core.proofs.Sums.ListCounts.{has_some}
 use Rattle.sh_shard.specs.Owners.{SeenBell, heap_page, own_body}
 use Rattle.sh_shard.specs.Leaving.{Waiting, RestsNot}
-use Rattle.sh_shard.specs.Pages.{Paged, CursorStands, page_at, shard_page}
+use Rattle.sh_shard.specs.Pages.{Paged, HasCursor, page_at, shard_page}
 use Rattle.sh_quiet.specs.Quiescence.{LeavesNeverWait}
 use Rattle.sh_quiet.proofs.Emptied.{none_is_due}
 use Rattle.sh_quiet.proofs.Exact.{Goes, goes, head_is_empty}
@@ -64,14 +64,14 @@ module _ (layout : Layout) (shape : Numbers) (is_layout : IsLayout layout) (is_s
       (subst (λ z. takes z o.owner.view.own.trail < takes q n.owner.view.own.trail) page taken) in
       let some = has_some (λ r. r == q) body.armed armed in
       let mine : own leave_plan body q ≡ true = ((all.parts a body g.body).armed q some).1 in
-      let its : n.shard ≡ home leave_plan q =
+      let its : n.shard ≡ shard_of leave_plan q =
       home_is layout shape is_layout is_shape fits early more a o n g had has_now owned idle works q mine in
       none_is_due leave_plan leave_world leave_lists all quiet a body g.body q armed
       (subst (λ z. leave_lists.bells z ≡ []) its bells) (subst (λ z. leave_lists.bell_chain z ≡ []) its chain) head
 
   pub never_waits : ⊥
   never_waits = by_reason waits.why where
-    by_page : (p : ℕ) → (CursorStands (page_at n p).cursor × ((page_at o p).met < (page_at n p).met))
+    by_page : (p : ℕ) → (HasCursor (page_at n p).cursor × ((page_at o p).met < (page_at n p).met))
         ⊎ ((n.bell.cursor ≡ None) × ((page_at n p).armed ≡ true) × ((page_at o p).takes < (page_at n p).takes)
         × (o.bell.takes < n.bell.takes)) → ⊥
     by_page p (inl h) = no_page_link p h.1

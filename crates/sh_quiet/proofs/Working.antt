@@ -6,7 +6,7 @@ use Rattle.sh_core.specs.Shape.{Numbers, IsShape, Fits}
 use Rattle.sh_core.specs.Hand.TheVariants.{Idle}
 use Rattle.sh_core.specs.Event.{Event}
 use Rattle.sh_core.specs.Footsteps.{bell_takes, met, bell_met}
-use Rattle.sh_core.specs.Plans.{Plan, plan_of, home}
+use Rattle.sh_core.specs.Plans.{Plan, plan_of, shard_of}
 use Rattle.sh_core.specs.Rows.{own}
 use Rattle.sh_core.proofs.PartTests.{owns_is}
 use Rattle.sh_core.specs.Lists.{PutLists, lists_of}
@@ -53,9 +53,10 @@ module _ (layout : Layout) (shape : Numbers) (is_layout : IsLayout layout) (is_s
   same_page p = λ i. page_number (sym through.aside.same.shape i) (sym through.shard i) p
 
   -- a page that the owner has is of its shard
-  pub home_is : (q : ℕ) → own work_plan (own_body n.owner) q ≡ true → n.shard ≡ home work_plan q
+  pub home_is : (q : ℕ) → own work_plan (own_body n.owner) q ≡ true → n.shard ≡ shard_of work_plan q
   home_is q mine =
-      let both : Some n.shard ≡ Some (home work_plan q) = sym owned ∙ owns_is work_plan (own_body n.owner) q mine in cc
+      let both : Some n.shard ≡ Some (shard_of work_plan q) = sym owned ∙ owns_is work_plan (own_body n.owner) q mine in
+          cc
 
   -- ---- a link that was not written
 

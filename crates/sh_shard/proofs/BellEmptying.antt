@@ -1,6 +1,6 @@
 -- The bell is followed to its end, and taken, before a shard is left.
 use Rattle.std.proofs.Common.{◌≡◌, ℕ, ◌+◌, ◌<◌, ◌≤◌, Option, Some, None, MatchOption, refl, ◌∙◌, arith}
-use Rattle.sh_shard.specs.Pages.{Paged, armed_pages, CursorStands, BellTakes, BellStops, BellReads, StepsForRings}
+use Rattle.sh_shard.specs.Pages.{Paged, armed_pages, HasCursor, BellTakes, BellStops, BellReads, StepsForRings}
 use Rattle.sh_shard.specs.Works.{BellDone}
 use Rattle.sh_shard.specs.Leaving.{Collecting, BellFollowed}
 use Rattle.sh_shard.proofs.Works.{through_none, through_more, through_takes, through_stops, through_reads}
@@ -65,12 +65,12 @@ never_past turn o n f l = let k = f.few in absurd (omega arith)
 
 -- ---- the bell is taken when it is at its end
 
-emptied_first : (c : Option ℕ) (a b m n : ℕ) → CursorStands c → MatchOption c (Unit {0}) (λ _. m < n)
+emptied_first : (c : Option ℕ) (a b m n : ℕ) → HasCursor c → MatchOption c (Unit {0}) (λ _. m < n)
     → MatchOption c (a < b) (λ _. m < n)
 emptied_first None a b m n s h = absurd s
 emptied_first (Some x) a b m n s h = h
 
-pub bell_waits : (o m : Paged) → BellFollowed o m → CursorStands m.bell.cursor → BellDone o m
+pub bell_waits : (o m : Paged) → BellFollowed o m → HasCursor m.bell.cursor → BellDone o m
 bell_waits o m f s = emptied_first m.bell.cursor o.bell.takes m.bell.takes o.bell.met m.bell.met s f.waits
 
 emptied_then : (c : Option ℕ) (a b m k n : ℕ) → a < b → m ≤ k → MatchOption c (Unit {0}) (λ _. k < n)

@@ -11,7 +11,7 @@ use Rattle.sh_pass.specs.Owners.{SeenPage}
 use Rattle.sh_shard.specs.Pages.{Paged, page_at, seen_class, BellReads, BellStops}
 use Rattle.sh_shard.specs.Turning.{come_back, come_back_each, any_of_class}
 use Rattle.sh_shard.specs.Shards.{Sharded}
-use Rattle.sh_shard.specs.Searches.{Heard, Hears}
+use Rattle.sh_shard.specs.Searches.{ReadsRing, ReadsRings}
 use Rattle.sh_shard.specs.Works.{WorksThroughout, ReadFromBell}
 use Rattle.sh_shard.proofs.ClassWords.{word_of}
 use Rattle.sh_shard.proofs.Sides.{aside_none}
@@ -20,7 +20,7 @@ use Rattle.sh_shard.proofs.BellOrder.{stays_there, comes_there, each_same, any_s
 use Rattle.sh_shard.proofs.BellOrder.{alone_none, alone_stops, reads_then, reads_last}
 use Rattle.sh_pass.proofs.OwnRuns.{aside_then}
 
-pub through_hears : (c : ℕ) (read : Bool) (o n : Sharded) → Hears c read o n → WorksThroughout o.pages n.pages
+pub through_hears : (c : ℕ) (read : Bool) (o n : Sharded) → ReadsRings c read o n → WorksThroughout o.pages n.pages
 through_hears c read o n h = record {
   aside = h.aside;
   put = h.put;
@@ -34,7 +34,7 @@ through_hears c read o n h = record {
   bell_met = h.met;
 }
 
-pub hears_none : (c : ℕ) (o : Sharded) → Hears c false o o
+pub hears_none : (c : ℕ) (o : Sharded) → ReadsRings c false o o
 hears_none c o = record {
   opened = refl;
   rung = [];
@@ -66,8 +66,8 @@ not_either a b word c e f = go a (sym e ∙ f) where
   go false h = (refl, λ k. false≢true (sym h ∙ (let z : (word == c + 1) ≡ true = grind (arith, nat_tests) in z)))
 
 -- one page more
-pub hears_more : (c word : ℕ) (read read' : Bool) (o n m : Sharded) → c < 8 → Hears c read o n → EachOnce n.queues
-    → Heard word n m → read' ≡ (read || (word == c + 1)) → Hears c read' o m
+pub hears_more : (c word : ℕ) (read read' : Bool) (o n m : Sharded) → c < 8 → ReadsRings c read o n → EachOnce n.queues
+    → ReadsRing word n m → read' ≡ (read || (word == c + 1)) → ReadsRings c read' o m
 hears_more c word read read' o n m l h once d either = record {
   opened = heard_opened ∙ h.opened;
   rung = h.rung ++ d.page ∷ [];
@@ -157,8 +157,8 @@ hears_more c word read read' o n m l h once d either = record {
       (has_number-at_back (word - 1) d.page n.queues c q (let z = once.classes in omega arith) e)
 
 -- the bell's cursor stopped
-pub hears_stops : (c : ℕ) (read : Bool) (o n m : Sharded) → Hears c read o n → m.queues ≡ n.queues
-    → BellStops n.pages m.pages → Hears c read o m
+pub hears_stops : (c : ℕ) (read : Bool) (o n m : Sharded) → ReadsRings c read o n → m.queues ≡ n.queues
+    → BellStops n.pages m.pages → ReadsRings c read o m
 hears_stops c read o n m h same s = record {
   opened = ap (λ (z : PageQueues). z.opened) same ∙ h.opened;
   rung = h.rung;
@@ -192,7 +192,7 @@ hears_stops c read o n m h same s = record {
 
 pub heard_still : (p word : ℕ) (o n : Paged) (q : PageQueues) → BellReads p o n → (page_at n p).class ≡ Some word
     → has_number p q.full ≡ false
-    → Heard word (record { pages = o; queues = q }) (record { pages = n; queues = q })
+    → ReadsRing word (record { pages = o; queues = q }) (record { pages = n; queues = q })
 heard_still p word o n q reads class absent = record {
   page = p;
   reads = reads;
@@ -203,7 +203,7 @@ heard_still p word o n q reads class absent = record {
 
 pub heard_back : (p word : ℕ) (o n : Paged) (q r : PageQueues) → BellReads p o n → (page_at n p).class ≡ Some word
     → has_number p q.full ≡ true → (0 < word) × (word ≤ 8) → r ≡ at_back (word - 1) p q
-    → Heard word (record { pages = o; queues = q }) (record { pages = n; queues = r })
+    → ReadsRing word (record { pages = o; queues = q }) (record { pages = n; queues = r })
 heard_back p word o n q r reads class here few moved = record {
   page = p;
   reads = reads;

@@ -16,7 +16,7 @@ use Rattle.sh_shape.specs.Shape.{Numbers}
 use Rattle.sh_shape.specs.Places.{pages_of}
 use Rattle.sh_slots.specs.declared.hand.Hand.{Hand}
 use Rattle.sh_slots.specs.declared.hand.Hand.TheVariants.{Idle}
-use Rattle.sh_step.specs.Plans.{Plan, plan_of, home}
+use Rattle.sh_step.specs.Plans.{Plan, plan_of, shard_of}
 use Rattle.sh_step.specs.Rows.{owned_by, own}
 use Rattle.sh_stack.specs.Stack.{link_item}
 use Rattle.sh_pass.specs.Tales.{ViewIsValid}
@@ -151,8 +151,8 @@ rung_at v w shard n b k same e = go (nat_lt n k) ∙ ap (rings_at w shard) (sym 
   go true = refl
   go false = λ i. Some (shard * pages_of (sym same i) + (n - k))
 
-home_div : (plan : Plan) (q : ℕ) → home plan q ≡ q / plan.pages
-unfolding home
+home_div : (plan : Plan) (q : ℕ) → shard_of plan q ≡ q / plan.pages
+unfolding shard_of
 home_div plan q = refl
 
 -- the page at the bell's cursor is armed, and in the shard
@@ -176,9 +176,9 @@ at_bell {layout} {v} {shard} {rings} {states} p k is =
     ∙ ap (rings_at v shard) is in
     let b = k.stands.owner.bell (heap_page v (shard_page shard p)) cursor in
     let plan = plan_of layout v.view.shape in
-    let own_is : (shard == home plan (heap_page v (shard_page shard p)))
+    let own_is : (shard == shard_of plan (heap_page v (shard_page shard p)))
     ≡ true = sym (ap (λ (z : Option ℕ). owned_by plan z (heap_page v (shard_page shard p))) k.owned) ∙ b.0 in
-    let home_is : shard ≡ home plan (heap_page v (shard_page shard p)) = grind (arith, nat_tests) in
+    let home_is : shard ≡ shard_of plan (heap_page v (shard_page shard p)) = grind (arith, nat_tests) in
     record {
       inside = within p shard (pages_of v.view.shape) v.view.shape.shards (length states)
           (sym (home_div plan (heap_page v (shard_page shard p))) ∙ sym home_is) k.few b.1;
@@ -249,8 +249,8 @@ place_of : {layout : Layout} {v : Caller} {shard : ℕ} {rings : Option ℕ} {st
     × (heap_page v (shard_page shard p) ≡ q)
 place_of {layout} {v} {shard} {states = states} k q mine l =
     let plan = plan_of layout v.view.shape in
-    let own_is : (shard == home plan q) ≡ true = sym (ap (λ (z : Option ℕ). owned_by plan z q) k.owned) ∙ mine in
-    let home_is : shard ≡ home plan q = grind (arith, nat_tests) in
+    let own_is : (shard == shard_of plan q) ≡ true = sym (ap (λ (z : Option ℕ). owned_by plan z q) k.owned) ∙ mine in
+    let home_is : shard ≡ shard_of plan q = grind (arith, nat_tests) in
     go (pages_of v.view.shape) k.few l (sym (home_div plan q) ∙ sym home_is) where
       go : (n : ℕ) → length states ≡ n → q < v.view.shape.shards * n → q / n ≡ shard → (p : ℕ) × (p < length states)
           × (shard * n + p ≡ q)

@@ -7,7 +7,7 @@ use Rattle.sh_pass.specs.Passes.{Caller}
 use Rattle.sh_pass.specs.Owners.{SeenBell, Aside}
 use Rattle.sh_pass.proofs.SameTales.{later_same}
 use Rattle.sh_pass.proofs.OwnRuns.{aside_then}
-use Rattle.sh_shard.specs.Pages.{Paged, page_at, CursorStands, ShardLeft, StepsForRings, BlankFrom, BlankHasNothing}
+use Rattle.sh_shard.specs.Pages.{Paged, page_at, HasCursor, ShardLeft, StepsForRings, BlankFrom, BlankHasNothing}
 use Rattle.sh_shard.specs.Steps.{StepsAtMost}
 use Rattle.sh_shard.specs.Bounds.{leave_steps}
 use Rattle.sh_shard.specs.Works.{BellDone}
@@ -30,36 +30,36 @@ rests_more v page h e p l = ⊎_elim (λ (is : p ≡ page). subst (λ z. AtRest 
 
 -- ---- why leaving waits
 
-met_since : (c : Option ℕ) (a m n : ℕ) → CursorStands c → a ≤ m → MatchOption c (Unit {0}) (λ _. m < n) → a < n
+met_since : (c : Option ℕ) (a m n : ℕ) → HasCursor c → a ≤ m → MatchOption c (Unit {0}) (λ _. m < n) → a < n
 met_since None a m n s l h = absurd s
 met_since (Some x) a m n s l h = omega arith
 
-bell_met : (c : Option ℕ) (a b m n : ℕ) → CursorStands c → MatchOption c (a < b) (λ _. m < n) → m < n
+bell_met : (c : Option ℕ) (a b m n : ℕ) → HasCursor c → MatchOption c (a < b) (λ _. m < n) → m < n
 bell_met None a b m n s h = absurd s
 bell_met (Some x) a b m n s h = h
 
 bell_taken : (c : Option ℕ) (a b m n : ℕ) → c ≡ None → MatchOption c (a < b) (λ _. m < n) → a < b
 bell_taken None a b m n s h = h
-bell_taken (Some x) a b m n s h = absurd (subst CursorStands s tt)
+bell_taken (Some x) a b m n s h = absurd (subst HasCursor s tt)
 
 pub waiting : (o m n : Paged) → Collecting o m → BellDone o m → PagesEmptied m n → NotAtRest n → Waiting o n
 waiting o m n g b e w = record {
   collects = collecting_more o m n g e.collects;
   why = ⊎_elim
-      (λ (s : CursorStands n.bell.cursor). inl (
+      (λ (s : HasCursor n.bell.cursor). inl (
         s,
         subst (λ (z : SeenBell). o.bell.met < z.met) (sym e.bell)
             (bell_met m.bell.cursor o.bell.takes m.bell.takes o.bell.met m.bell.met
-            (subst (λ (z : SeenBell). CursorStands z.cursor) e.bell s) b),
+            (subst (λ (z : SeenBell). HasCursor z.cursor) e.bell s) b),
       ))
       (λ (s : (n.bell.cursor ≡ None) × ((p : ℕ) × (p < n.count) ×
-      (CursorStands (page_at n p).cursor ⊎ (((page_at n p).cursor ≡ None) × ((page_at n p).armed ≡ true))))). inr
+      (HasCursor (page_at n p).cursor ⊎ (((page_at n p).cursor ≡ None) × ((page_at n p).armed ≡ true))))). inr
       (s.1.0, s.1.1, page s.0 s.1.0 s.1.1 s.1.2))
       w;
 } where
-  page : n.bell.cursor ≡ None → (p : ℕ) → p < n.count → CursorStands (page_at n p).cursor
+  page : n.bell.cursor ≡ None → (p : ℕ) → p < n.count → HasCursor (page_at n p).cursor
       ⊎ (((page_at n p).cursor ≡ None) × ((page_at n p).armed ≡ true))
-      → (CursorStands (page_at n p).cursor × ((page_at o p).met < (page_at n p).met))
+      → (HasCursor (page_at n p).cursor × ((page_at o p).met < (page_at n p).met))
       ⊎ ((n.bell.cursor ≡ None) × ((page_at n p).armed ≡ true) × ((page_at o p).takes < (page_at n p).takes)
       × (o.bell.takes < n.bell.takes))
   page none p l (inl s) = inl (

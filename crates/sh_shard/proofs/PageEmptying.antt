@@ -4,7 +4,7 @@ use Rattle.std.proofs.Common.{subst, arith}
 use Rattle.std.proofs.lemmas.Bool.{cases_eq, cases_lt, false≢true}
 use Rattle.std.proofs.Math.Numerals.{lt_of_le_of_ne}
 use Rattle.sh_pass.specs.Owners.{SeenPage, HasNothing}
-use Rattle.sh_shard.specs.Pages.{Paged, page_at, CursorStands, TakesPage, CursorStops, BlankFrom, BlankHasNothing}
+use Rattle.sh_shard.specs.Pages.{Paged, page_at, HasCursor, TakesPage, CursorStops, BlankFrom, BlankHasNothing}
 use Rattle.sh_shard.specs.Steps.{StepsAtMost}
 use Rattle.sh_shard.specs.Leaving.{Collecting, PageEmptied, EmptiesPage, PagesEmptied}
 use Rattle.sh_shard.proofs.Works.{through_works}
@@ -17,13 +17,13 @@ pub collecting_works : (p : ℕ) (o n : Paged) → EmptiesPage p o n → Collect
 collecting_works p o n h = record { through = through_works p o n h.works; arm = h.arm }
 
 -- the cursor is followed and waits
-pub empties_waiting : (p : ℕ) (o n : Paged) → CursorStops p o n → CursorStands (page_at n p).cursor → EmptiesPage p o n
+pub empties_waiting : (p : ℕ) (o n : Paged) → CursorStops p o n → HasCursor (page_at n p).cursor → EmptiesPage p o n
 empties_waiting p o n s c = record {
   steps = let g = s.steps in omega arith;
   works = s.works;
   arm = s.arm;
   emptied = record
-      { waits = s.waits; taken = λ e a. absurd (subst CursorStands e c) };
+      { waits = s.waits; taken = λ e a. absurd (subst HasCursor e c) };
 }
 
 -- it is followed to its end, and the page is not armed

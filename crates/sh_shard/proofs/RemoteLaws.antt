@@ -5,7 +5,7 @@ use Rattle.std.proofs.lemmas.Bool.{cases_eq, cases_lt}
 use Rattle.std.proofs.Math.Numerals.{lt_of_le_of_ne}
 use Rattle.sh_pass.specs.Owners.{SeenPage, SeenBell, HasNothing}
 use Rattle.sh_queue.specs.Queues.{PageQueues}
-use Rattle.sh_shard.specs.Pages.{Paged, page_at, CursorStands, TakesPage, CursorStops, BlankFrom, BlankHasNothing}
+use Rattle.sh_shard.specs.Pages.{Paged, page_at, HasCursor, TakesPage, CursorStops, BlankFrom, BlankHasNothing}
 use Rattle.sh_shard.specs.Pages.{StepsForRings}
 use Rattle.sh_shard.specs.Steps.{StepsAtMost}
 use Rattle.sh_shard.specs.Filing.{ReturnsRising}
@@ -33,12 +33,12 @@ collects_blank p o n s blank = record {
 }
 
 -- the cursor is followed and waits
-pub collects_waiting : (p : ℕ) (o n : Paged) → CursorStops p o n → CursorStands (page_at n p).cursor
+pub collects_waiting : (p : ℕ) (o n : Paged) → CursorStops p o n → HasCursor (page_at n p).cursor
     → CollectsWhole p o n
 collects_waiting p o n s c = record {
   works = s.works;
   arm = s.arm;
-  collected = record { waits = s.waits; taken = λ l e. absurd (subst CursorStands e c) };
+  collected = record { waits = s.waits; taken = λ l e. absurd (subst HasCursor e c) };
   steps = let g = s.steps in omega arith;
 }
 

@@ -13,7 +13,7 @@ use Rattle.sh_shard.specs.Turning.{come_back_each, any_of_class}
 use Rattle.sh_shard.specs.Shards.{Sharded, SortedPages, InsertServes, SearchedInVain}
 use Rattle.sh_shard.specs.Works.{WorksThroughout, BellDone, ReadFromBell}
 use Rattle.sh_shard.specs.Finding.{StoresIn, StoresInQueue}
-use Rattle.sh_shard.specs.Searches.{Searched, Hears, BellWaits, RingsOut, Tried}
+use Rattle.sh_shard.specs.Searches.{Searched, ReadsRings, BellWaits, RingsOut, Tried}
 use Rattle.sh_shard.proofs.Works.{through_more, through_takes, read_more, read_later}
 use Rattle.sh_shard.proofs.Bounding.{rings_then, rings_most}
 use Rattle.sh_shard.proofs.BellOrder.{each_same, any_same, each_append, any_append, alone_takes, reads_then, reads_both}
@@ -26,7 +26,7 @@ use Rattle.sh_shard.proofs.Storing.{stored}
 use Rattle.sh_shard.proofs.ClassDone.{class_done}
 
 -- a link that was not written is met at once
-pub rings_first : (c : ℕ) (read : Bool) (o n : Sharded) → Hears c read o n → StepsForRings 1 o.pages n.pages
+pub rings_first : (c : ℕ) (read : Bool) (o n : Sharded) → ReadsRings c read o n → StepsForRings 1 o.pages n.pages
     → BellWaits o n → MatchOption n.pages.bell.cursor ⊥ (λ _. Unit {0}) → RingsOut c read o n
 rings_first c read o n h t w some = record {
   steps = omega arith;
@@ -50,8 +50,8 @@ either_none : (a b : Bool) → (a || b) ≡ false → (a ≡ false) × (b ≡ fa
 either_none true b e = absurd (let z : ⊥ = cc in z)
 either_none false b e = (refl, e)
 
-pub rings_both : (c : ℕ) (a b read : Bool) (o n m z : Sharded) → read ≡ (a || b) → Hears c a o n
-    → StepsForRings 1 o.pages n.pages → BellTakes n.pages m.pages → m.queues ≡ n.queues → Hears c b m z
+pub rings_both : (c : ℕ) (a b read : Bool) (o n m z : Sharded) → read ≡ (a || b) → ReadsRings c a o n
+    → StepsForRings 1 o.pages n.pages → BellTakes n.pages m.pages → m.queues ≡ n.queues → ReadsRings c b m z
     → StepsForRings 1 m.pages z.pages → BellWaits m z → RingsOut c read o z
 rings_both c a b read o n m z is h x t same k y w = record {
   steps = rings_then 2 1 3 o.pages m.pages z.pages (rings_then 1 1 2 o.pages n.pages m.pages x t.steps (omega arith)) y

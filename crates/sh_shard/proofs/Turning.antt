@@ -8,15 +8,15 @@ use Rattle.sh_queue.specs.Numbers.{has_number}
 use Rattle.sh_queue.specs.Queues.{PageQueues, at_back, among_full}
 use Rattle.sh_queue.proofs.Numbers.{has_number-here, has_number-there, has_number-rest}
 use Rattle.sh_pass.specs.Owners.{SeenPage}
-use Rattle.sh_shard.specs.Pages.{Paged, page_at, CursorStands}
+use Rattle.sh_shard.specs.Pages.{Paged, page_at, HasCursor}
 use Rattle.sh_shard.specs.Turning.{aside_by, set_aside, turned_past}
 
 -- ---- one page
 
-pub aside_waits : (c p : ℕ) (v : Paged) (q r : PageQueues) → CursorStands (page_at v p).cursor → r ≡ at_back c p q
+pub aside_waits : (c p : ℕ) (v : Paged) (q r : PageQueues) → HasCursor (page_at v p).cursor → r ≡ at_back c p q
     → r ≡ set_aside c p v q
 aside_waits c p v q r some is = go (page_at v p).cursor some where
-  go : (k : Option ℕ) → CursorStands k → r ≡ aside_by k c p q
+  go : (k : Option ℕ) → HasCursor k → r ≡ aside_by k c p q
   go None w = absurd w
   go (Some s) w = is
 

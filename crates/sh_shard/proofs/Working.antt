@@ -9,7 +9,7 @@ use Rattle.sh_shape.specs.Places.{pages_of}
 use Rattle.sh_shape.specs.Shape.{Numbers}
 use Rattle.sh_slots.specs.declared.hand.KeyRef.{KeyRef}
 use Rattle.sh_step.specs.Moves.{place_named}
-use Rattle.sh_step.specs.Plans.{plan_of, home}
+use Rattle.sh_step.specs.Plans.{plan_of, shard_of}
 use Rattle.sh_states.specs.declared.states.PageState.{PageState}
 use Rattle.sh_pass.specs.Owners.{SeenPage, Aside, NoneArmed}
 use Rattle.sh_shard.specs.Kept.{KeepsPage}
@@ -149,7 +149,7 @@ pub names_before : (layout : Layout) (p key : ℕ) (o m : Paged) → Aside o.own
     → NamesSlot layout p key m → NamesSlot layout p key o
 names_before layout p key o m aside shard h =
     let S : Numbers × ℕ → Type 0 = λ z. (x : KeyRef) × (place_named (plan_of layout z.0) key ≡ Some x)
-    × (home (plan_of layout z.0) x.page ≡ z.1) in
+    × (shard_of (plan_of layout z.0) x.page ≡ z.1) in
     let P : Numbers × ℕ → Type 0 = λ z. (x : KeyRef) × (place_named (plan_of layout z.0) key ≡ Some x)
     × (x.page ≡ z.1 * pages_of z.0 + p) in record {
       shard = subst S (λ i. (aside.same.shape i, shard i)) h.shard;

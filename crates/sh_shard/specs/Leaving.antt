@@ -3,7 +3,7 @@ use Rattle.std.specs.Prelude.{◌≡◌, ◌≢◌, ℕ, ◌+◌, ◌*◌, ◌<�
 use Rattle.std.specs.Prelude.{Result, Ok, Err}
 use Rattle.sh_pass.specs.Passes.{Caller}
 use Rattle.sh_pass.specs.Owners.{SeenPage, Aside, HasNothing}
-use Rattle.sh_shard.specs.Pages.{Paged, page_at, own_slots, CursorStands, NothingMine, WaitsSince, WorksOn, NoArming}
+use Rattle.sh_shard.specs.Pages.{Paged, page_at, own_slots, HasCursor, NothingMine, WaitsSince, WorksOn, NoArming}
 use Rattle.sh_shard.specs.Pages.{ShardLeft, TakesSteps, StepsForSlots, StepsForRings}
 use Rattle.sh_shard.specs.Steps.{StepsAtMost}
 use Rattle.sh_shard.specs.Works.{WorksThroughout}
@@ -52,15 +52,15 @@ pub record AllAtRest (v : Paged) : Type 0 where
 
 -- the bell has a cursor; or it has none, and a page has a cursor or is armed
 abbrev pub NotAtRest : Paged → Type 0
-NotAtRest v = CursorStands v.bell.cursor
-    ⊎ ((v.bell.cursor ≡ None) × ((p : ℕ) × (p < v.count) × (CursorStands (page_at v p).cursor
+NotAtRest v = HasCursor v.bell.cursor
+    ⊎ ((v.bell.cursor ≡ None) × ((p : ℕ) × (p < v.count) × (HasCursor (page_at v p).cursor
     ⊎ (((page_at v p).cursor ≡ None) × ((page_at v p).armed ≡ true)))))
 
 -- The bell or a page is not at rest. Either a link of a cursor was not written in this call; or the page is armed
 -- although both it and the bell were taken in this call. Then the notice of its ring is yet to come.
 abbrev pub RestsNot : Paged → Paged → Type 0
-RestsNot o n = (CursorStands n.bell.cursor × (o.bell.met < n.bell.met))
-    ⊎ ((p : ℕ) × (p < n.count) × ((CursorStands (page_at n p).cursor × ((page_at o p).met < (page_at n p).met))
+RestsNot o n = (HasCursor n.bell.cursor × (o.bell.met < n.bell.met))
+    ⊎ ((p : ℕ) × (p < n.count) × ((HasCursor (page_at n p).cursor × ((page_at o p).met < (page_at n p).met))
     ⊎ ((n.bell.cursor ≡ None) × ((page_at n p).armed ≡ true) × ((page_at o p).takes < (page_at n p).takes)
     × (o.bell.takes < n.bell.takes))))
 

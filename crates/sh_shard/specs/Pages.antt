@@ -109,8 +109,8 @@ BlankFrom k v = (p : ℕ) → k ≤ p → p < v.count → (page_at v p).class �
 abbrev pub BlankHasNothing : Paged → Type 0
 BlankHasNothing v = (p : ℕ) → p < v.count → (page_at v p).class ≡ Some 0 → HasNothing (page_at v p)
 
-abbrev pub CursorStands : Option ℕ → Type 0
-CursorStands c = MatchOption c ⊥ (λ _. Unit {0})
+abbrev pub HasCursor : Option ℕ → Type 0
+HasCursor c = MatchOption c ⊥ (λ _. Unit {0})
 
 -- if the page has a cursor, a link was not written in this work
 abbrev pub WaitsSince : SeenPage → SeenPage → Type 0

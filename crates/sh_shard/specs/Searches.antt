@@ -10,7 +10,7 @@ use Rattle.sh_shard.specs.Steps.{StepsAtMost}
 use Rattle.sh_shard.specs.Pages.{Paged, page_at, PageDone, BellReads, StepsForRings}
 use Rattle.sh_shard.specs.Works.{WorksThroughout, BellDone, KeepsOthers, ReadFromBell}
 use Rattle.sh_shard.specs.Turning.{set_aside, turned_past, come_back, any_of_class}
-use Rattle.sh_shard.specs.Shards.{Sharded, SearchedInVain, HeardInTurn, LooksInVain}
+use Rattle.sh_shard.specs.Shards.{Sharded, SearchedInVain, RingsReadInTurn, LooksInVain}
 
 -- work on pages of class c alone: the bell is as it was
 pub record WorkedSince (c : ℕ) (o n : Paged) : Type 0 where
@@ -65,7 +65,7 @@ pub record RingsOut (c : ℕ) (read : Bool) (o n : Sharded) : Type 0 where
   pub through : WorksThroughout o.pages n.pages
   pub opened : n.queues.opened ≡ o.queues.opened
   pub rung : List ℕ
-  pub rings : HeardInTurn rung o n
+  pub rings : RingsReadInTurn rung o n
   pub heard : read ≡ any_of_class c n.pages rung
   pub gained : StoodOrRead c o n
   pub bell : BellDone o.pages n.pages
@@ -85,7 +85,7 @@ pub record Tried (c : ℕ) (o n : Sharded) : Type 0 where
   pub steps : StepsAtMost (9 * o.pages.count + 3) o.pages.owner n.pages.owner
 
 -- a page of this class word was read from the bell; if it was in the full queue, it went to the back of its class
-pub record Heard (word : ℕ) (o n : Sharded) : Type 0 where
+pub record ReadsRing (word : ℕ) (o n : Sharded) : Type 0 where
   pub page : ℕ
   pub reads : BellReads page o.pages n.pages
   pub class : (page_at n.pages page).class ≡ Some word
@@ -93,10 +93,10 @@ pub record Heard (word : ℕ) (o n : Sharded) : Type 0 where
   pub back : n.queues ≡ come_back page n.pages o.queues
 
 -- pages were read from the bell; none of them is of class c, unless `read`
-pub record Hears (c : ℕ) (read : Bool) (o n : Sharded) : Type 0 where
+pub record ReadsRings (c : ℕ) (read : Bool) (o n : Sharded) : Type 0 where
   pub opened : n.queues.opened ≡ o.queues.opened
   pub rung : List ℕ
-  pub rings : HeardInTurn rung o n
+  pub rings : RingsReadInTurn rung o n
   pub heard : read ≡ any_of_class c n.pages rung
   pub gained : StoodOrRead c o n
   pub aside : Aside o.pages.owner n.pages.owner

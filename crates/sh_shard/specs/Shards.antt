@@ -166,7 +166,7 @@ pub record FoundInQueue (c p : ℕ) (o n : Sharded) : Type 0 where
   pub queues : n.queues ≡ turned_past c n.pages ahead o.queues
 
 -- these pages were read from the bell, in this order, and each that was in the full queue came back to its class
-pub record HeardInTurn (rung : List ℕ) (o n : Sharded) : Type 0 where
+pub record RingsReadInTurn (rung : List ℕ) (o n : Sharded) : Type 0 where
   pub reads : ReadInTurn rung o.pages n.pages
   pub queues : n.queues ≡ come_back_each n.pages rung o.queues
 
@@ -177,7 +177,7 @@ pub record LooksInVain (c : ℕ) (o n : Sharded) : Type 0 where
   pub first : SearchedInVain c o searched
   pub rung : List ℕ
   pub heard : Sharded
-  pub rings : HeardInTurn rung searched heard
+  pub rings : RingsReadInTurn rung searched heard
   pub again : MatchBool (any_of_class c heard.pages rung) (SearchedInVain c heard n) (n ≡ heard)
 
 -- the queue of class c was searched in vain; then the bell was read, and a page of the class was among those read; then
@@ -187,7 +187,7 @@ pub record FoundAfterBell (c p : ℕ) (o n : Sharded) : Type 0 where
   pub first : SearchedInVain c o searched
   pub rung : List ℕ
   pub heard : Sharded
-  pub rings : HeardInTurn rung searched heard
+  pub rings : RingsReadInTurn rung searched heard
   pub some : any_of_class c heard.pages rung ≡ true
   pub finds : FoundInQueue c p heard n
 

@@ -1,6 +1,6 @@
 //! The pages of an owner's shard. What is kept of each page is what the owner knows about it.
 ghost use Rattle.std.specs.Prelude.{◌≡◌, ℕ, ◌^◌, ◌<◌, ◌≤◌, None, Some, MatchOption, MatchBool, true};
-ghost use Rattle.sh_shard.specs.Pages.{page_at, CursorStands, NothingMine, WhollyMine, NoneWhollyMine, BlankHasNothing};
+ghost use Rattle.sh_shard.specs.Pages.{page_at, HasCursor, NothingMine, WhollyMine, NoneWhollyMine, BlankHasNothing};
 ghost use Rattle.sh_shard.specs.Pages.{seen_class};
 
 mod adopting;
@@ -72,7 +72,7 @@ impl<L: KeyLayout, H: KeepsHeap<L>> PagesOn<L, H> {
     /// Whether the page has a cursor.
     pub(crate) fn has_cursor(&self, page: u64) -> bool
         requires { page < self.now.count }
-        ensures { MatchBool result (CursorStands (page_at self.now page).cursor)
+        ensures { MatchBool result (HasCursor (page_at self.now page).cursor)
             ((page_at self.now page).cursor ≡ None) }
     {
         self.states.cursor(page).is_some()

@@ -6,7 +6,7 @@ use Rattle.sh_step.specs.declared.action.PageName.{PageName}
 use Rattle.sh_step.specs.declared.action.SlotName.{SlotName}
 use Rattle.sh_slots.specs.declared.hand.SlotRef.{SlotRef}
 use Rattle.sh_step.specs.Conditions.{HasPage, its_page, page_name, slot_name}
-use Rattle.sh_step.specs.Plans.{Plan, home, local, page_number, heap_pages, page_of, slot_of}
+use Rattle.sh_step.specs.Plans.{Plan, shard_of, local, page_number, heap_pages, page_of, slot_of}
 
 -- the shard of a page is one of the shards
 pub home_is_shard : (pages shards page : ℕ) → 0 < pages → page < shards * pages → page / pages < shards
@@ -33,14 +33,14 @@ local_lt plan q below = mod_below q plan.pages (shards_have_pages plan.shards pl
 
 -- a page of the heap has a name, which names it
 pub has_page : (plan : Plan) (q : ℕ) → q < heap_pages plan → HasPage plan (page_name plan q)
-unfolding home
+unfolding shard_of
 has_page plan q below = record {
   shard = home_is_shard plan.pages plan.shards q (shards_have_pages plan.shards plan.pages q below) below;
   page = local_lt plan q below;
 }
 
 pub page_of_name : (plan : Plan) (q : ℕ) → page_of plan (page_name plan q) ≡ q
-unfolding page_number home local
+unfolding page_number shard_of local
 page_of_name plan q = div-add-mod' q plan.pages
 
 pub slot_of_name : (plan : Plan) (x : SlotRef) → slot_of plan (slot_name plan x) ≡ x
@@ -48,11 +48,11 @@ slot_of_name plan x = rw (page_of_name plan x.page) refl
 
 -- what a name names has that name
 pub name_of_page : (plan : Plan) (y : PageName) → HasPage plan y → page_name plan (page_of plan y) ≡ y
-unfolding page_number home local
+unfolding page_number shard_of local
 name_of_page plan y h =
     rw (div-mul-add y.shard plan.pages y.page h.page, mod-mul-add y.shard plan.pages y.page h.page) refl
 
 pub name_of_slot : (plan : Plan) (y : SlotName) → HasPage plan (its_page y) → slot_name plan (slot_of plan y) ≡ y
-unfolding page_number home local
+unfolding page_number shard_of local
 name_of_slot plan y h =
     rw (div-mul-add y.shard plan.pages y.page h.page, mod-mul-add y.shard plan.pages y.page h.page) refl

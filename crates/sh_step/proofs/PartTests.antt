@@ -7,7 +7,7 @@ use Rattle.sh_slots.specs.declared.hand.Hand.TheVariants.{Idle}
 use Rattle.sh_step.specs.declared.body.Body.{Body}
 use Rattle.sh_step.specs.Collections.{noted}
 use Rattle.sh_step.specs.Conditions.{Owns}
-use Rattle.sh_step.specs.Plans.{Plan, home}
+use Rattle.sh_step.specs.Plans.{Plan, shard_of}
 use Rattle.sh_step.specs.Rows.{idle, own, owned_by, no_cursor}
 use Rattle.sh_step.proofs.Truths.{no_bool}
 
@@ -21,15 +21,15 @@ idle_is p e = idle_hand p.hand e
 pub is_idle : (p : Body) → p.hand ≡ Idle → idle p ≡ true
 is_idle p e = ap (λ (h : Hand). elim h as (λ _. Bool) [ Idle ↦ true | _ ↦ false ]) e
 
-owns_hand : (plan : Plan) (q : ℕ) (o : Option ℕ) → owned_by plan o q ≡ true → o ≡ Some (home plan q)
-owns_hand plan q (Some n) e = ap Some (eqb-true n (home plan q) e)
+owns_hand : (plan : Plan) (q : ℕ) (o : Option ℕ) → owned_by plan o q ≡ true → o ≡ Some (shard_of plan q)
+owns_hand plan q (Some n) e = ap Some (eqb-true n (shard_of plan q) e)
 owns_hand plan q None e = no_bool e
 
 pub owns_is : (plan : Plan) (p : Body) (q : ℕ) → own plan p q ≡ true → Owns plan p q
 owns_is plan p q e = owns_hand plan q p.owned e
 
 pub is_own : (plan : Plan) (p : Body) (q : ℕ) → Owns plan p q → own plan p q ≡ true
-is_own plan p q e = ap (λ (o : Option ℕ). owned_by plan o q) e ∙ eq-eqb (home plan q) (home plan q) refl
+is_own plan p q e = ap (λ (o : Option ℕ). owned_by plan o q) e ∙ eq-eqb (shard_of plan q) (shard_of plan q) refl
 
 pub none_of : {A : Type 0} (o : Option A) → (elim o as (λ _. Bool) [ None ↦ true | _ ↦ false ]) ≡ true → o ≡ None
 none_of None e = refl

@@ -16,7 +16,7 @@ use Rattle.sh_step.specs.declared.moves.Move.{Move}
 use Rattle.sh_step.specs.declared.moves.Move.TheVariants as move
 use Rattle.sh_step.specs.Collections.{has, noted}
 use Rattle.sh_step.specs.Moves.{move_of}
-use Rattle.sh_step.specs.Plans.{Plan, heap_pages, home, local}
+use Rattle.sh_step.specs.Plans.{Plan, heap_pages, shard_of, local}
 use Rattle.sh_step.specs.Rows.{class_word_noted, all_mine}
 
 -- the key names this slot of the heap
@@ -40,7 +40,7 @@ SlotWithin plan x = (x.page < heap_pages plan) × (x.slot < slot_places)
 
 -- the page is of the shard that the pass owns
 abbrev pub Owns : Plan → Body → ℕ → Type 0
-Owns plan p q = p.owned ≡ Some (home plan q)
+Owns plan p q = p.owned ≡ Some (shard_of plan q)
 
 -- the pass has a hold on the key
 abbrev pub Holds : Body → ℕ → Type 0
@@ -87,10 +87,10 @@ May plan p (move.FollowBell q) = (p.hand ≡ Idle) × (p.bell_cursor ≡ Some q)
 
 -- the names of a page and of a slot
 abbrev pub page_name : Plan → ℕ → PageName
-page_name plan q = record { shard = home plan q; page = local plan q }
+page_name plan q = record { shard = shard_of plan q; page = local plan q }
 
 abbrev pub slot_name : Plan → SlotRef → SlotName
-slot_name plan x = record { shard = home plan x.page; page = local plan x.page; slot = x.slot }
+slot_name plan x = record { shard = shard_of plan x.page; page = local plan x.page; slot = x.slot }
 
 -- the action of a move
 abbrev pub action_of : Plan → Move → Action

@@ -9,7 +9,7 @@ use Rattle.sh_step.specs.declared.action.Action.TheVariants.{FollowBell}
 use Rattle.sh_step.specs.declared.footstep.Footstep.{Footstep}
 use Rattle.sh_step.specs.Collections.{if1}
 use Rattle.sh_step.specs.Operations.{answer}
-use Rattle.sh_step.specs.Plans.{Plan, home}
+use Rattle.sh_step.specs.Plans.{Plan, shard_of}
 use Rattle.sh_step.specs.Rows.{Row}
 
 -- the step of an action by this row, which found the word n
@@ -38,7 +38,7 @@ at_bell n (Bell x) = x == n
 at_bell n _ = false
 
 abbrev pub at_belled : Plan → ℕ → Place → Bool
-at_belled plan n (PageLink q) = home plan q == n
+at_belled plan n (PageLink q) = shard_of plan q == n
 at_belled plan n _ = false
 
 -- what was put on page q was taken

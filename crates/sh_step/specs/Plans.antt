@@ -4,7 +4,7 @@ use Rattle.sh_key.specs.declared.parts.Parts.{Parts}
 use Rattle.sh_key.specs.Layout.{Layout, packed, unpacked}
 use Rattle.sh_shape.specs.Shape.{Numbers, segment_pages}
 use Rattle.sh_shape.specs.Places.{slot_places}
-use Rattle.sh_bell.specs.Bell.{home_of, local_of}
+use Rattle.sh_bell.specs.Bell.{shard_of_page, local_of}
 use Rattle.sh_slots.specs.declared.hand.SlotRef.{SlotRef}
 use Rattle.sh_slots.specs.declared.hand.KeyRef.{KeyRef}
 use Rattle.sh_step.specs.declared.action.PageName.{PageName}
@@ -33,7 +33,7 @@ name_in shards pages p = cond (nat_lt p.shard shards && nat_lt p.page pages)
 abbrev pub parts_of : (pages : ℕ) → KeyRef → Parts
 parts_of pages n = record {
   generation = n.generation;
-  shard = home_of pages n.page;
+  shard = shard_of_page pages n.page;
   page = local_of pages n.page;
   slot = n.slot;
 }
@@ -61,8 +61,8 @@ plan_of layout n = record {
 abbrev pub heap_pages : Plan → ℕ
 heap_pages plan = plan.shards * plan.pages
 
-unfoldable pub home : Plan → ℕ → ℕ
-home plan q = home_of plan.pages q
+unfoldable pub shard_of : Plan → ℕ → ℕ
+shard_of plan q = shard_of_page plan.pages q
 
 -- the number of a named page over the whole heap, and the slot of that name
 unfoldable pub page_number : Plan → ℕ → ℕ → ℕ

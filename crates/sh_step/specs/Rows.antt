@@ -14,7 +14,7 @@ use Rattle.sh_step.specs.declared.body.Body.{Body}
 use Rattle.sh_shape.specs.declared.places.Place.{Place}
 use Rattle.sh_shape.specs.declared.places.Place.TheVariants.{Class, Head, PageLink, State, Link, Length, Payload, Owner}
 use Rattle.sh_shape.specs.declared.places.Place.TheVariants.{Bell}
-use Rattle.sh_step.specs.Plans.{Plan, home, local, over_heap}
+use Rattle.sh_step.specs.Plans.{Plan, shard_of, local, over_heap}
 use Rattle.sh_shape.specs.Classes.{width, slots}
 use Rattle.sh_slots.specs.Slots.{same_slot, slot_refs, slot_ref_of, live_at, has_room, after_enter_remove, after_drop}
 use Rattle.sh_slots.specs.Slots.{marked_word, finished_word, is_reusable_after, published_name}
@@ -43,7 +43,7 @@ abbrev pub idle : Body → Bool
 idle p = elim (p.hand) [ Idle ↦ true | _ ↦ false ]
 
 abbrev pub owned_by : Plan → Option ℕ → ℕ → Bool
-owned_by plan o q = elim o [ Some n ↦ n == home plan q | None ↦ false ]
+owned_by plan o q = elim o [ Some n ↦ n == shard_of plan q | None ↦ false ]
 
 abbrev pub own : Plan → Body → ℕ → Bool
 own plan p q = owned_by plan p.owned q
@@ -277,7 +277,7 @@ arm p q = record {
 
 abbrev pub ring : Plan → Body → ℕ → Row
 ring plan p q = record {
-  place = Bell (home plan q);
+  place = Bell (shard_of plan q);
   operation = Swap (top_word (local plan q));
   part = λ n. hand p (RingTying q (link_over n));
   reply = silent;
@@ -304,7 +304,7 @@ follow_bell plan p q = record {
   place = PageLink q;
   operation = Swap 0;
   part = λ m. cond (m == 0) p (record p {
-    bell_cursor = link_item (over_heap plan (home plan q) 2 m);
+    bell_cursor = link_item (over_heap plan (shard_of plan q) 2 m);
     armed = without
         (λ x. x == q) p.armed;
   });

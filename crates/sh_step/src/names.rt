@@ -5,7 +5,7 @@ ghost use Rattle.sh_shape.specs.Places.{all_pages, pages_of, slot_places};
 ghost use Rattle.sh_step.specs.Moves.{has_place, place_named, page_named, slot_named};
 
 use crate::{PageName, SlotName};
-use sh_bell::{home_of, local_of};
+use sh_bell::{local_of, shard_of_page};
 use sh_key::{KeyLayout, Parts};
 use sh_shape::{SLOT_PLACES, Shape};
 use sh_slots::{KeyRef, SlotRef};
@@ -89,7 +89,7 @@ pub fn key_of_name<L: KeyLayout>(shape: &Shape, name: KeyRef) -> u64
     let pages = u64::from(shape.pages());
     L::pack(Parts {
         generation: name.generation,
-        shard: home_of(pages, name.page) as u32,
+        shard: shard_of_page(pages, name.page) as u32,
         page: local_of(pages, name.page) as u32,
         slot: name.slot as u32,
     })

@@ -4,11 +4,11 @@ ghost use Rattle.sh_shape.specs.Classes.{width, slots};
 ghost use Rattle.sh_shape.specs.Places.{slot_places, payload_words};
 ghost use Rattle.sh_stack.specs.Stack.{top_word};
 ghost use Rattle.sh_bell.specs.Bell.{head_word};
-ghost use Rattle.sh_step.specs.Plans.{keys_of, plan_of, home, local};
+ghost use Rattle.sh_step.specs.Plans.{keys_of, plan_of, shard_of, local};
 ghost use Rattle.sh_step.specs.Rows.{payload_word};
 
 pub use crate::names::{key_of_name, page_of_name, place_of_key, slot_of_name};
-use sh_bell::{head_word, home_of, local_of};
+use sh_bell::{head_word, local_of, shard_of_page};
 use sh_key::KeyLayout;
 use sh_shape::{CLASS_COUNT, Place, Shape, classes};
 use sh_stack::top_word;
@@ -75,11 +75,11 @@ pub fn put_word(slot: u64) -> u64
 }
 
 /// The bell of the page's shard.
-#[tactic(auto, unfolding(crate::specs::Plans::home))]
+#[tactic(auto, unfolding(crate::specs::Plans::shard_of))]
 pub fn bell_of<L: KeyLayout>(shape: &Shape, page: u64) -> Place
-    ensures { result ≡ Place.Bell (home (plan_of L.layout shape.now) page) }
+    ensures { result ≡ Place.Bell (shard_of (plan_of L.layout shape.now) page) }
 {
-    Place::Bell(home_of(u64::from(shape.pages()), page))
+    Place::Bell(shard_of_page(u64::from(shape.pages()), page))
 }
 
 /// The word that puts the page on its shard's bell.

@@ -9,18 +9,18 @@ ghost use Rattle.sh_step.specs.Moves.{move_of};
 use crate::names::page_of_name;
 use crate::operands::slots_of_word;
 use crate::{Action, Move, PageName, Part};
-use sh_bell::home_of;
+use sh_bell::shard_of_page;
 use sh_key::KeyLayout;
 use sh_shape::{CLASS_COUNT, Shape};
 
 /// Whether the page is of the shard that the pass owns.
-#[tactic(auto, unfolding(crate::specs::Plans::home))]
+#[tactic(auto, unfolding(crate::specs::Plans::shard_of))]
 pub fn owns<L: KeyLayout>(shape: &Shape, part: &Part, page: u64) -> bool
     ensures { result ≡ own (plan_of L.layout shape.now) part.now page }
 {
     let pages = u64::from(shape.pages());
     match part.owned() {
-        Some(shard) => shard == home_of(pages, page),
+        Some(shard) => shard == shard_of_page(pages, page),
         None => false,
     }
 }

@@ -3,7 +3,7 @@ use Rattle.std.proofs.Common.{◌≡◌, ℕ, zero, suc, ◌+◌, ◌-◌, ◌*�
 use Rattle.std.proofs.Common.{refl, ap, ◌∙◌, subst, arith, eqb-true, eq-eqb}
 use Rattle.std.specs.Prelude.{not, nat_lt}
 use Rattle.sh_step.specs.Collections.{total, if1}
-use Rattle.sh_step.specs.Plans.{Plan, Lawful, heap_pages, home, page_number, over_heap}
+use Rattle.sh_step.specs.Plans.{Plan, Lawful, heap_pages, shard_of, page_number, over_heap}
 use Rattle.sh_core.specs.Worlds.{World}
 use Rattle.sh_core.specs.Lists.{PutLists, times}
 use Rattle.sh_core.specs.Stacks.{Chained, top, link_to, ring_tying, bell_link}
@@ -62,7 +62,7 @@ module _ (plan : Plan) (w : World) (l : PutLists) (laws : Lawful plan) (all : Ag
   link_small : (q : ℕ) → w.words.page_link_at q ≤ heap_pages plan + 1
   link_small q = go (w.words.page_link_at q == 0) refl where
     n : ℕ
-    n = home plan q
+    n = shard_of plan q
 
     word : ℕ → ℕ
     word = bell_link plan w.words.page_link_at n
@@ -71,7 +71,7 @@ module _ (plan : Plan) (w : World) (l : PutLists) (laws : Lawful plan) (all : Ag
     owed k = total (ring_tying plan n k) w.parts
 
     here : word q ≡ over_heap plan n 2 (w.words.page_link_at q)
-    here = rw (eq-eqb (home plan q) (home plan q) refl) refl
+    here = rw (eq-eqb (shard_of plan q) (shard_of plan q) refl) refl
 
     ends : (xs : List ℕ) → Chained word owed xs → ((s : ℕ) → times s xs ≤ times s (l.bells n) + times s
         (l.bell_chain n)) → 0 < times q xs → w.words.page_link_at q ≤ heap_pages plan + 1

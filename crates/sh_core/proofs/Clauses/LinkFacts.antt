@@ -3,7 +3,7 @@ use Rattle.std.proofs.Common.{◌≡◌, ℕ, zero, suc, ◌+◌, ◌<◌, ◌==
 use Rattle.std.specs.Prelude.{not}
 use Rattle.std.proofs.lemmas.Bool.Decides.{nat_tests}
 use Rattle.sh_step.specs.Collections.{total, if1}
-use Rattle.sh_step.specs.Plans.{Plan, Lawful, home}
+use Rattle.sh_step.specs.Plans.{Plan, Lawful, shard_of}
 use Rattle.sh_core.specs.Reads.{AllReadsAgree}
 use Rattle.sh_core.specs.LinkWords.{LinksOn, EachLinked}
 use Rattle.sh_core.specs.Lists.{PutLists, times}
@@ -60,7 +60,7 @@ module _ (plan : Plan) (w : World) (l : PutLists) (laws : Lawful plan) (all : Ag
       let duty = all.lists.duty q in
       let duty0 = duty.0 in
       let duty1 = duty.1 in
-      let here : times q (l.bells (home plan q)) + times q (l.bell_chain (home plan q))
+      let here : times q (l.bells (shard_of plan q)) + times q (l.bell_chain (shard_of plan q))
       ≡ times q (l.bells n) + times q (l.bell_chain n) = ap
       (λ (k : ℕ). times q (l.bells k) + times q (l.bell_chain k)) at in
       let ties = all.lists.bells.ties n q in omega arith

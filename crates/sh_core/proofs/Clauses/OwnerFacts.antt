@@ -5,7 +5,7 @@ use Rattle.std.proofs.lemmas.Bool.Decides.{nat_tests}
 use Rattle.sh_slots.specs.declared.hand.SlotRef.{SlotRef}
 use Rattle.sh_step.specs.Collections.{total, if1, noted}
 use Rattle.sh_step.specs.declared.body.Body.{Body}
-use Rattle.sh_step.specs.Plans.{Plan, Lawful, heap_pages, home}
+use Rattle.sh_step.specs.Plans.{Plan, Lawful, heap_pages, shard_of}
 use Rattle.sh_step.specs.Rows.{own, owned_by, unpoint}
 use Rattle.sh_core.specs.Bells.{armed_at, owns}
 use Rattle.sh_core.specs.Reads.{AllReadsAgree}
@@ -160,7 +160,7 @@ module _ (plan : Plan) (w : World) (l : PutLists) (laws : Lawful plan) (all : Ag
         let c = all.lists.bells.cursors n q in
         let f = first_times (l.bell_chain n) q in
         let at_home = bell_home plan w.words w.parts l n q all.lists (omega arith) in
-        let chain : times q (l.bell_chain (home plan q)) ≡ times q (l.bell_chain n) = ap
+        let chain : times q (l.bell_chain (shard_of plan q)) ≡ times q (l.bell_chain n) = ap
         (λ (k : ℕ). times q (l.bell_chain k)) at_home in
         let mine : own plan p q ≡ true = ap (λ (o : Option ℕ). owned_by plan o q) owned ∙ ap (λ (k : ℕ). n == k) at_home
         ∙ eq-eqb n n refl in

@@ -6,7 +6,7 @@ use Rattle.std.proofs.lemmas.Bool.Decides.{nat_tests}
 use Rattle.sh_slots.specs.declared.hand.SlotRef.{SlotRef}
 use Rattle.sh_slots.specs.declared.hand.KeyRef.{KeyRef}
 use Rattle.sh_step.specs.Fields.{Fields, fields_of}
-use Rattle.sh_step.specs.Plans.{Plan, home, Lawful, over_heap}
+use Rattle.sh_step.specs.Plans.{Plan, shard_of, Lawful, over_heap}
 use Rattle.sh_slots.specs.Slots.{slot_ref_of, slot_refs}
 use Rattle.sh_step.specs.Collections.{total, if1}
 use Rattle.sh_step.specs.declared.body.Body.{Body}
@@ -45,7 +45,7 @@ all_open plan laws = record {
       stacks = λ q. tt;
       chains = λ q. tt;
       ties = λ n q. let
-          z = none_new (ring_ties plan n q) plan.passes refl in let y = no_link n q (n == home plan q)
+          z = none_new (ring_ties plan n q) plan.passes refl in let y = no_link n q (n == shard_of plan q)
           in let x = over_none plan n 2 (omega arith) in omega arith;
       cursors = λ q s. none_new (bell_cursor_at q s)
           plan.passes refl;
@@ -188,7 +188,8 @@ module _ (plan : Plan) (w : World) (l : PutLists) (all : Agreement plan w l) whe
         λ q h. zero_all (armed_at q) (owns n) w.parts (λ j u at z. (all.lists.own_notes j u at).arms q
             (no_owner u.owned q h z)) none,
       ) where
-        no_owner : (o : Option ℕ) (q : ℕ) → home plan q ≡ n → (elim o as (λ _. ℕ) [ Some k ↦ if1 (k == n) | None ↦ 0 ])
+        no_owner : (o : Option ℕ) (q : ℕ) → shard_of plan q ≡ n
+            → (elim o as (λ _. ℕ) [ Some k ↦ if1 (k == n) | None ↦ 0 ])
             ≡ 0 → owned_by plan o q ≡ false
         no_owner o q h z = owns_none plan o q (let P : ℕ → Type 0 = λ m.
             (elim o as (λ _. ℕ) [ Some k ↦ if1 (k == m) | None ↦ 0 ]) ≡ 0 in subst P (sym h) z)

@@ -12,7 +12,7 @@ use Rattle.sh_step.specs.declared.action.SlotName.{SlotName}
 use Rattle.sh_key.specs.Layouts.{tiny}
 use Rattle.sh_core.specs.Words.{Words, put, put2}
 use Rattle.sh_step.specs.Fields.{fields_of, word_of}
-use Rattle.sh_step.specs.Plans.{Plan, keys_of, page_number, local, over_heap, plan_of, home}
+use Rattle.sh_step.specs.Plans.{Plan, keys_of, page_number, local, over_heap, plan_of, shard_of}
 use Rattle.sh_slots.specs.Slots.{slot_refs}
 use Rattle.sh_step.specs.Collections.{total, without, has, noted, off, every}
 use Rattle.sh_step.specs.Moves.{move_of, row}
@@ -50,7 +50,8 @@ abbrev words : ℕ → List Event → Words
 words n es = (run (small n) es).words
 
 unfoldable pub everything : ℕ
-unfolding fields_of word_of put put2 total without has noted off every home slot_refs row move_of apply step run_from
+unfolding fields_of word_of put put2 total without has noted off every shard_of slot_refs row move_of apply step
+    run_from
     value_at keys_of page_number local over_heap accounts listed list_step lists_from row_of_event outcome_of
     outcomes_from
 everything = 0

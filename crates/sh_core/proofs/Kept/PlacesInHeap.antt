@@ -32,7 +32,7 @@ use Rattle.sh_step.specs.declared.moves.Move.TheVariants.{Fill, Publish, ReadCla
 use Rattle.sh_step.specs.declared.moves.Move.TheVariants.{SetClass, Take, Follow, Put, PutSlot, Tie, Adopt, Leave, Arm}
 use Rattle.sh_step.specs.declared.moves.Move.TheVariants.{Ring, RingTie, TakeBell, FollowBell}
 use Rattle.sh_step.specs.Moves.{row_of}
-use Rattle.sh_step.specs.Plans.{Plan, Lawful, heap_pages, home}
+use Rattle.sh_step.specs.Plans.{Plan, Lawful, heap_pages, shard_of}
 use Rattle.sh_step.specs.Rows.{class_word_noted}
 use Rattle.sh_step.specs.Conditions.{May}
 use Rattle.sh_core.proofs.Moves.ByMove.{MovesCount, by_move}
@@ -86,7 +86,7 @@ module _ (plan : Plan) (w : World) (l : PutLists) (laws : Lawful plan) (all : Ag
   pub belled : (n q : ℕ) → 0 < times q (l.bells n) + times q (l.bell_chain n) → q < heap_pages plan
   belled n q some =
       let at_home = bell_home plan w.words w.parts l n q all.lists some in
-      let s : times q (l.bells (home plan q)) + times q (l.bell_chain (home plan q))
+      let s : times q (l.bells (shard_of plan q)) + times q (l.bell_chain (shard_of plan q))
       ≡ times q (l.bells n) + times q (l.bell_chain n) = ap
       (λ (k : ℕ). times q (l.bells k) + times q (l.bell_chain k)) at_home in
       let d = (all.lists.duty q).0 in
@@ -109,8 +109,8 @@ module _ (plan : Plan) (w : World) (l : PutLists) (laws : Lawful plan) (all : Ag
         let two = if1_self q in belled n q (omega arith)
     go None mine = absurd (let z : None ≡ Some q = sym ((all.lists.own_notes a p at).bell mine) ∙ is in cc)
 
-  home_lt : (q : ℕ) → q < heap_pages plan → home plan q < plan.shards
-  unfolding home
+  home_lt : (q : ℕ) → q < heap_pages plan → shard_of plan q < plan.shards
+  unfolding shard_of
   home_lt q small = go plan.pages refl where
     go : (n : ℕ) → plan.pages ≡ n → q / plan.pages < plan.shards
     go zero e = absurd (let z : plan.shards * plan.pages ≡ 0 = rw e (omega arith) in omega arith)

@@ -4,7 +4,7 @@ use Rattle.std.proofs.Common.{◌∙◌, arith, Some, slice_get, eqb-true, eq-eq
 use Rattle.sh_slots.specs.declared.hand.Hand.TheVariants.{Idle, Ringing, RingTying}
 use Rattle.sh_core.specs.Words.{Words, write, put}
 use Rattle.sh_shape.specs.declared.places.Place.TheVariants.{PageLink, Bell}
-use Rattle.sh_step.specs.Plans.{Plan, home, local, over_heap}
+use Rattle.sh_step.specs.Plans.{Plan, shard_of, local, over_heap}
 use Rattle.sh_step.specs.Collections.{total, if1}
 use Rattle.sh_step.specs.declared.body.Body.{Body}
 use Rattle.sh_core.specs.Lists.{PutLists, times}
@@ -27,7 +27,7 @@ module _ (plan : Plan) (w : Words) (ps : List Body) (l : PutLists) (a : ℕ) (p 
     (at : slice_get ps a ≡ Some (hand p (Ringing q))) where
   -- the shard whose bell it is
   abbrev ring_bell : ℕ
-  ring_bell = home plan q
+  ring_bell = shard_of plan q
 
   abbrev ring_before : Body
   ring_before = hand p (Ringing q)
@@ -50,7 +50,8 @@ module _ (plan : Plan) (w : Words) (ps : List Body) (l : PutLists) (a : ℕ) (p 
       (bell_head plan w.bell_at ring_bell + 1)
   ring_owed =
       let m = total_set (ring_tying plan ring_bell q) ps a ring_before ring_after at in
-      let here : cond ((ring_bell == home plan q) && (q == q)) (over_heap plan ring_bell 2 (w.bell_at ring_bell + 1)) 0
+      let here : cond ((ring_bell == shard_of plan q) && (q == q))
+          (over_heap plan ring_bell 2 (w.bell_at ring_bell + 1)) 0
       ≡ bell_head plan w.bell_at ring_bell + 1 = rw (eq-eqb ring_bell ring_bell refl, eq-eqb q q refl)
       (over_next plan ring_bell (w.bell_at ring_bell))
       in omega arith
@@ -58,23 +59,26 @@ module _ (plan : Plan) (w : Words) (ps : List Body) (l : PutLists) (a : ℕ) (p 
   ring_tied : total (ring_ties plan ring_bell q) (set ps a ring_after) ≡ total (ring_ties plan ring_bell q) ps + 1
   ring_tied =
       let m = total_set (ring_ties plan ring_bell q) ps a ring_before ring_after at in
-      let here : if1 ((ring_bell == home plan q) && (q == q)) ≡ 1 =
+      let here : if1 ((ring_bell == shard_of plan q) && (q == q)) ≡ 1 =
       rw (eq-eqb ring_bell ring_bell refl, eq-eqb q q refl) refl in omega arith
 
-  same_home : (k : ℕ) → (q == k) ≡ true → home plan k ≡ ring_bell
-  same_home k e = ap (home plan) (sym (eqb-true q k e))
+  same_home : (k : ℕ) → (q == k) ≡ true → shard_of plan k ≡ ring_bell
+  same_home k e = ap (shard_of plan) (sym (eqb-true q k e))
 
-  on_bell : (k : ℕ) → times k (put l.bells ring_bell (q ∷ l.bells ring_bell) (home plan k))
-      ≡ if1 (q == k) + times k (l.bells (home plan k))
-  on_bell k = go (home plan k == ring_bell) refl where
-    go : (b : Bool) → (home plan k == ring_bell) ≡ b → times k
-        (put l.bells ring_bell (q ∷ l.bells ring_bell) (home plan k))
-        ≡ if1 (q == k) + times k (l.bells (home plan k))
-    go true e = let i = eqb-true (home plan k) ring_bell e in rw (i, put_same l.bells ring_bell (q ∷ l.bells ring_bell))
+  on_bell : (k : ℕ) → times k (put l.bells ring_bell (q ∷ l.bells ring_bell) (shard_of plan k))
+      ≡ if1 (q == k) + times k (l.bells (shard_of plan k))
+  on_bell k = go (shard_of plan k == ring_bell) refl where
+    go : (b : Bool) → (shard_of plan k == ring_bell) ≡ b → times k
+        (put l.bells ring_bell (q ∷ l.bells ring_bell) (shard_of plan k))
+        ≡ if1 (q == k) + times k (l.bells (shard_of plan k))
+    go true e = let i = eqb-true (shard_of plan k) ring_bell e in rw
+        (i, put_same l.bells ring_bell (q ∷ l.bells ring_bell))
         (times_cons k q (l.bells ring_bell))
-    go false e = rw (put_other l.bells ring_bell (home plan k) (q ∷ l.bells ring_bell) e) (other (q == k) refl) where
-      other : (b : Bool) → (q == k) ≡ b → times k (l.bells (home plan k)) ≡ if1 b + times k (l.bells (home plan k))
-      other true f = let z : true ≡ false = sym (let y : (home plan k == ring_bell) ≡ true =
+    go false e = rw (put_other l.bells ring_bell (shard_of plan k) (q ∷ l.bells ring_bell) e)
+        (other (q == k) refl) where
+      other : (b : Bool) → (q == k) ≡ b → times k (l.bells (shard_of plan k))
+          ≡ if1 b + times k (l.bells (shard_of plan k))
+      other true f = let z : true ≡ false = sym (let y : (shard_of plan k == ring_bell) ≡ true =
           rw (same_home k f) (eq-eqb ring_bell ring_bell refl)
           in y) ∙ e in absurd (cc)
       other false f = omega arith
@@ -119,13 +123,13 @@ module _ (plan : Plan) (w : Words) (ps : List Body) (l : PutLists) (a : ℕ) (p 
   ring_tie_after = hand p Idle
 
   abbrev ring_tie_bell : ℕ
-  ring_tie_bell = home plan q
+  ring_tie_bell = shard_of plan q
 
   ring_tie_tied : total (ring_ties plan ring_tie_bell q) (set ps a ring_tie_after) + 1
       ≡ total (ring_ties plan ring_tie_bell q) ps
   ring_tie_tied =
       let m = total_set (ring_ties plan ring_tie_bell q) ps a ring_tie_before ring_tie_after at in
-      let one : if1 ((ring_tie_bell == home plan q) && (q == q)) ≡ 1 =
+      let one : if1 ((ring_tie_bell == shard_of plan q) && (q == q)) ≡ 1 =
       rw (eq-eqb ring_tie_bell ring_tie_bell refl, eq-eqb q q refl) refl in omega arith
 
   abbrev ring_tie_link : ℕ
@@ -135,7 +139,7 @@ module _ (plan : Plan) (w : Words) (ps : List Body) (l : PutLists) (a : ℕ) (p 
       ≡ total (ring_tying plan ring_tie_bell q) ps
   ring_tie_owed =
       let m = total_set (ring_tying plan ring_tie_bell q) ps a ring_tie_before ring_tie_after at in
-      let one : cond ((ring_tie_bell == home plan q) && (q == q)) ring_tie_link 0 ≡ ring_tie_link =
+      let one : cond ((ring_tie_bell == shard_of plan q) && (q == q)) ring_tie_link 0 ≡ ring_tie_link =
       rw (eq-eqb ring_tie_bell ring_tie_bell refl, eq-eqb q q refl) refl
       in omega arith
 
@@ -171,9 +175,9 @@ module _ (plan : Plan) (w : Words) (ps : List Body) (l : PutLists) (a : ℕ) (p 
         (λ g i e. (
           links g i e (i == q) refl,
           total_same (ring_tying plan g i) ps a ring_tie_before ring_tie_after at
-              (let z : cond ((g == home plan q) && (i == q)) (over_heap plan g 2 n) 0 ≡ 0 = rw e refl in sym z),
+              (let z : cond ((g == shard_of plan q) && (i == q)) (over_heap plan g 2 n) 0 ≡ 0 = rw e refl in sym z),
           total_same (ring_ties plan g i) ps a ring_tie_before ring_tie_after at
-              (let z : if1 ((g == home plan q) && (i == q)) ≡ 0 = rw e refl in sym z),
+              (let z : if1 ((g == shard_of plan q) && (i == q)) ≡ 0 = rw e refl in sym z),
         ))
         (λ g i. total_same (bell_cursor_at g i) ps a ring_tie_before ring_tie_after at refl);
     duty = λ k. let c = total_same (rings k) ps a ring_tie_before ring_tie_after at refl in
@@ -190,5 +194,5 @@ module _ (plan : Plan) (w : Words) (ps : List Body) (l : PutLists) (a : ℕ) (p 
     links g i e true f =
         let c = first_fails (g == ring_tie_bell) (i == q) e f in
         let j = eqb-true i q f in
-        let z : (g == home plan i) ≡ false = rw j c in rw z refl
+        let z : (g == shard_of plan i) ≡ false = rw j c in rw z refl
     links g i e false f = rw (put_other w.page_link_at q i n f) refl

@@ -7,7 +7,7 @@ use Rattle.sh_slots.specs.declared.hand.Hand.{Hand}
 use Rattle.sh_slots.specs.declared.hand.Hand.TheVariants.{RingTying}
 use Rattle.sh_core.specs.Words.{Words, write, put}
 use Rattle.sh_shape.specs.declared.places.Place.TheVariants.{PageLink, Bell}
-use Rattle.sh_step.specs.Plans.{Plan, home, over_heap}
+use Rattle.sh_step.specs.Plans.{Plan, shard_of, over_heap}
 use Rattle.sh_step.specs.Collections.{total, if1, without}
 use Rattle.sh_step.specs.declared.body.Body.{Body}
 use Rattle.sh_core.specs.Lists.{PutLists, times, bells_taken}
@@ -95,7 +95,7 @@ module _ (plan : Plan) (w : Words) (ps : List Body) (l : PutLists) (a : ℕ) (p 
         let o = old.duty k in
         let o0 = o.0 in
         let o1 = o.1 in
-        let m = moved k (home plan k == n) refl in (omega arith, omega arith);
+        let m = moved k (shard_of plan k == n) refl in (omega arith, omega arith);
     owned = λ m. let z = total_same (owns m) ps a p take_bell_after at refl in let d = old.owned m
         in (d.0 ∙ sym z, d.1);
     own_notes = let o = old.own_notes a p at in homed_set plan w.class_at ps a take_bell_after old.own_notes (record {
@@ -106,35 +106,37 @@ module _ (plan : Plan) (w : Words) (ps : List Body) (l : PutLists) (a : ℕ) (p 
       notes = o.notes;
     });
   } where
-    moved : (k : ℕ) (b : Bool) → (home plan k == n) ≡ b → times k (put l.bells n [] (home plan k)) + times k
-        (put l.bell_chain n (l.bells n) (home plan k)) ≡ times k (l.bells (home plan k)) + times k
-        (l.bell_chain (home plan k))
-    moved k true e = let i = eqb-true (home plan k) n e in rw
+    moved : (k : ℕ) (b : Bool) → (shard_of plan k == n) ≡ b → times k (put l.bells n [] (shard_of plan k)) + times k
+        (put l.bell_chain n (l.bells n) (shard_of plan k)) ≡ times k (l.bells (shard_of plan k)) + times k
+        (l.bell_chain (shard_of plan k))
+    moved k true e = let i = eqb-true (shard_of plan k) n e in rw
         (i, put_same l.bells n [], put_same l.bell_chain n (l.bells n), no_bell_chain) (omega arith)
-    moved k false e = rw (put_other l.bells n (home plan k) [] e, put_other l.bell_chain n (home plan k) (l.bells n) e)
+    moved k false e = rw (put_other l.bells n (shard_of plan k) [] e, put_other l.bell_chain n (shard_of plan k)
+        (l.bells n) e)
         refl
 
 -- no pass stores a page's link on another shard's bell, so a page on a bell or its chain is of that shard
-pub ties_home : (plan : Plan) (n q : ℕ) → (n == home plan q) ≡ false → (ps : List Body) → total (ring_ties plan n q) ps
+pub ties_home : (plan : Plan) (n q : ℕ) → (n == shard_of plan q) ≡ false → (ps : List Body)
+    → total (ring_ties plan n q) ps
     ≡ 0
 unfolding total
 ties_home plan n q h [] = refl
 ties_home plan n q h (p ∷ ps) = let one = each (p.hand) in let rest = ties_home plan n q h ps in omega arith where
   each : (h : Hand) → ring_ties plan n q (hand p h) ≡ 0
   each (RingTying k m) = go (q == k) refl where
-    go : (b : Bool) → (q == k) ≡ b → if1 ((n == home plan k) && b) ≡ 0
-    go true e = let i = eqb-true q k e in let z : (n == home plan k) ≡ false = rw (← i) h in rw z refl
-    go false e = all_false (n == home plan k) where
+    go : (b : Bool) → (q == k) ≡ b → if1 ((n == shard_of plan k) && b) ≡ 0
+    go true e = let i = eqb-true q k e in let z : (n == shard_of plan k) ≡ false = rw (← i) h in rw z refl
+    go false e = all_false (n == shard_of plan k) where
       all_false : (b : Bool) → if1 (b && false) ≡ 0
       all_false true = refl
       all_false false = refl
   each _ = refl
 
 pub bell_home : (plan : Plan) (w : Words) (ps : List Body) (l : PutLists) (n q : ℕ) → ListsAgreeOf plan w ps l
-    → 0 < times q (l.bells n) + times q (l.bell_chain n) → home plan q ≡ n
-bell_home plan w ps l n q old some = go (n == home plan q) refl where
-  go : (b : Bool) → (n == home plan q) ≡ b → home plan q ≡ n
-  go true e = sym (eqb-true n (home plan q) e)
+    → 0 < times q (l.bells n) + times q (l.bell_chain n) → shard_of plan q ≡ n
+bell_home plan w ps l n q old some = go (n == shard_of plan q) refl where
+  go : (b : Bool) → (n == shard_of plan q) ≡ b → shard_of plan q ≡ n
+  go true e = sym (eqb-true n (shard_of plan q) e)
   go false e = absurd (
       let ties = old.bells.ties n q in
       let nobody = ties_home plan n q e ps in
@@ -148,7 +150,7 @@ module _ (plan : Plan) (w : Words) (ps : List Body) (l : PutLists) (a : ℕ) (p 
     (found : (w.page_link_at q == 0) ≡ false) where
   abbrev follow_bell_after : Body
   follow_bell_after = record p {
-    bell_cursor = link_item (over_heap plan (home plan q) 2 (w.page_link_at q));
+    bell_cursor = link_item (over_heap plan (shard_of plan q) 2 (w.page_link_at q));
     armed = without (λ x. x == q) p.armed;
   }
 
@@ -170,11 +172,11 @@ module _ (plan : Plan) (w : Words) (ps : List Body) (l : PutLists) (a : ℕ) (p 
       rw bell_chain_is (times_cons q q bell_left)
       in let v = if1_self q in omega arith
 
-  page_home : home plan q ≡ n
+  page_home : shard_of plan q ≡ n
   page_home = bell_home plan w ps l n q old (let s = page_stands in omega arith)
 
-  page_is_home : (n == home plan q) ≡ true
-  page_is_home = eq-eqb n (home plan q) (sym page_home)
+  page_is_home : (n == shard_of plan q) ≡ true
+  page_is_home = eq-eqb n (shard_of plan q) (sym page_home)
 
   page_owned : own plan p q ≡ true
   page_owned = rw mine page_is_home
@@ -184,15 +186,16 @@ module _ (plan : Plan) (w : Words) (ps : List Body) (l : PutLists) (a : ℕ) (p 
       let d = old.duty q in
       let d0 = d.0 in
       let d1 = d.1 in
-      let e1 : times q (l.bells (home plan q)) ≡ times q (l.bells n) = ap (λ (k : ℕ). times q (l.bells k)) page_home in
-      let e2 : times q (l.bell_chain (home plan q)) ≡ times q (l.bell_chain n) = ap
+      let e1 : times q (l.bells (shard_of plan q))
+          ≡ times q (l.bells n) = ap (λ (k : ℕ). times q (l.bells k)) page_home in
+      let e2 : times q (l.bell_chain (shard_of plan q)) ≡ times q (l.bell_chain n) = ap
       (λ (k : ℕ). times q (l.bell_chain k)) page_home in omega arith
 
   page_armed : 0 < times q p.armed
   page_armed =
       let d = old.duty q in
       let d0 = d.0 in
-      let e2 : times q (l.bell_chain (home plan q)) ≡ times q (l.bell_chain n) = ap
+      let e2 : times q (l.bell_chain (shard_of plan q)) ≡ times q (l.bell_chain n) = ap
       (λ (k : ℕ). times q (l.bell_chain k)) page_home in
       let s = page_stands in
       let al = alone_armed plan w ps l a p old at q page_owned in omega arith
@@ -207,7 +210,7 @@ module _ (plan : Plan) (w : Words) (ps : List Body) (l : PutLists) (a : ℕ) (p 
     go true f =
         let c = first_fails (g == n) (i == q) e f in
         let j = eqb-true i q f in
-        let z : (g == home plan i) ≡ false = rw (j, page_home) c in rw z refl
+        let z : (g == shard_of plan i) ≡ false = rw (j, page_home) c in rw z refl
     go false f = rw (put_other w.page_link_at q i 0 f) refl
 
   link_cleared : bell_link plan (put w.page_link_at q 0) n q ≡ 0
@@ -219,7 +222,7 @@ module _ (plan : Plan) (w : Words) (ps : List Body) (l : PutLists) (a : ℕ) (p 
   ring_tied_same : (g i : ℕ) → total (ring_ties plan g i) (set ps a follow_bell_after) ≡ total (ring_ties plan g i) ps
   ring_tied_same g i = total_same (ring_ties plan g i) ps a p follow_bell_after at refl
 
-  bell_link_is : over_heap plan (home plan q) 2 (w.page_link_at q) ≡ link_to bell_left
+  bell_link_is : over_heap plan (shard_of plan q) 2 (w.page_link_at q) ≡ link_to bell_left
   bell_link_is =
       let e : bell_link plan w.page_link_at n q ≡ link_to bell_left = chain_link (bell_head plan w.bell_at)
       (bell_link plan w.page_link_at) (bell_link plan (put w.page_link_at q 0)) (λ m k. total (ring_tying plan m k) ps)
@@ -232,7 +235,8 @@ module _ (plan : Plan) (w : Words) (ps : List Body) (l : PutLists) (a : ℕ) (p 
       in ap (λ (k : ℕ). over_heap plan k 2 (w.page_link_at q)) page_home ∙ sym f ∙ e
 
   follow_bell_now : (k i : ℕ) → bell_cursor_at k i follow_bell_after ≡ cond (n == k) (first_is bell_left i) 0
-  follow_bell_now k i = owned_at n k p.owned (is_at (link_item (over_heap plan (home plan q) 2 (w.page_link_at q))) i)
+  follow_bell_now k i = owned_at n k p.owned
+      (is_at (link_item (over_heap plan (shard_of plan q) 2 (w.page_link_at q))) i)
       mine ∙ rw bell_link_is (ap (λ (m : ℕ). cond (n == k) m 0) (is_linked bell_left i))
 
   pub follow_bell_agrees : ListsAgreeOf plan (write w (PageLink q) 0) (set ps a follow_bell_after)
@@ -265,7 +269,7 @@ module _ (plan : Plan) (w : Words) (ps : List Body) (l : PutLists) (a : ℕ) (p 
         let o = old.duty k in
         let o0 = o.0 in
         let o1 = o.1 in
-        let m = moved k (home plan k == n) refl in
+        let m = moved k (shard_of plan k == n) refl in
         let b = times_off q k p.armed page_armed in (omega arith, omega arith);
     owned = λ m. let z = total_same (owns m) ps a p follow_bell_after at refl in let d = old.owned m
         in (d.0 ∙ sym z, d.1);
@@ -277,17 +281,18 @@ module _ (plan : Plan) (w : Words) (ps : List Body) (l : PutLists) (a : ℕ) (p 
       notes = o.notes;
     });
   } where
-    other : (k : ℕ) → (home plan k == n) ≡ false → (b : Bool) → (q == k) ≡ b → if1 b ≡ 0
+    other : (k : ℕ) → (shard_of plan k == n) ≡ false → (b : Bool) → (q == k) ≡ b → if1 b ≡ 0
     other k e true f = let i = eqb-true q k f in let z : true ≡ false = sym
-        (let y : (home plan k == n) ≡ true = rw (← i, page_home) (eq-eqb n n refl) in y) ∙ e in absurd (cc)
+        (let y : (shard_of plan k == n) ≡ true = rw (← i, page_home) (eq-eqb n n refl) in y) ∙ e in absurd (cc)
     other k e false f = refl
 
-    moved : (k : ℕ) (b : Bool) → (home plan k == n) ≡ b
-        → times k (put l.bell_chain n bell_left (home plan k)) + if1 (q == k) ≡ times k (l.bell_chain (home plan k))
+    moved : (k : ℕ) (b : Bool) → (shard_of plan k == n) ≡ b
+        → times k (put l.bell_chain n bell_left (shard_of plan k)) + if1 (q == k)
+            ≡ times k (l.bell_chain (shard_of plan k))
     moved k true e =
-        let i = eqb-true (home plan k) n e in
+        let i = eqb-true (shard_of plan k) n e in
         let c : times k (l.bell_chain n) ≡ if1 (q == k) + times k bell_left =
         rw bell_chain_is (times_cons k q bell_left)
         in rw (i, put_same l.bell_chain n bell_left) (omega arith)
-    moved k false e = let z = other k e (q == k) refl in rw (put_other l.bell_chain n (home plan k) bell_left e)
+    moved k false e = let z = other k e (q == k) refl in rw (put_other l.bell_chain n (shard_of plan k) bell_left e)
         (omega arith)

@@ -6,7 +6,7 @@ use Rattle.std.proofs.lemmas.Bool.Decides.{nat_tests}
 use Rattle.sh_slots.specs.declared.hand.SlotRef.{SlotRef}
 use Rattle.sh_slots.specs.declared.hand.Hand.{Hand}
 use Rattle.sh_slots.specs.declared.hand.Hand.TheVariants.{Tying, RingTying}
-use Rattle.sh_step.specs.Plans.{Plan, home, over_heap}
+use Rattle.sh_step.specs.Plans.{Plan, shard_of, over_heap}
 use Rattle.sh_slots.specs.Slots.{same_slot}
 use Rattle.sh_step.specs.Collections.{total, if1}
 use Rattle.sh_step.specs.declared.body.Body.{Body}
@@ -82,12 +82,12 @@ lists_frame plan w ps l a p p' r at same mine = record {
 abbrev owns_by : ℕ → Option ℕ → ℕ
 owns_by n o = elim o [ Some k ↦ if1 (k == n) | None ↦ 0 ]
 
-pub owns_one : (plan : Plan) (o : Option ℕ) (q : ℕ) → owned_by plan o q ≡ true → owns_by (home plan q) o ≡ 1
+pub owns_one : (plan : Plan) (o : Option ℕ) (q : ℕ) → owned_by plan o q ≡ true → owns_by (shard_of plan q) o ≡ 1
 owns_one plan (Some k) q h = rw h refl
 owns_one plan None q h = absurd (let z : false ≡ true = h in cc)
 
-pub owns_none : (plan : Plan) (o : Option ℕ) (q : ℕ) → owns_by (home plan q) o ≡ 0 → owned_by plan o q ≡ false
-owns_none plan (Some k) q h = if1_none (k == home plan q) h
+pub owns_none : (plan : Plan) (o : Option ℕ) (q : ℕ) → owns_by (shard_of plan q) o ≡ 0 → owned_by plan o q ≡ false
+owns_none plan (Some k) q h = if1_none (k == shard_of plan q) h
 owns_none plan None q h = refl
 
 module _ (plan : Plan) (w : Words) (ps : List Body) (l : PutLists) (a : ℕ) (p : Body) (r : ListsAgreeOf plan w ps l)
@@ -96,13 +96,13 @@ module _ (plan : Plan) (w : Words) (ps : List Body) (l : PutLists) (a : ℕ) (p 
   few_owners n = let d = r.owned n in let d0 = d.0 in let d1 = d.1 in omega arith
 
   pub alone_cursor : (q s : ℕ) → own plan p q ≡ true → total (cursor_at q s) ps ≡ cursor_at q s p
-  alone_cursor q s mine = let o = owns_one plan p.owned q mine in let f = few_owners (home plan q) in
-      total_alone (cursor_at q s) (owns (home plan q)) ps a p
+  alone_cursor q s mine = let o = owns_one plan p.owned q mine in let f = few_owners (shard_of plan q) in
+      total_alone (cursor_at q s) (owns (shard_of plan q)) ps a p
       (λ j u h z. (r.own_notes j u h).points q s (owns_none plan u.owned q z)) at f (omega arith)
 
   pub alone_armed : (q : ℕ) → own plan p q ≡ true → total (armed_at q) ps ≡ armed_at q p
-  alone_armed q mine = let o = owns_one plan p.owned q mine in let f = few_owners (home plan q) in
-      total_alone (armed_at q) (owns (home plan q)) ps a p (λ j u h z. (r.own_notes j u h).arms q
+  alone_armed q mine = let o = owns_one plan p.owned q mine in let f = few_owners (shard_of plan q) in
+      total_alone (armed_at q) (owns (shard_of plan q)) ps a p (λ j u h z. (r.own_notes j u h).arms q
       (owns_none plan u.owned q z)) at f (omega arith)
 
   pub alone_bell : (n q : ℕ) → p.owned ≡ Some n → total (bell_cursor_at n q) ps ≡ bell_cursor_at n q p
@@ -120,9 +120,9 @@ module _ (plan : Plan) (w : Words) (ps : List Body) (l : PutLists) (a : ℕ) (p 
   -- another pass does not own what p does
   pub other_owner : (b q : ℕ) (u : Body) → b ≢ a → slice_get ps b ≡ Some u → own plan p q ≡ true → own plan u q ≡ false
   other_owner b q u n h mine =
-      let f = few_owners (home plan q) in
+      let f = few_owners (shard_of plan q) in
       let o = owns_one plan p.owned q mine in
-      let t = total_two (owns (home plan q)) ps b a u p n h at in
+      let t = total_two (owns (shard_of plan q)) ps b a u p n h at in
       owns_none plan u.owned q (omega arith)
 
 -- a pass that ties nothing has no link to store
@@ -145,7 +145,7 @@ no_ring_ties plan n q [] h = refl
 no_ring_ties plan n q (p ∷ ps) h = let one = each (p.hand) in let rest = no_ring_ties plan n q ps (omega arith)
     in let here = one (omega arith) in omega arith where
       each : (h : Hand) → ring_ties plan n q (hand p h) ≡ 0 → ring_tying plan n q (hand p h) ≡ 0
-      each (RingTying k l) e = go ((n == home plan k) && (q == k)) e where
+      each (RingTying k l) e = go ((n == shard_of plan k) && (q == k)) e where
         go : (b : Bool) → if1 b ≡ 0 → cond b (over_heap plan n 2 l) 0 ≡ 0
         go true c = absurd (omega arith)
         go false c = refl

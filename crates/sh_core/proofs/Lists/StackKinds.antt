@@ -5,7 +5,7 @@ use Rattle.sh_slots.specs.declared.hand.SlotRef.{SlotRef}
 use Rattle.sh_slots.specs.declared.hand.Hand.TheVariants.{Idle, Tying, Ringing}
 use Rattle.sh_core.specs.Words.{Words, write, put, put2}
 use Rattle.sh_shape.specs.declared.places.Place.TheVariants.{Head, Link}
-use Rattle.sh_step.specs.Plans.{Plan, home}
+use Rattle.sh_step.specs.Plans.{Plan, shard_of}
 use Rattle.sh_slots.specs.Slots.{same_slot}
 use Rattle.sh_step.specs.Collections.{total, if1, noted}
 use Rattle.sh_step.specs.declared.body.Body.{Body}
@@ -55,8 +55,9 @@ module _ (plan : Plan) (w : Words) (ps : List Body) (l : PutLists) (a : ℕ) (p 
     d = total_same (armed_at q) ps a (hand p Idle) put_after at refl
 
     go : (b : Bool) → (q == x.page) ≡ b → (total (armed_at q) (set ps a put_after)
-        ≡ put w.head_at x.page put_word q % 2 + total (rings q) (set ps a put_after) + times q (l.bells (home plan q)) +
-        times q (l.bell_chain (home plan q))) × (total (armed_at q) (set ps a put_after) ≤ 1)
+        ≡ put w.head_at x.page put_word q % 2 + total (rings q) (set ps a put_after) + times q
+            (l.bells (shard_of plan q)) +
+        times q (l.bell_chain (shard_of plan q))) × (total (armed_at q) (set ps a put_after) ≤ 1)
     go true e =
         let i = eqb-true q x.page e in
         let f = cond_if1-true (w.head_at x.page % 2 == 1) (x.page == q) (eqb-comm x.page q ∙ e) in
@@ -212,8 +213,9 @@ module _ (plan : Plan) (w : Words) (ps : List Body) (l : PutLists) (a : ℕ) (p 
     d = total_set (armed_at k) ps a p taken_after at
 
     go : (b : Bool) → (k == q) ≡ b → (total (armed_at k) (set ps a taken_after)
-        ≡ put w.head_at q m k % 2 + total (rings k) (set ps a taken_after) + times k (l.bells (home plan k)) + times k
-        (l.bell_chain (home plan k))) × (total (armed_at k) (set ps a taken_after) ≤ 1)
+        ≡ put w.head_at q m k % 2 + total (rings k) (set ps a taken_after) + times k (l.bells (shard_of plan k)) + times
+            k
+        (l.bell_chain (shard_of plan k))) × (total (armed_at k) (set ps a taken_after) ≤ 1)
     go true e =
         let i = eqb-true k q e in
         let h : put w.head_at q m k ≡ m = rw i (put_same w.head_at q m) in

@@ -4,7 +4,7 @@ use Rattle.std.proofs.Common.{eqb-true, []}
 use Rattle.sh_slots.specs.declared.hand.Hand.TheVariants.{Idle, Ringing, RingTying}
 use Rattle.sh_core.specs.Words.{write, put}
 use Rattle.sh_shape.specs.declared.places.Place.TheVariants.{PageLink, Owner}
-use Rattle.sh_step.specs.Plans.{Plan, home, over_heap, local}
+use Rattle.sh_step.specs.Plans.{Plan, shard_of, over_heap, local}
 use Rattle.sh_step.specs.Collections.{total, without}
 use Rattle.sh_step.specs.declared.body.Body.{Body}
 use Rattle.sh_core.specs.Lists.{PutLists, bells_taken}
@@ -72,7 +72,7 @@ module _ (plan : Plan) (w : World) (l : PutLists) (a : ℕ) (p : Body) (old : Ag
   all_follow_bell n q mine is = go (w.words.page_link_at q == 0) refl where
     go : (b : Bool) → (w.words.page_link_at q == 0) ≡ b → Agreement plan
         (with w (write w.words (PageLink q) 0) a (cond b (idled p) (record (idled p) {
-          bell_cursor = link_item (over_heap plan (home plan q) 2 (w.words.page_link_at q));
+          bell_cursor = link_item (over_heap plan (shard_of plan q) 2 (w.words.page_link_at q));
           armed = without (λ x. x == q) p.armed;
         }))) (cond b l (record l { bell_chain = put l.bell_chain n (drop 1 (l.bell_chain n)) }))
     go true e = all_load plan w l a (idled p) (idled p) (PageLink q) 0 old at (eqb-true (w.words.page_link_at q) 0 e)
@@ -82,7 +82,7 @@ module _ (plan : Plan) (w : World) (l : PutLists) (a : ℕ) (p : Body) (old : Ag
     go false e = record {
       sums = sums_quiet plan w l (record l { bell_chain = put l.bell_chain n (drop 1 (l.bell_chain n)) }) a (idled p)
           (record (idled p) {
-            bell_cursor = link_item (over_heap plan (home plan q) 2 (w.words.page_link_at q));
+            bell_cursor = link_item (over_heap plan (shard_of plan q) 2 (w.words.page_link_at q));
             armed = without (λ x. x == q) p.armed;
           }) w.words.head_at (put w.words.page_link_at q 0) w.words.link_at w.words.owner_at
           w.words.bell_at old.sums at (λ y st. refl) (λ y. refl) refl tt;
@@ -93,12 +93,12 @@ module _ (plan : Plan) (w : World) (l : PutLists) (a : ℕ) (p : Body) (old : Ag
 pub all_ring : (plan : Plan) (w : World) (l : PutLists) (a : ℕ) (p : Body) (q : ℕ) → Agreement plan w l
     → slice_get w.parts a
     ≡ Some (hand p (Ringing q)) → Agreement plan (apply w a (ring plan (hand p (Ringing q)) q))
-    (record l { bells = put l.bells (home plan q) (q ∷ l.bells (home plan q)) })
+    (record l { bells = put l.bells (shard_of plan q) (q ∷ l.bells (shard_of plan q)) })
 unfolding apply
 all_ring plan w l a p q old at = record {
-  sums = sums_quiet plan w l (record l { bells = put l.bells (home plan q) (q ∷ l.bells (home plan q)) }) a
-      (hand p (Ringing q)) (hand p (RingTying q (w.words.bell_at (home plan q) + 1))) w.words.head_at
-      w.words.page_link_at w.words.link_at w.words.owner_at (put w.words.bell_at (home plan q) (local plan q + 1))
+  sums = sums_quiet plan w l (record l { bells = put l.bells (shard_of plan q) (q ∷ l.bells (shard_of plan q)) }) a
+      (hand p (Ringing q)) (hand p (RingTying q (w.words.bell_at (shard_of plan q) + 1))) w.words.head_at
+      w.words.page_link_at w.words.link_at w.words.owner_at (put w.words.bell_at (shard_of plan q) (local plan q + 1))
       old.sums at (λ y st. refl) (λ y. refl) refl tt;
   lists = ring_agrees plan w.words w.parts l a p q old.lists at;
   bounds = old.bounds;

@@ -5,7 +5,7 @@ use Rattle.sh_slots.specs.declared.hand.SlotRef.{SlotRef}
 use Rattle.sh_slots.specs.declared.hand.Hand.TheVariants.{Idle, ToPut, Tying, Ringing}
 use Rattle.sh_core.specs.Words.{write, put, put2}
 use Rattle.sh_shape.specs.declared.places.Place.TheVariants.{Head, Link}
-use Rattle.sh_step.specs.Plans.{Plan, home}
+use Rattle.sh_step.specs.Plans.{Plan, shard_of}
 use Rattle.sh_slots.specs.Slots.{same_slot}
 use Rattle.sh_step.specs.Collections.{total, if1, has, without, noted, off}
 use Rattle.sh_step.specs.declared.body.Body.{Body}
@@ -33,7 +33,7 @@ use Rattle.sh_core.proofs.Moves.AllSlots.{mine_less}
 module _ (plan : Plan) (w : World) (l : PutLists) (a : ℕ) (p : Body) (old : Agreement plan w l)
     (at : slice_get w.parts a ≡ Some (idled p)) where
   armed_all : (q : ℕ) → own plan p q ≡ true → (times q p.armed ≡ w.words.head_at q % 2 + total (rings q) w.parts + times
-      q (l.bells (home plan q)) + times q (l.bell_chain (home plan q))) × (times q p.armed ≤ 1)
+      q (l.bells (shard_of plan q)) + times q (l.bell_chain (shard_of plan q))) × (times q p.armed ≤ 1)
   armed_all q mine =
       let d = old.lists.duty q in
       let d0 = d.0 in

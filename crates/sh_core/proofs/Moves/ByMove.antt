@@ -8,7 +8,7 @@ use Rattle.sh_step.specs.declared.moves.Move.{Move}
 use Rattle.sh_step.specs.declared.moves.Move.TheVariants as move
 use Rattle.sh_step.specs.Conditions.{May, action_of}
 use Rattle.sh_step.specs.Moves.{move_of, row_of, row}
-use Rattle.sh_step.specs.Plans.{Plan, home}
+use Rattle.sh_step.specs.Plans.{Plan, shard_of}
 use Rattle.sh_step.specs.Rows.{Row, own}
 use Rattle.sh_step.proofs.ConditionLaws.{move_of_row}
 use Rattle.sh_step.proofs.PageLaws.{page_of_name, slot_of_name}
@@ -25,7 +25,8 @@ lists_after plan p (move.PutSlot x) n l = pushed l x
 lists_after plan p (move.Take q) n l = taken l q
 lists_after plan p (move.Arm q) n l = taken l q
 lists_after plan p (move.Follow q s) n l = cond (n == 0) l (chain_followed l q)
-lists_after plan p (move.Ring q) n l = record l { bells = put l.bells (home plan q) (q ∷ l.bells (home plan q)) }
+lists_after plan p (move.Ring q) n l = record
+    l { bells = put l.bells (shard_of plan q) (q ∷ l.bells (shard_of plan q)) }
 lists_after plan p (move.TakeBell k) n l = bells_taken l k
 lists_after plan p (move.FollowBell q) n l = elim (p.owned) [
   | Some k ↦ cond (n == 0) l (record l { bell_chain = put l.bell_chain k (drop 1 (l.bell_chain k)) })

@@ -3,11 +3,11 @@ use Rattle.std.proofs.Common.{◌≡◌, ℕ, ◌+◌, ◌-◌, ◌%◌, ◌<◌
 use Rattle.std.proofs.lemmas.Nat.{div-add-mod'}
 use Rattle.std.specs.Prelude.{nat_lt}
 use Rattle.std.proofs.lemmas.Bool.Decides.{nat_tests}
-use Rattle.sh_step.specs.Plans.{Plan, page_number, home, local, over_heap}
+use Rattle.sh_step.specs.Plans.{Plan, page_number, shard_of, local, over_heap}
 
 -- the number over the whole heap of a page's number in its shard is the page
-pub over_local : (plan : Plan) (q : ℕ) → over_heap plan (home plan q) 1 (local plan q + 1) ≡ q + 1
-unfolding over_heap page_number home local
+pub over_local : (plan : Plan) (q : ℕ) → over_heap plan (shard_of plan q) 1 (local plan q + 1) ≡ q + 1
+unfolding over_heap page_number shard_of local
 over_local plan q =
     let e : nat_lt (q % plan.pages + 1) 1 ≡ false = grind (arith, nat_tests) in
     let d : q % plan.pages + 1 - 1 ≡ q % plan.pages = omega arith in

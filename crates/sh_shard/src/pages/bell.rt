@@ -1,6 +1,6 @@
 // The shard's bell, on which others put the armed pages into which they freed.
 ghost use Rattle.std.specs.Prelude.{◌≡◌, None, MatchOption, MatchBool};
-ghost use Rattle.sh_shard.specs.Pages.{CursorStands, BellTakes, BellStops, BellReads};
+ghost use Rattle.sh_shard.specs.Pages.{HasCursor, BellTakes, BellStops, BellReads};
 
 use crate::pages::PagesOn;
 use sh_key::KeyLayout;
@@ -11,7 +11,7 @@ use sh_step::PageName;
 impl<L: KeyLayout, H: KeepsHeap<L>> PagesOn<L, H> {
     /// Whether the bell has a cursor.
     pub(crate) fn has_rings(&self) -> bool
-        ensures { MatchBool result (CursorStands self.now.bell.cursor) (self.now.bell.cursor ≡ None) }
+        ensures { MatchBool result (HasCursor self.now.bell.cursor) (self.now.bell.cursor ≡ None) }
     {
         self.rings.is_some()
     }

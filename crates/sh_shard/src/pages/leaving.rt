@@ -4,7 +4,7 @@ ghost use Rattle.sh_pass.specs.Owners.{HasNothing, heap_page as number_of};
 ghost use Rattle.sh_shard.specs.Works.{BellDone};
 ghost use Rattle.sh_shard.specs.Leaving.{LeaveDoes, Collecting, BellFollowed, EmptiesPage, PagesEmptied};
 ghost use Rattle.sh_shard.specs.Leaving.{AtRest, AllAtRest, NotAtRest, PutsOne, PutsBack, PutsAllBack};
-ghost use Rattle.sh_shard.specs.Pages.{page_at, shard_page, BlankFrom, CursorStands, NothingMine, ShardLeft};
+ghost use Rattle.sh_shard.specs.Pages.{page_at, shard_page, BlankFrom, HasCursor, NothingMine, ShardLeft};
 ghost use Rattle.sh_shard.specs.Pages.{StepsForRings};
 ghost use Rattle.sh_shard.specs.Steps.{StepsAtMost};
 ghost use Rattle.sh_shard.specs.Bounds.{leave_steps};
@@ -77,7 +77,7 @@ impl<L: KeyLayout, H: KeepsHeap<L>> PagesOn<L, H> {
     fn rests(&self, page: u64) -> bool
         requires { page < self.now.count }
         ensures { MatchBool result (AtRest (page_at self.now page))
-            (CursorStands (page_at self.now page).cursor ⊎ (((page_at self.now page).cursor ≡ None)
+            (HasCursor (page_at self.now page).cursor ⊎ (((page_at self.now page).cursor ≡ None)
             × ((page_at self.now page).armed ≡ true))) }
     {
         if self.has_cursor(page) {

@@ -2,7 +2,7 @@
 ghost use Rattle.std.specs.Prelude.{◌≡◌, ℕ, ◌+◌, ◌<◌, None, MatchOption, ◌||◌, ◌==◌};
 ghost use Rattle.sh_shard.specs.Pages.{BellTakes, BellStops, StepsForRings};
 ghost use Rattle.sh_shard.specs.Shards.{SortedPages};
-ghost use Rattle.sh_shard.specs.Searches.{Heard, Hears, BellWaits, RingsOut};
+ghost use Rattle.sh_shard.specs.Searches.{ReadsRing, ReadsRings, BellWaits, RingsOut};
 
 use crate::shard::ShardOn;
 use sh_key::KeyLayout;
@@ -40,7 +40,7 @@ impl<L: KeyLayout, H: KeepsHeap<L>> ShardOn<L, H> {
     // Follows the bell to its end or to a link that is not written. Returns whether a page of the class was read.
     fn read_rings(&mut self, c: u32) -> bool
         requires class { c < 8 }
-        ensures hears { Hears c result self.old self.new }
+        ensures hears { ReadsRings c result self.old self.new }
         ensures waits { BellWaits self.old self.new }
         ensures steps { StepsForRings 1 self.old.pages self.new.pages }
         ensures sorted { SortedPages self.old.pages self.old.queues }
@@ -59,7 +59,7 @@ impl<L: KeyLayout, H: KeepsHeap<L>> ShardOn<L, H> {
     // One step on the bell: a page that is read goes to the back of its class, if it is full. Returns its class word.
     fn read_bell(&mut self) -> Option<u64>
         ensures heard { MatchOption result ((self.new.queues ≡ self.old.queues)
-            × BellStops self.old.pages self.new.pages) (λ word. Heard word self.old self.new) }
+            × BellStops self.old.pages self.new.pages) (λ word. ReadsRing word self.old self.new) }
         ensures sorted { SortedPages self.old.pages self.old.queues }
     {
         let opened = self.queues.opened();

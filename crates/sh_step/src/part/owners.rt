@@ -6,7 +6,7 @@ ghost use Rattle.sh_step.specs.Rows.{adopt, leave, take_bell, follow_bell};
 
 use super::Part;
 use crate::part::lists::remove_number;
-use sh_bell::{home_of, named_over_heap};
+use sh_bell::{named_over_heap, shard_of_page};
 use sh_key::KeyLayout;
 use sh_shape::Shape;
 use sh_slots::Reply;
@@ -67,7 +67,7 @@ impl Part {
     }
 
     // Reads the link of a page of the bell; the step found this word. If it is written, the page leaves the bell.
-    #[tactic(auto, using(crate::proofs::PageLaws::home_is_shard), unfolding(crate::specs::Plans::home))]
+    #[tactic(auto, using(crate::proofs::PageLaws::home_is_shard), unfolding(crate::specs::Plans::shard_of))]
     pub(super) fn follow_bell<L: KeyLayout>(
         &mut self,
         shape: &Shape,
@@ -80,7 +80,7 @@ impl Part {
         ensures part { self.new ≡ (follow_bell (plan_of L.layout shape.now) self.old page).part found }
     {
         if found != 0 {
-            let shard = home_of(u64::from(shape.pages()), page);
+            let shard = shard_of_page(u64::from(shape.pages()), page);
             self.bell_cursor = link_item(over_heap::<L>(shape, shard, 2, found));
             remove_number(&mut self.armed, page);
         }

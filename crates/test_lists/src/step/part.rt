@@ -65,7 +65,7 @@ fn an_entry_of_an_empty_slot_leaves_again(rt: HostRuntime) -> Result<(), Fail> {
 // While another pass is on the slot, this one ends nothing. Once nobody is, it ends the generation of a slot that is
 // not its own.
 #[test]
-#[tactic(auto, unfolding(sh_step::specs::Plans::keys_of, sh_step::specs::Plans::home, sh_step::specs::Plans::local, sh_word::specs::Fields::word_of))]
+#[tactic(auto, unfolding(sh_step::specs::Plans::keys_of, sh_step::specs::Plans::shard_of, sh_step::specs::Plans::local, sh_word::specs::Fields::word_of))]
 fn a_generation_ends_where_nobody_is_on_the_slot(rt: HostRuntime) -> Result<(), Fail> {
     let shape = one_shard(&rt);
     let mut part = Part::new(rt.alloc());

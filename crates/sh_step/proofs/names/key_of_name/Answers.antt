@@ -13,7 +13,7 @@ pack-requires g c =
     let layout = g.L.KeyLayout.layout in
     let parts : Parts = record {
       generation = name.generation;
-      shard = c.home_of.result;
+      shard = c.shard_of_page.result;
       page = c.local_of.result;
       slot = name.slot;
     } in

@@ -2,7 +2,7 @@ use Rattle.std.proofs.Common.{◌≡◌, ◌-◌, true, ◌∙◌, sym, subst, a
 use Rattle.sh_queue.specs.Numbers.{has_number}
 use Rattle.sh_queue.proofs.PagePlaces.{full_opened}
 use Rattle.sh_shard.specs.Shards.{Sharded}
-use Rattle.sh_shard.specs.Searches.{Heard}
+use Rattle.sh_shard.specs.Searches.{ReadsRing}
 use Rattle.sh_shard.proofs.Sorting.{alters_reads, sorted_altered, sorted_returned, full_word, not_full}
 use Rattle.sh_shard.proofs.Hearing.{heard_still, heard_back}
 use Rattle.sh_shard.proofs.shard.ShardOn.read_bell.Goals as goal
@@ -39,7 +39,7 @@ pub returns-then-page-opened-clause-heard : goal.returns-then-page-opened-clause
 returns-then-page-opened-clause-heard g c =
     let o = c.opened-opened.ensures.opened in
     let t = c.if-page-opened.true in
-    subst (λ (z : Sharded). Heard c.class_word-word.result z (record {
+    subst (λ (z : Sharded). ReadsRing c.class_word-word.result z (record {
       pages = c.follow_bell.new.self;
       queues = c.self.inside.queues;
     })) c.self.view_is (heard_still c.in-Some.page c.class_word-word.result c.self.inside.pages c.follow_bell.new.self
@@ -47,7 +47,7 @@ returns-then-page-opened-clause-heard g c =
     (not_full c.in-Some.page c.self.inside.queues c.opened-opened.ensures.once (omega arith)))
 
 pub returns-then-not-in_full-clause-heard : goal.returns-then-not-in_full-clause-heard
-returns-then-not-in_full-clause-heard g c = subst (λ (z : Sharded). Heard c.class_word-word.result z (record {
+returns-then-not-in_full-clause-heard g c = subst (λ (z : Sharded). ReadsRing c.class_word-word.result z (record {
   pages = c.follow_bell.new.self;
   queues = c.self.inside.queues;
 })) c.self.view_is (heard_still c.in-Some.page c.class_word-word.result c.self.inside.pages c.follow_bell.new.self
@@ -58,7 +58,7 @@ pub returns-clause-heard : goal.returns-clause-heard
 returns-clause-heard g c =
     let here : has_number c.in-Some.page c.self.inside.queues.full ≡ true = sym c.in_full.ensures
     ∙ c.if-not-in_full.false in
-    subst (λ (z : Sharded). Heard c.class_word-word.result z (record {
+    subst (λ (z : Sharded). ReadsRing c.class_word-word.result z (record {
       pages = c.follow_bell.new.self;
       queues = c.to_back.new.self;
     })) c.self.view_is (heard_back c.in-Some.page c.class_word-word.result c.self.inside.pages c.follow_bell.new.self

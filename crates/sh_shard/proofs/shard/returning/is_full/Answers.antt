@@ -1,6 +1,6 @@
 use Rattle.std.proofs.Common.{◌∙◌, sym, subst}
 use Rattle.std.proofs.lemmas.Bool.{false≢true}
-use Rattle.sh_shard.specs.Pages.{page_at, CursorStands}
+use Rattle.sh_shard.specs.Pages.{page_at, HasCursor}
 use Rattle.sh_shard.specs.Shards.{FullPage}
 use Rattle.sh_shard.proofs.shard.returning.is_full.Goals as goal
 
@@ -9,7 +9,7 @@ returns-then-not-is_armed g c = λ (f : FullPage (page_at c.args.pages.now c.arg
     (sym (sym c.is_armed.ensures.armed ∙ c.if-not-is_armed.true) ∙ f.armed)
 
 pub returns-then-has_cursor : goal.returns-then-has_cursor
-returns-then-has_cursor g c = λ (f : FullPage (page_at c.args.pages.now c.args.page)). subst CursorStands f.cursor
+returns-then-has_cursor g c = λ (f : FullPage (page_at c.args.pages.now c.args.page)). subst HasCursor f.cursor
     c.if-has_cursor.ensures
 
 pub returns-then-has_slot : goal.returns-then-has_slot
