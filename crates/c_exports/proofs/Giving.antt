@@ -5,7 +5,7 @@ use Rattle.std.specs.declared.option.Option.TheVariants.{Some}
 use Rattle.sh_value.specs.declared.refusal.Refusal.{Refusal}
 use Rattle.c_handles.specs.Owning.{has_value}
 use Rattle.c_handles.specs.declared.held_pass.HeldPass.{HeldPass}
-use Rattle.c_handles.specs.HeldPasses.{LetsGo}
+use Rattle.c_handles.specs.HeldPasses.{LeavesShards}
 use Rattle.c_exports.specs.Opened.{GiveTold, GivenBy}
 use Rattle.c_exports.specs.Told.{empty_code}
 use Rattle.c_exports.proofs.Asking.{no_value}
@@ -16,5 +16,5 @@ none_given a e = subst (λ o. GiveTold empty_code o o) (sym (no_value a e)) (ref
 
 -- what let go is given back, or stays if it has to wait
 pub given : (code : ℕ) (a b : Option HeldPass) (m n : HeldPass) (answer : Result (Unit {0}) Refusal) → a ≡ Some m
-    → LetsGo m answer n → GivenBy answer n code b → GiveTold code a b
+    → LeavesShards m answer n → GivenBy answer n code b → GiveTold code a b
 given code a b m n answer is went did = subst (λ o. GiveTold code o b) (sym is) (answer, (n, went, did))

@@ -8,7 +8,7 @@ use Rattle.c_handles.specs.declared.held_heap.HeldHeap.{HeldHeap}
 use Rattle.c_handles.specs.declared.held_pass.HeldPass.{HeldPass}
 use Rattle.c_handles.specs.Heaps.{layout_named, layout_number}
 use Rattle.c_handles.specs.HeldHeaps.{HasChunks, HeldBegins, OpensGrown, passes_of}
-use Rattle.c_handles.specs.HeldPasses.{LetsGo, MayGoHome}
+use Rattle.c_handles.specs.HeldPasses.{LeavesShards, MayBeGivenBack}
 
 -- what an empty handle has after an opening with this code: the heap, or nothing if the opening was refused
 abbrev pub PutOpened : (Result HeldHeap Refusal → Type 0) → ℕ → Option HeldHeap → Type 0
@@ -75,8 +75,8 @@ IsPutBack m code after = ((code ≡ 15) × (after ≡ Some m)) ⊎ ((code ≡ 8)
 -- what is done with a pass that let go: it was given back, or stays in its handle since it owns a shard
 abbrev pub GivesBack : ℕ → Option HeldPass → Option HeldPass → Type 0
 GivesBack code None after = (code ≡ 14) × (after ≡ None)
-GivesBack code (Some m) after = ((¬ MayGoHome m) × (code ≡ 20) × (after ≡ Some m))
-    ⊎ (MayGoHome m × (((code ≡ 0) × (after ≡ None)) ⊎ IsPutBack m code after))
+GivesBack code (Some m) after = ((¬ MayBeGivenBack m) × (code ≡ 20) × (after ≡ Some m))
+    ⊎ (MayBeGivenBack m × (((code ≡ 0) × (after ≡ None)) ⊎ IsPutBack m code after))
 
 -- the same of a caller that may have to wait before it leaves its shards: then it stays in its handle
 abbrev pub GivenBy : Result (Unit {0}) Refusal → HeldPass → ℕ → Option HeldPass → Type 0
@@ -86,7 +86,7 @@ GivenBy (Err why) m code after = (code ≡ refusal_number why) × (after ≡ Som
 -- a give by its code: first a caller of a growing heap leaves its shards, and a pass stays as it was
 abbrev pub GiveTold : ℕ → Option HeldPass → Option HeldPass → Type 0
 GiveTold code None after = (code ≡ 14) × (after ≡ None)
-GiveTold code (Some m) after = (answer : Result (Unit {0}) Refusal) × ((n : HeldPass) × LetsGo m answer n
+GiveTold code (Some m) after = (answer : Result (Unit {0}) Refusal) × ((n : HeldPass) × LeavesShards m answer n
     × GivenBy answer n code after)
 
 -- a loss of a pass, by its code: the handle is empty afterwards

@@ -47,7 +47,7 @@ fn next_pass(alloc: Global, heap: &HeldHeap) -> Result<Option<PassHandle>, Refus
         Ok(held) => Ok(Some(PassHandle::of(held))),
         Err(failed) => {
             // The pass goes back to its pool slot, so that it is not lost.
-            drop(failed.value.go_home());
+            drop(failed.value.return_to_pool());
             Err(Refusal::Memory)
         }
     }
@@ -82,13 +82,13 @@ pub extern "C" fn shardheap_raw_take(
 
 // Gives the pass back, and leaves the handle empty. A pass that owns a shard stays as it is. A caller of a growing heap
 // leaves its shards first, and stays in its handle if it has to wait.
-fn bring_home(alloc: Global, pass: &mut PassHandle) -> u32
+fn leave_and_give_back(alloc: Global, pass: &mut PassHandle) -> u32
     ensures { GiveTold result pass.old.slot.value pass.new.slot.value }
 {
     if !pass.is_full() {
         return EMPTY;
     }
-    let answer = pass.held().let_go();
+    let answer = pass.held().leave_shards();
     match answer {
         Ok(()) => give_back(alloc, pass),
         Err(refusal) => refusal.number(),
@@ -106,7 +106,7 @@ fn give_back(alloc: Global, pass: &mut PassHandle) -> u32
         *pass = PassHandle::of(held);
         return OWNS;
     }
-    match Box::into_inner(held).go_home() {
+    match Box::into_inner(held).return_to_pool() {
         Ok(()) => OK,
         Err(member) => put_back(alloc, pass, member),
     }
@@ -117,7 +117,7 @@ fn give_back(alloc: Global, pass: &mut PassHandle) -> u32
 pub extern "C" fn shardheap_raw_give(alloc: Global, pass: &mut PassHandle) -> u32
     ensures { GiveTold result pass.old.slot.value pass.new.slot.value }
 {
-    bring_home(alloc, pass)
+    leave_and_give_back(alloc, pass)
 }
 
 // Puts a pass whose pool slot is not free back into its handle. If memory for its box is refused, the pass is lost.
@@ -142,7 +142,7 @@ fn put_back(alloc: Global, pass: &mut PassHandle, member: HeldPass) -> u32
 pub extern "C" fn shardheap_raw_pass_close(alloc: Global, pass: &mut PassHandle) -> u32
     ensures { GiveTold result pass.old.slot.value pass.new.slot.value }
 {
-    bring_home(alloc, pass)
+    leave_and_give_back(alloc, pass)
 }
 
 /// Loses the pass, and leaves the handle empty. A shard that it owns stays owned for ever, and its holds stay.

@@ -130,17 +130,17 @@ HeldLeaves = EitherDoes (AnyDoes (λ l. SideLeaves)) CallerLeaves
 abbrev pub KeepsShard : HeldPass → Result (Unit {0}) Refusal → HeldPass → Type 0
 KeepsShard m answer n = (answer ≡ Ok tt) × (n ≡ m)
 
-abbrev pub LetsGo : HeldPass → Result (Unit {0}) Refusal → HeldPass → Type 0
-LetsGo = EitherDoes KeepsShard CallerLeaves
+abbrev pub LeavesShards : HeldPass → Result (Unit {0}) Refusal → HeldPass → Type 0
+LeavesShards = EitherDoes KeepsShard CallerLeaves
 
 -- a pass may be given back if it owns no shard, and a caller always
-abbrev pub MayGoHome : HeldPass → Type 0
-MayGoHome (held.Growing c) = Unit {0}
-MayGoHome m = IsPass (side_of m)
+abbrev pub MayBeGivenBack : HeldPass → Type 0
+MayBeGivenBack (held.Growing c) = Unit {0}
+MayBeGivenBack m = IsPass (side_of m)
 
 -- it was given back, or it is returned as it was
 abbrev pub HeldGives : HeldPass → Result (Unit {0}) HeldPass → Type 0
-HeldGives p (Ok _) = MayGoHome p
+HeldGives p (Ok _) = MayBeGivenBack p
 HeldGives p (Err q) = q ≡ p
 
 -- ---- receipts

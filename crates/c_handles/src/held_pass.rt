@@ -41,7 +41,7 @@ impl HeldPass {
 
     /// Gives its pass back, or the passes of a caller. A pass that owns a shard, or whose pool slot is not free, is
     /// returned as it was. A caller is not returned: each pass of it that owns a shard is lost.
-    pub fn go_home(self) -> Result<(), HeldPass>
+    pub fn return_to_pool(self) -> Result<(), HeldPass>
         ensures { HeldGives self result }
     {
         match self {

@@ -1,6 +1,6 @@
 // How what a pass's handle holds adopts a shard and leaves it.
 ghost use Rattle.std.specs.Prelude.{MatchBool};
-ghost use Rattle.c_handles.specs.HeldPasses.{HeldAdopts, HeldLeaves, LetsGo, MayGoHome};
+ghost use Rattle.c_handles.specs.HeldPasses.{HeldAdopts, HeldLeaves, LeavesShards, MayBeGivenBack};
 
 use crate::held_pass::HeldPass;
 use sh_value::Refusal;
@@ -37,7 +37,7 @@ impl HeldPass {
 
     /// Whether it is a pass that owns a shard, so that it cannot be given back.
     pub fn owns_shard(&self) -> bool
-        ensures { MatchBool result (¬ MayGoHome self.now) (MayGoHome self.now) }
+        ensures { MatchBool result (¬ MayBeGivenBack self.now) (MayBeGivenBack self.now) }
     {
         match self {
             HeldPass::Wide(member, _) => member.owns_shard(),
@@ -50,8 +50,8 @@ impl HeldPass {
 
     /// Leaves the shards of a caller, so that it may be given back. A pass keeps its shard. Refused as `Waiting` if
     /// another caller has begun a free in one of the shards and not ended it.
-    pub fn let_go(&mut self) -> Result<(), Refusal>
-        ensures { LetsGo self.old result self.new }
+    pub fn leave_shards(&mut self) -> Result<(), Refusal>
+        ensures { LeavesShards self.old result self.new }
     {
         match self {
             HeldPass::Wide(_, _) => Ok(()),

@@ -6,7 +6,7 @@ ghost use Rattle.sh_grown.specs.Inserts.{OwnsNone};
 ghost use Rattle.sh_grown.specs.Keeping.{KeepsMembers};
 
 use crate::caller::Caller;
-use crate::met::{go_home_each, leave_at};
+use crate::met::{leave_at, return_each_to_pool};
 use sh_value::Refusal;
 
 impl Caller {
@@ -50,6 +50,6 @@ impl Caller {
             next: _,
             met,
         } = self;
-        go_home_each(met);
+        return_each_to_pool(met);
     }
 }

@@ -46,7 +46,7 @@ impl Drop for Met {
 
 impl Met {
     // Gives the pass back to its pool slot. A pass that owns a shard is lost.
-    fn go_home(self) {
+    fn return_to_pool(self) {
         let Met {
             member,
             pool_slot,
@@ -341,10 +341,10 @@ pub(crate) fn leave_at(place: &mut Option<Met>) -> Result<(), Refusal>
 }
 
 // Gives all passes back, from the last chunk to the first.
-pub(crate) fn go_home_each(mut places: Vec<Option<Met>>) {
+pub(crate) fn return_each_to_pool(mut places: Vec<Option<Met>>) {
     while let Some(place) = places.pop() {
         if let Some(met) = place {
-            met.go_home();
+            met.return_to_pool();
         }
     }
 }

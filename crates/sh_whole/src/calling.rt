@@ -60,7 +60,7 @@ fn call_one<'p, L: KeyLayout>(
 }
 
 // Gives each pass back to the pool slot that it was taken from. A pass whose pool slot is not free is lost.
-pub(crate) fn send_home<L: KeyLayout>(pool: &Pool<L>, called: Called<'_, L>)
+pub(crate) fn give_back_all<L: KeyLayout>(pool: &Pool<L>, called: Called<'_, L>)
     requires { AreCalled pool.now called.passes.items called.pool_slots.items }
 {
     let Called {

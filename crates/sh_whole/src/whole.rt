@@ -2,7 +2,7 @@
 ghost use Rattle.std.specs.Prelude.{◌≡◌, IfSome};
 ghost use Rattle.sh_whole.specs.Homes.{GathersAll, GathersPool, IsPoolSlot, IsWholeOf};
 
-use crate::calling::{call_all, give_or_lose, meet, send_home};
+use crate::calling::{call_all, give_back_all, give_or_lose, meet};
 use crate::refusal::NotTold;
 use sh_gather::{Whole, whole};
 use sh_key::KeyLayout;
@@ -30,7 +30,7 @@ pub fn whole_of<'p, L: KeyLayout>(
     match meet(pool, called) {
         Ok(met) => Ok(met),
         Err(called) => {
-            send_home(pool, called);
+            give_back_all(pool, called);
             Err(NotTold::Away)
         }
     }

@@ -1,6 +1,6 @@
 use Rattle.std.proofs.Common.{◌∙◌, refl, sym}
 use Rattle.c_exports.proofs.Giving.{given, none_given}
-use Rattle.c_exports.proofs.passes.bring_home.Goals as goal
+use Rattle.c_exports.proofs.passes.leave_and_give_back.Goals as goal
 
 pub returns-then-not-is_full : goal.returns-then-not-is_full
 returns-then-not-is_full c = none_given _ (sym c.is_full.ensures ∙ c.if-not-is_full.true)

@@ -1,7 +1,7 @@
 use Rattle.std.proofs.Common.{◌≡◌, length}
 use Rattle.std.specs.Vec.Iter.{into_iter_items}
 use Rattle.sh_pass.specs.Passes.{AreOf}
-use Rattle.sh_whole.proofs.calling.send_home.Given as goal
+use Rattle.sh_whole.proofs.calling.give_back_all.Given as goal
 
 -- there is a pool slot for each pass that is left
 abbrev pub invariant-loop-pass : goal.invariant-loop-pass
