@@ -24,7 +24,7 @@ TYPES = {
     '&mut ReceiptHandle': ['shardheap_receipt *'],
     '&[u64]': ['const uint64_t *', 'size_t'], '&mut [u64]': ['uint64_t *', 'size_t'],
     '&mut u64': ['uint64_t *'], '&mut u32': ['uint32_t *'],
-    '&mut PageTold': ['shardheap_page *'], '&mut SumsTold': ['shardheap_sums *'],
+    '&mut PageReport': ['shardheap_page *'], '&mut SumsReport': ['shardheap_sums *'],
     '&mut [Loaded]': ['shardheap_loaded *', 'size_t'],
     '': ['void'],
 }
@@ -55,7 +55,7 @@ def record_of(text, pattern, field):
 
 def records():
     """The fields of each record, in the library and in the header: the type and the name of each."""
-    for rust, c in (('PageTold', 'shardheap_page'), ('SumsTold', 'shardheap_sums'), ('Loaded', 'shardheap_loaded')):
+    for rust, c in (('PageReport', 'shardheap_page'), ('SumsReport', 'shardheap_sums'), ('Loaded', 'shardheap_loaded')):
         library = record_of(SOURCES, rf'pub struct {rust} \{{(.*?)\n\}}', r'pub (\w+): ([^,]+),')
         header = record_of(HEADER, rf'typedef struct {c} \{{(.*?)\n\}} {c};', r'^ +uint(\d+)_t (\w+)(?:\[(\d+)\])?;')
         yield (c, library and [(FIELDS.get(kind, kind), name) for name, kind in library],

@@ -6,8 +6,8 @@ use Rattle.sh_gather.specs.declared.totals.Totals.{Totals}
 use Rattle.sh_whole.specs.declared.refusal.NotTold.{NotTold}
 use Rattle.sh_whole.specs.declared.refusal.NotTold.TheVariants as untold
 use Rattle.c_handles.specs.declared.held_heap.HeldHeap.{HeldHeap}
-use Rattle.c_exports.specs.declared.accounts.PageTold.{PageTold}
-use Rattle.c_exports.specs.declared.accounts.SumsTold.{SumsTold}
+use Rattle.c_exports.specs.declared.accounts.PageReport.{PageReport}
+use Rattle.c_exports.specs.declared.accounts.SumsReport.{SumsReport}
 
 -- the code of a refusal of a call on the whole heap
 abbrev pub why_code : NotTold → ℕ
@@ -40,8 +40,8 @@ HeapTells {A} does told code old new (Some heap) after = (after ≡ Some heap)
     × ((answer : Result A NotTold) × (code ≡ told_code answer) × (new ≡ told_in told old answer) × does heap answer)
 
 -- the accounts of a page, as C sees them
-abbrev pub page_told : Accounts → PageTold
-page_told a = record {
+abbrev pub page_report : Accounts → PageReport
+page_report a = record {
   used = elim (a.class) [ Some c ↦ 1 | None ↦ 0 ];
   size_class = elim (a.class) [ Some c ↦ c | None ↦ 0 ];
   live = a.live;
@@ -51,8 +51,8 @@ page_told a = record {
 }
 
 -- the sums over all pages, as C sees them
-abbrev pub sums_told : Totals → SumsTold
-sums_told t = record {
+abbrev pub sums_report : Totals → SumsReport
+sums_report t = record {
   live = t.live;
   marked = t.marked;
   retired = t.retired;

@@ -3,7 +3,8 @@ ghost use Rattle.std.specs.Prelude.{◌≡◌};
 ghost use Rattle.sh_whole.specs.Homes.{GathersPool, TellsAccounts, TellsTotals};
 ghost use Rattle.c_handles.specs.Heaps.{heap_layout, heap_of};
 ghost use Rattle.c_handles.specs.HeldHeaps.{OnWhole};
-ghost use Rattle.c_exports.specs.WholeHeap.{HeapAsked, HeapTells, page_told, sums_told, told_code, told_in, why_code};
+ghost use Rattle.c_exports.specs.WholeHeap.{HeapAsked, HeapTells, page_report, sums_report, told_code, told_in};
+ghost use Rattle.c_exports.specs.WholeHeap.{why_code};
 
 use crate::codes::{AWAY, EMPTY, NO_PAGE, OK};
 use c_handles::HeapHandle;
@@ -16,7 +17,7 @@ use std::alloc::Global;
 /// The accounts of a page, as C has them.
 #[repr(C)]
 #[derive(Clone, Copy)]
-pub struct PageTold {
+pub struct PageReport {
     /// 1 if the page has a class, otherwise 0.
     pub used: u32,
     /// Its class, from 0 to 7, or 0 if it has none.
@@ -34,7 +35,7 @@ pub struct PageTold {
 /// The sums over all pages, as C has them.
 #[repr(C)]
 #[derive(Clone, Copy)]
-pub struct SumsTold {
+pub struct SumsReport {
     /// Slots with a value that can be got.
     pub live: u32,
     /// Slots with a value that was removed and is held.
@@ -71,15 +72,15 @@ fn code_told<T>(answer: &Result<T, NotTold>) -> u32
 }
 
 // Writes the accounts, if there are any.
-fn tell_page(answer: &Result<Accounts, NotTold>, told: &mut PageTold)
-    ensures { told.new ≡ told_in page_told told.old answer.now }
+fn write_page(answer: &Result<Accounts, NotTold>, told: &mut PageReport)
+    ensures { told.new ≡ told_in page_report told.old answer.now }
 {
     if let Ok(accounts) = answer {
         let (used, size_class) = match accounts.class {
             Some(class) => (1, class),
             None => (0, 0),
         };
-        *told = PageTold {
+        *told = PageReport {
             used,
             size_class,
             live: accounts.live,
@@ -91,11 +92,11 @@ fn tell_page(answer: &Result<Accounts, NotTold>, told: &mut PageTold)
 }
 
 // Writes the sums, if there are any.
-fn tell_sums(answer: &Result<Totals, NotTold>, told: &mut SumsTold)
-    ensures { told.new ≡ told_in sums_told told.old answer.now }
+fn write_sums(answer: &Result<Totals, NotTold>, told: &mut SumsReport)
+    ensures { told.new ≡ told_in sums_report told.old answer.now }
 {
     if let Ok(totals) = answer {
-        *told = SumsTold {
+        *told = SumsReport {
             live: totals.live,
             marked: totals.marked,
             retired: totals.retired,
@@ -127,9 +128,10 @@ pub extern "C" fn shardheap_raw_accounts(
     heap: &mut HeapHandle,
     shard: u32,
     page: u32,
-    told: &mut PageTold,
+    told: &mut PageReport,
 ) -> u32
-    ensures { HeapTells (OnWhole (λ h. TellsAccounts (heap_layout h) (heap_of h) shard page)) page_told result told.old
+    ensures { HeapTells (OnWhole (λ h. TellsAccounts (heap_layout h) (heap_of h) shard page)) page_report result
+        told.old
         told.new heap.old.slot.value heap.new.slot.value }
 {
     let Some(held) = heap.take(alloc) else {
@@ -137,7 +139,7 @@ pub extern "C" fn shardheap_raw_accounts(
     };
     let answer = held.accounts(shard, page);
     *heap = HeapHandle::of(held);
-    tell_page(&answer, told);
+    write_page(&answer, told);
     code_told(&answer)
 }
 
@@ -146,9 +148,9 @@ pub extern "C" fn shardheap_raw_accounts(
 pub extern "C" fn shardheap_raw_totals(
     alloc: Global,
     heap: &mut HeapHandle,
-    told: &mut SumsTold,
+    told: &mut SumsReport,
 ) -> u32
-    ensures { HeapTells (OnWhole (λ h. TellsTotals (heap_layout h) (heap_of h))) sums_told result told.old told.new
+    ensures { HeapTells (OnWhole (λ h. TellsTotals (heap_layout h) (heap_of h))) sums_report result told.old told.new
         heap.old.slot.value heap.new.slot.value }
 {
     let Some(held) = heap.take(alloc) else {
@@ -156,6 +158,6 @@ pub extern "C" fn shardheap_raw_totals(
     };
     let answer = held.totals();
     *heap = HeapHandle::of(held);
-    tell_sums(&answer, told);
+    write_sums(&answer, told);
     code_told(&answer)
 }

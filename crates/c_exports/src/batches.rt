@@ -2,7 +2,7 @@
 ghost use Rattle.c_exports.specs.Batches.{LoadsEach, LoadsOne, LoadsTold};
 
 use crate::codes::{EMPTY, OK};
-use crate::values::tell_words;
+use crate::values::write_words;
 use c_handles::{HeldPass, PassHandle};
 use sh_member::batches::BLOCK;
 use sh_value::{Value, WORDS_MAX};
@@ -35,7 +35,7 @@ fn load_one(member: &mut HeldPass, value: &mut Value, load: &mut Loaded)
 {
     let answer = member.fetch_into(load.key, value);
     match answer {
-        Ok(()) => load.code = tell_words(value, &mut load.words, &mut load.length),
+        Ok(()) => load.code = write_words(value, &mut load.words, &mut load.length),
         Err(refusal) => load.code = refusal.number(),
     }
 }

@@ -6,7 +6,7 @@ ghost use Rattle.c_handles.specs.HeldPasses.{EitherDoes, NamesNoShard};
 ghost use Rattle.c_exports.specs.Told.{AskedNumber};
 
 use crate::codes::{EMPTY, code};
-use crate::values::tell_number;
+use crate::values::write_number;
 use c_handles::PassHandle;
 use std::alloc::Global;
 
@@ -24,7 +24,7 @@ pub extern "C" fn shardheap_raw_pages_left(
         return EMPTY;
     }
     let answer = pass.held().pages_left();
-    tell_number(&answer, pages);
+    write_number(&answer, pages);
     code(&answer)
 }
 
@@ -42,6 +42,6 @@ pub extern "C" fn shardheap_raw_slots_out(
         return EMPTY;
     }
     let answer = pass.held().slots_out();
-    tell_number(&answer, slots);
+    write_number(&answer, slots);
     code(&answer)
 }

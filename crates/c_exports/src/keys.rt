@@ -9,7 +9,7 @@ use sh_pass::NextKey;
 use std::alloc::Global;
 
 // Writes the next key, and the place from which to continue.
-fn tell_next(next: Option<NextKey>, place: &mut u64, key: &mut u64) -> u32
+fn write_next(next: Option<NextKey>, place: &mut u64, key: &mut u64) -> u32
     ensures { KeyWritten next result place.old place.new key.old key.new }
 {
     let Some(next) = next else {
@@ -36,7 +36,7 @@ pub extern "C" fn shardheap_raw_next_key(
     let answer = held.next_key(*place);
     *heap = HeapHandle::of(held);
     match answer {
-        Ok(next) => tell_next(next, place, key),
+        Ok(next) => write_next(next, place, key),
         Err(refusal) => why(refusal),
     }
 }
@@ -55,7 +55,7 @@ pub extern "C" fn shardheap_raw_next_own_key(
         return EMPTY;
     }
     match pass.held().next_own_key(*place) {
-        Ok(next) => tell_next(next, place, key),
+        Ok(next) => write_next(next, place, key),
         Err(refusal) => refusal.number(),
     }
 }

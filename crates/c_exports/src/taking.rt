@@ -4,7 +4,7 @@ ghost use Rattle.c_handles.specs.HeldPasses.{HeldTakes};
 ghost use Rattle.c_exports.specs.Told.{ReadTold};
 
 use crate::codes::EMPTY;
-use crate::values::tell_words;
+use crate::values::write_words;
 use c_handles::PassHandle;
 use sh_value::Value;
 use std::alloc::Global;
@@ -29,7 +29,7 @@ pub extern "C" fn shardheap_raw_take_value(
     let mut value = Value::from(0);
     let answer = pass.held().take_into(key, words.len(), &mut value);
     match answer {
-        Ok(()) => tell_words(&value, words, count),
+        Ok(()) => write_words(&value, words, count),
         Err(refusal) => refusal.number(),
     }
 }

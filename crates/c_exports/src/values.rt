@@ -11,7 +11,7 @@ use sh_value::{Hold, Refusal, Value, WORDS_MAX};
 use std::alloc::Global;
 
 // Writes the words of a value to the front of the room, and how many they are.
-pub(crate) fn tell_words(value: &Value, words: &mut [u64], count: &mut u64) -> u32
+pub(crate) fn write_words(value: &Value, words: &mut [u64], count: &mut u64) -> u32
     ensures count { count.new ≡ length value.now }
     ensures words { WordsTold value.now words.old result words.new }
 {
@@ -43,7 +43,7 @@ pub extern "C" fn shardheap_raw_read(
     let mut value = Value::from(0);
     let answer = pass.held().read_into(Hold { key }, &mut value);
     match answer {
-        Ok(()) => tell_words(&value, words, count),
+        Ok(()) => write_words(&value, words, count),
         Err(refusal) => refusal.number(),
     }
 }
@@ -67,7 +67,7 @@ pub extern "C" fn shardheap_raw_load(
     let mut value = Value::from(0);
     let answer = pass.held().fetch_into(key, &mut value);
     match answer {
-        Ok(()) => tell_words(&value, words, count),
+        Ok(()) => write_words(&value, words, count),
         Err(refusal) => refusal.number(),
     }
 }
@@ -95,7 +95,7 @@ fn insert_words(alloc: Global, member: &mut HeldPass, words: &[u64]) -> Result<u
 }
 
 // Writes the number that a call returned, such as the key of a stored value.
-pub(crate) fn tell_number(answer: &Result<u64, Refusal>, key: &mut u64)
+pub(crate) fn write_number(answer: &Result<u64, Refusal>, key: &mut u64)
     ensures { key.new ≡ number_told key.old answer.now }
 {
     if let Ok(stored) = answer {
@@ -117,7 +117,7 @@ pub extern "C" fn shardheap_raw_insert(
         return EMPTY;
     }
     let answer = insert_words(alloc, pass.held(), words);
-    tell_number(&answer, key);
+    write_number(&answer, key);
     code(&answer)
 }
 
@@ -132,7 +132,7 @@ fn prepare_for(member: &mut HeldPass, words: u32) -> Result<u32, Refusal>
 }
 
 // Writes the page that was prepared.
-fn tell_page(answer: &Result<u32, Refusal>, page: &mut u32)
+fn write_page(answer: &Result<u32, Refusal>, page: &mut u32)
     ensures { page.new ≡ number_told page.old answer.now }
 {
     if let Ok(prepared) = answer {
@@ -154,6 +154,6 @@ pub extern "C" fn shardheap_raw_prepare(
         return EMPTY;
     }
     let answer = prepare_for(pass.held(), words);
-    tell_page(&answer, page);
+    write_page(&answer, page);
     code(&answer)
 }

@@ -6,7 +6,7 @@ use super::codes::{
     OK, SHORT, TINY, TOO_LONG,
 };
 use super::{agree, ended, given, opened, stored, taken};
-use crate::accounts::{SumsTold, shardheap_raw_gather, shardheap_raw_totals};
+use crate::accounts::{SumsReport, shardheap_raw_gather, shardheap_raw_totals};
 use crate::calls::{
     shardheap_raw_adopt, shardheap_raw_collect, shardheap_raw_get, shardheap_raw_leave,
     shardheap_raw_release, shardheap_raw_remove,
@@ -214,7 +214,7 @@ fn names_no_shard(rt: &impl Abort, alloc: Global, pass: &mut PassHandle) {
 // The heap is not known as a whole: such a call is refused, and writes nothing.
 fn is_not_whole(rt: &impl Abort, alloc: Global, heap: &mut HeapHandle) {
     let (mut place, mut key) = (55, 77);
-    let mut sums = SumsTold {
+    let mut sums = SumsReport {
         live: 9,
         marked: 9,
         retired: 9,

@@ -2,7 +2,7 @@
 use super::codes::{AWAY, EMPTY, FULL, NO_KEY, NO_PAGE, NO_PASS, OK};
 use super::{agree, ended, given, left, opened, owner, stored, taken};
 use crate::accounts::{
-    PageTold, SumsTold, shardheap_raw_accounts, shardheap_raw_gather, shardheap_raw_totals,
+    PageReport, SumsReport, shardheap_raw_accounts, shardheap_raw_gather, shardheap_raw_totals,
 };
 use crate::calls::{shardheap_raw_get, shardheap_raw_remove};
 use crate::keys::shardheap_raw_next_key;
@@ -17,7 +17,7 @@ const NINES: [u32; 6] = [9; 6];
 
 // The accounts of a page: the code, and used, class, live, marked, retired and queued as they were written.
 fn accounts(alloc: Global, heap: &mut HeapHandle, shard: u32, page: u32) -> (u32, [u32; 6]) {
-    let mut told = PageTold {
+    let mut told = PageReport {
         used: 9,
         size_class: 9,
         live: 9,
@@ -26,7 +26,7 @@ fn accounts(alloc: Global, heap: &mut HeapHandle, shard: u32, page: u32) -> (u32
         queued: 9,
     };
     let code = shardheap_raw_accounts(alloc, heap, shard, page, &mut told);
-    let PageTold {
+    let PageReport {
         used,
         size_class,
         live,
@@ -39,7 +39,7 @@ fn accounts(alloc: Global, heap: &mut HeapHandle, shard: u32, page: u32) -> (u32
 
 // The sums: the code, and live, marked, retired, queued, used pages and blank pages as they were written.
 fn totals(alloc: Global, heap: &mut HeapHandle) -> (u32, [u32; 6]) {
-    let mut told = SumsTold {
+    let mut told = SumsReport {
         live: 9,
         marked: 9,
         retired: 9,
@@ -48,7 +48,7 @@ fn totals(alloc: Global, heap: &mut HeapHandle) -> (u32, [u32; 6]) {
         blank_pages: 9,
     };
     let code = shardheap_raw_totals(alloc, heap, &mut told);
-    let SumsTold {
+    let SumsReport {
         live,
         marked,
         retired,

@@ -7,7 +7,7 @@ returns-in-Ok c = (
   _,
   record {
     key = refl;
-    told = (c.tell_words-load.ensures.count, c.tell_words-load.ensures.words);
+    told = (c.write_words-load.ensures.count, c.write_words-load.ensures.words);
     does_it = fetches_into _ _ _ _ _ _ c.in-Ok.ensures;
   },
 )

@@ -6,5 +6,5 @@ pub returns-then-not-is_full : goal.returns-then-not-is_full
 returns-then-not-is_full c = unasked_number _ _ _ (sym c.is_full.ensures ∙ c.if-not-is_full.true)
 
 pub returns : goal.returns
-returns c = asked_number _ _ _ _ _ _ _ _ _ c.held.ensures.value refl c.code.ensures c.tell_number.ensures
+returns c = asked_number _ _ _ _ _ _ _ _ _ c.held.ensures.value refl c.code.ensures c.write_number.ensures
     c.insert_words-answer.ensures

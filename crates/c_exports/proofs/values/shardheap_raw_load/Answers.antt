@@ -8,7 +8,7 @@ returns-then-not-is_full c = unread _ _ _ _ (sym c.is_full.ensures ∙ c.if-not-
 
 pub returns-in-Ok : goal.returns-in-Ok
 returns-in-Ok c = read_told _ _ _ _ _ _ _ _ _ _ _ c.held.ensures.value refl
-    (c.tell_words.ensures.count, c.tell_words.ensures.words) (fetches_into _ _ _ _ _ _ c.in-Ok.ensures)
+    (c.write_words.ensures.count, c.write_words.ensures.words) (fetches_into _ _ _ _ _ _ c.in-Ok.ensures)
 
 pub returns-in-Err : goal.returns-in-Err
 returns-in-Err c = read_told _ _ _ _ _ _ _ _ _ _ _ c.held.ensures.value refl (c.number.ensures, refl, refl)
