@@ -9,8 +9,8 @@ use Rattle.sh_member.specs.Readers.{FetchDoes, FetchIntoDoes, TakeFitsDoes, Take
 use Rattle.c_handles.specs.Sides.{SeenSide, SideDoes}
 use Rattle.c_handles.specs.Side.TheVariants.{Pass, Shard, Moving}
 use Rattle.c_handles.specs.Growing.{Growing}
-use Rattle.c_handles.specs.Met.{Met}
-use Rattle.c_handles.specs.Callers.{GrownDoes, HeldDoes, MetDoes, WhyUnmet}
+use Rattle.c_handles.specs.ChunkMember.{ChunkMember}
+use Rattle.c_handles.specs.Callers.{GrownDoes, HeldDoes, MemberDoes, WhyUnmet}
 use Rattle.c_handles.specs.declared.held_pass.HeldPass.{HeldPass}
 use Rattle.c_handles.specs.declared.held_pass.HeldPass.TheVariants as held
 use Rattle.c_handles.specs.Members.{AnyDoes, layout_of, side_of}
@@ -56,7 +56,8 @@ any_fills does into after fills a v w did =
 met_fills : (does : SeenSide → Result (List ℕ) Refusal → SeenSide → Type 0)
     (into : SeenSide → Result (Unit {0}) Refusal → SeenSide → Type 0) (after : List ℕ)
     → ((a : Result (Unit {0}) Refusal) (m n : SeenSide) → into m a n → does m (read_in after a) n)
-    → (a : Result (Unit {0}) Refusal) (x y : Option Met) → MetDoes into x a y → MetDoes does x (read_in after a) y
+    → (a : Result (Unit {0}) Refusal) (x y : Option ChunkMember) → MemberDoes into x a y
+        → MemberDoes does x (read_in after a) y
 met_fills does into after fills a (Some m) (Some n) did = (fills a m.member n.member did.0, did.1)
 met_fills does into after fills a (Some m) None did = absurd did
 met_fills does into after fills a None y did = absurd did
@@ -69,7 +70,7 @@ unmet_fills after (Err e) why = why
 grown_fills : (does : SeenSide → Result (List ℕ) Refusal → SeenSide → Type 0)
     (into : SeenSide → Result (Unit {0}) Refusal → SeenSide → Type 0) (after : List ℕ)
     → ((a : Result (Unit {0}) Refusal) (m n : SeenSide) → into m a n → does m (read_in after a) n)
-    → (a : Result (Unit {0}) Refusal) (growing : Growing) (number chunk : ℕ) (old new : List (Option Met))
+    → (a : Result (Unit {0}) Refusal) (growing : Growing) (number chunk : ℕ) (old new : List (Option ChunkMember))
     → GrownDoes into growing number chunk old a new → GrownDoes does growing number chunk old (read_in after a) new
 grown_fills does into after fills a growing number chunk old new (inl did) =
     inl (record {
@@ -85,7 +86,7 @@ grown_fills does into after fills a growing number chunk old new (inr not) =
 held_fills : (does : SeenSide → Result (List ℕ) Refusal → SeenSide → Type 0)
     (into : SeenSide → Result (Unit {0}) Refusal → SeenSide → Type 0) (after : List ℕ)
     → ((a : Result (Unit {0}) Refusal) (m n : SeenSide) → into m a n → does m (read_in after a) n)
-    → (a : Result (Unit {0}) Refusal) (chunk : ℕ) (old new : List (Option Met))
+    → (a : Result (Unit {0}) Refusal) (chunk : ℕ) (old new : List (Option ChunkMember))
     → HeldDoes into chunk old a new → HeldDoes does chunk old (read_in after a) new
 held_fills does into after fills a chunk old new (inl did) =
     inl (did.0, met_fills does into after fills a (get_or old chunk None) did.0 did.1, did.2)

@@ -241,7 +241,7 @@ fn answer_of(passes: u32, words: &[&[u8]]) -> Result<Answer, Cause>
 }
 
 // A number of the header, below 2^32.
-fn small(word: &[u8]) -> Result<u32, Cause>
+fn header_u32(word: &[u8]) -> Result<u32, Cause>
     ensures { result ≡ small_number word.now }
 {
     let Some(n) = number(word) else {
@@ -262,8 +262,8 @@ fn header(words: &[&[u8]]) -> Result<Limits, Cause>
             if *word != b"history".as_slice() {
                 return Err(Cause::Header);
             }
-            let passes = small(passes)?;
-            let guard_max = small(guard_max)?;
+            let passes = header_u32(passes)?;
+            let guard_max = header_u32(guard_max)?;
             Ok(Limits { passes, guard_max })
         }
         _ => Err(Cause::Header),

@@ -3,11 +3,11 @@ use Rattle.std.proofs.Common.{◌≡◌, ℕ, ◌<◌, List, Option, Some, None,
 use Rattle.std.specs.Prelude.{slice_set}
 use Rattle.std.proofs.lemmas.List.{get_or-set_same, get_or-set_other, length-set}
 use Rattle.sh_grown.specs.declared.growing.Growing.{Growing}
-use Rattle.sh_grown.specs.declared.met.Met.{Met}
+use Rattle.sh_grown.specs.declared.met.ChunkMember.{ChunkMember}
 use Rattle.sh_grown.specs.Callers.{IsNewcomer, IsClaimed}
 
 -- the first member goes to the first place of a list that has none
-pub first_goes : (growing : Growing) (number slot : ℕ) (first : Met) (empty new : List (Option Met))
+pub first_goes : (growing : Growing) (number slot : ℕ) (first : ChunkMember) (empty new : List (Option ChunkMember))
     → number ≡ slot → IsNewcomer growing slot 0 first → 0 < length empty → length empty ≡ length growing.cells.items
     → ((chunk : ℕ) → get_or empty chunk None ≡ None) → new ≡ slice_set empty 0 (Some first)
     → IsClaimed growing number new
@@ -23,6 +23,7 @@ first_goes growing number slot first empty new same is some room none put =
     }
 
 -- what was claimed of a growing heap was claimed of the same one by another name
-pub claimed_alike : (g h : Growing) (number : ℕ) (members : List (Option Met)) → IsClaimed g number members → g ≡ h
+pub claimed_alike : (g h : Growing) (number : ℕ) (members : List (Option ChunkMember)) → IsClaimed g number members → g
+    ≡ h
     → IsClaimed h number members
 claimed_alike g h number members is same = subst (λ (x : Growing). IsClaimed x number members) same is

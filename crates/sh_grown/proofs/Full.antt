@@ -7,8 +7,8 @@ use Rattle.sh_value.specs.declared.refusal.Refusal.{Refusal}
 use Rattle.sh_value.specs.declared.refusal.Refusal.TheVariants as refusal
 use Rattle.sh_member.specs.declared.member.Side.TheVariants.{Pass, Shard, Moving}
 use Rattle.sh_member.specs.Sides.{SeenSide}
-use Rattle.sh_grown.specs.declared.met.Met.{Met}
-use Rattle.sh_grown.specs.Callers.{MetDoes}
+use Rattle.sh_grown.specs.declared.met.ChunkMember.{ChunkMember}
+use Rattle.sh_grown.specs.Callers.{MemberDoes}
 use Rattle.sh_grown.specs.Inserts.{HasMet, InsertsIn, InsertsInChunk, OnNone, TriesInsert, unless_memory}
 use Rattle.sh_grown.specs.Keeping.{KeepsMember, KeepsMembers}
 use Rattle.sh_grown.specs.Refusals.{ChunkRefused, OwnsShard, OwnsThere, RangeRefused, RefusedIn, RefusesShard}
@@ -57,7 +57,8 @@ either_way P why memory other =
     (λ (ne : why ≢ refusal.Memory). subst P (sym (other_than_memory why ne)) (other ne)) (is_memory why)
 
 -- a refused try keeps each member
-pub refused_try : (value : List ℕ) (xs ys : List (Option Met)) (why : Refusal) (answer : Result (Option ℕ) Refusal)
+pub refused_try : (value : List ℕ) (xs ys : List (Option ChunkMember)) (why : Refusal)
+    (answer : Result (Option ℕ) Refusal)
     → answer ≡ unless_memory why → KeepsMembers xs ys → TriesInsert value xs answer ys
 refused_try value xs ys why answer is kept =
     subst (λ (a : Result (Option ℕ) Refusal). TriesInsert value xs a ys) (sym is)
@@ -93,42 +94,43 @@ side_full value shard (Shard o) Moving why ne owns h = absurd h
 side_full value shard (Pass v) b why ne owns h = absurd owns
 side_full value shard Moving b why ne owns h = absurd owns
 
-place_full : (value : List ℕ) (shard : ℕ) (a b : Option Met) (why : Refusal) → why ≢ refusal.Memory → OwnsThere shard a
-    → MetDoes (InsertsIn value) a (Err why) b → WasRefused value shard a b
+place_full : (value : List ℕ) (shard : ℕ) (a b : Option ChunkMember) (why : Refusal) → why ≢ refusal.Memory
+    → OwnsThere shard a
+    → MemberDoes (InsertsIn value) a (Err why) b → WasRefused value shard a b
 place_full value shard (Some m) (Some n) why ne owns does =
     refused_now value shard m n (side_full value shard m.member n.member why ne owns does.0)
 place_full value shard (Some m) None why ne owns does = absurd does
 place_full value shard None b why ne owns does = absurd owns
 
 -- a member is inside the list
-pub met_within : (xs : List (Option Met)) (i : ℕ) → IsSome (get_or xs i None) → i < length xs
+pub met_within : (xs : List (Option ChunkMember)) (i : ℕ) → IsSome (get_or xs i None) → i < length xs
 met_within [] i some = absurd (cc)
 met_within (x ∷ xs) zero some = omega arith
 met_within (x ∷ xs) (suc i) some = let less : i < length xs = met_within xs i some in omega arith
 
 -- what is written at the place of a member is there
-set_here : (xs : List (Option Met)) (i : ℕ) (place : Option Met) → IsSome (get_or xs i None)
+set_here : (xs : List (Option ChunkMember)) (i : ℕ) (place : Option ChunkMember) → IsSome (get_or xs i None)
     → get_or (slice_set xs i place) i None ≡ place
 set_here xs i place some = get_or-set_same xs i place None (met_within xs i some)
 
-owner_is_there : (shard : ℕ) (a : Option Met) → OwnsThere shard a → IsSome a
+owner_is_there : (shard : ℕ) (a : Option ChunkMember) → OwnsThere shard a → IsSome a
 owner_is_there shard (Some m) owns = refl
 owner_is_there shard None owns = absurd owns
 
-chunk_not_memory : (value : List ℕ) (chunk shard : ℕ) (old new : List (Option Met)) (why : Refusal)
+chunk_not_memory : (value : List ℕ) (chunk shard : ℕ) (old new : List (Option ChunkMember)) (why : Refusal)
     → why ≢ refusal.Memory → OwnsThere shard (get_or old chunk None) → InsertsInChunk value chunk old (Err why) new
     → RefusedIn value chunk shard old new
 chunk_not_memory value chunk shard old new why ne owns (inl h) =
     let there : get_or new chunk None ≡ h.0 =
-    ap (λ (xs : List (Option Met)). get_or xs chunk None) h.2
+    ap (λ (xs : List (Option ChunkMember)). get_or xs chunk None) h.2
     ∙ set_here old chunk h.0 (owner_is_there shard (get_or old chunk None) owns) in
-    subst (λ (o : Option Met). WasRefused value shard (get_or old chunk None) o) (sym there)
+    subst (λ (o : Option ChunkMember). WasRefused value shard (get_or old chunk None) o) (sym there)
     (place_full value shard (get_or old chunk None) h.0 why ne owns h.1)
 chunk_not_memory value chunk shard old new why ne owns (inr h) =
-    absurd (subst (λ (o : Option Met). OwnsThere shard o) h.1 owns)
+    absurd (subst (λ (o : Option ChunkMember). OwnsThere shard o) h.1 owns)
 
 -- an insert in a chunk is refused for want of memory, or the shard that the caller owns there is refused
-pub chunk_full : (value : List ℕ) (chunk : ℕ) (old new : List (Option Met)) (why : Refusal)
+pub chunk_full : (value : List ℕ) (chunk : ℕ) (old new : List (Option ChunkMember)) (why : Refusal)
     → InsertsInChunk value chunk old (Err why) new → (why ≡ refusal.Memory) ⊎ ((shard : ℕ)
     → OwnsThere shard (get_or old chunk None) → RefusedIn value chunk shard old new)
 chunk_full value chunk old new why h =
@@ -139,19 +141,19 @@ chunk_full value chunk old new why h =
 -- ---- a move in one place
 
 -- a member is there
-pub place_is_met : (xs : List (Option Met)) (i : ℕ) (found : Option Met) → IsSome (get_or xs i None)
+pub place_is_met : (xs : List (Option ChunkMember)) (i : ℕ) (found : Option ChunkMember) → IsSome (get_or xs i None)
     → found ≡ get_or xs i found → IsSome found
 place_is_met xs i found some is =
-    subst (λ (o : Option Met). IsSome o) (sym (is ∙ inside xs i found None (met_within xs i some))) some
+    subst (λ (o : Option ChunkMember). IsSome o) (sym (is ∙ inside xs i found None (met_within xs i some))) some
 
 -- what is owned in the place is owned in the chunk
-owns_in : (shard : ℕ) (xs : List (Option Met)) (i : ℕ) (place : Option Met) → IsSome (get_or xs i None)
+owns_in : (shard : ℕ) (xs : List (Option ChunkMember)) (i : ℕ) (place : Option ChunkMember) → IsSome (get_or xs i None)
     → OwnsThere shard place → OwnsThere shard (get_or (slice_set xs i place) i None)
 owns_in shard xs i place some owns =
-    subst (λ (o : Option Met). OwnsThere shard o) (sym (set_here xs i place some)) owns
+    subst (λ (o : Option ChunkMember). OwnsThere shard o) (sym (set_here xs i place some)) owns
 
 -- what was refused in the place was refused in the chunk
-move_refused : (shard : ℕ) (xs : List (Option Met)) (i : ℕ) (found place : Option Met) (why : Refusal)
+move_refused : (shard : ℕ) (xs : List (Option ChunkMember)) (i : ℕ) (found place : Option ChunkMember) (why : Refusal)
     → IsSome (get_or xs i None) → found ≡ get_or xs i found
     → (why ≡ refusal.Memory) ⊎ ((value : List ℕ) → WasRefused value shard found place)
     → (why ≡ refusal.Memory) ⊎ ((value : List ℕ) → RefusedIn value i shard xs (slice_set xs i place))
@@ -159,17 +161,18 @@ move_refused shard xs i found place why some is holds =
     let at : found ≡ get_or xs i None = is ∙ inside xs i found None (met_within xs i some) in
     ⊎_elim inl
     (λ (r : (value : List ℕ) → WasRefused value shard found place). inr (λ value.
-    subst (λ (o : Option Met). WasRefused value shard (get_or xs i None) o) (sym (set_here xs i place some))
-    (subst (λ (o : Option Met). WasRefused value shard o place) at (r value)))) holds
+    subst (λ (o : Option ChunkMember). WasRefused value shard (get_or xs i None) o) (sym (set_here xs i place some))
+    (subst (λ (o : Option ChunkMember). WasRefused value shard o place) at (r value)))) holds
 
 -- the same of any answer of a move
-pub owns_after : (shard : ℕ) (xs : List (Option Met)) (i : ℕ) (place : Option Met) (answer : Result (Unit {0}) Refusal)
+pub owns_after : (shard : ℕ) (xs : List (Option ChunkMember)) (i : ℕ) (place : Option ChunkMember)
+    (answer : Result (Unit {0}) Refusal)
     → IsSome (get_or xs i None) → OnOk answer (OwnsThere shard place)
     → OnOk answer (OwnsThere shard (get_or (slice_set xs i place) i None))
 owns_after shard xs i place (Ok x) some owns = owns_in shard xs i place some owns
 owns_after shard xs i place (Err why) some owns = tt
 
-pub refused_in : (shard : ℕ) (xs : List (Option Met)) (i : ℕ) (found place : Option Met)
+pub refused_in : (shard : ℕ) (xs : List (Option ChunkMember)) (i : ℕ) (found place : Option ChunkMember)
     (answer : Result (Unit {0}) Refusal) → IsSome (get_or xs i None) → found ≡ get_or xs i found
     → IfErr answer (λ why. (why ≡ refusal.Memory) ⊎ ((value : List ℕ) → WasRefused value shard found place))
     → IfErr answer (λ why. (why ≡ refusal.Memory)
@@ -179,7 +182,7 @@ refused_in shard xs i found place (Err why) some is holds = move_refused shard x
 
 -- ---- over the chunks
 
-refused_after : (value : List ℕ) (shard : ℕ) (a b c : Option Met) → WasRefused value shard a b → KeepsMember b c
+refused_after : (value : List ℕ) (shard : ℕ) (a b c : Option ChunkMember) → WasRefused value shard a b → KeepsMember b c
     → WasRefused value shard a c
 refused_after value shard a b c r kept = record {
   before = r.before;
@@ -189,42 +192,46 @@ refused_after value shard a b c r kept = record {
   ends = place_then (Some r.after) b c r.ends kept;
 }
 
-pub in_then : (value : List ℕ) (chunk shard : ℕ) (xs ys zs : List (Option Met)) → RefusedIn value chunk shard xs ys
+pub in_then : (value : List ℕ) (chunk shard : ℕ) (xs ys zs : List (Option ChunkMember))
+    → RefusedIn value chunk shard xs ys
     → KeepsMembers ys zs → RefusedIn value chunk shard xs zs
 in_then value chunk shard xs ys zs r kept =
     refused_after value shard (get_or xs chunk None) (get_or ys chunk None) (get_or zs chunk None) r (kept chunk)
 
-pub then_in : (value : List ℕ) (chunk shard : ℕ) (xs ys zs : List (Option Met)) → KeepsMembers xs ys
+pub then_in : (value : List ℕ) (chunk shard : ℕ) (xs ys zs : List (Option ChunkMember)) → KeepsMembers xs ys
     → RefusedIn value chunk shard ys zs → RefusedIn value chunk shard xs zs
 then_in value chunk shard xs ys zs kept r =
     then_refused value shard (get_or xs chunk None) (get_or ys chunk None) (get_or zs chunk None) (kept chunk) r
 
-kept_some : (m : Met) (b : Option Met) → KeepsMember (Some m) b → (n : Met) × (b ≡ Some n) × (n.shards ≡ m.shards)
+kept_some : (m : ChunkMember) (b : Option ChunkMember) → KeepsMember (Some m) b → (n : ChunkMember) × (b ≡ Some n)
+    × (n.shards ≡ m.shards)
 kept_some m (Some n) kept = (n, refl, kept.1.2)
 kept_some m None kept = absurd kept
 
 -- a member that is kept is still there, in a chunk of as many shards
-pub kept_met : (a b : Option Met) (m : Met) → a ≡ Some m → KeepsMember a b
-    → (n : Met) × (b ≡ Some n) × (n.shards ≡ m.shards)
-kept_met a b m is kept = kept_some m b (subst (λ (o : Option Met). KeepsMember o b) is kept)
+pub kept_met : (a b : Option ChunkMember) (m : ChunkMember) → a ≡ Some m → KeepsMember a b
+    → (n : ChunkMember) × (b ≡ Some n) × (n.shards ≡ m.shards)
+kept_met a b m is kept = kept_some m b (subst (λ (o : Option ChunkMember). KeepsMember o b) is kept)
 
-some_met : (a : Option Met) → IsSome a → (m : Met) × (a ≡ Some m)
+some_met : (a : Option ChunkMember) → IsSome a → (m : ChunkMember) × (a ≡ Some m)
 some_met (Some m) some = (m, refl)
 some_met None some = absurd (cc)
 
-still_met : (a b : Option Met) → KeepsMember a b → IsSome a → IsSome b
+still_met : (a b : Option ChunkMember) → KeepsMember a b → IsSome a → IsSome b
 still_met (Some m) (Some n) kept some = refl
 still_met (Some m) None kept some = absurd kept
 still_met None b kept some = absurd (cc)
 
 -- a chunk that was met stays met
-pub has_met_then : (xs ys : List (Option Met)) (chunk : ℕ) → KeepsMembers xs ys → HasMet xs chunk → HasMet ys chunk
+pub has_met_then : (xs ys : List (Option ChunkMember)) (chunk : ℕ) → KeepsMembers xs ys → HasMet xs chunk
+    → HasMet ys chunk
 has_met_then xs ys chunk kept has = still_met (get_or xs chunk None) (get_or ys chunk None) (kept chunk) has
 
-pub chunk_refused_then : (value : List ℕ) (chunk : ℕ) (xs ys zs : List (Option Met)) → ChunkRefused value chunk xs ys
+pub chunk_refused_then : (value : List ℕ) (chunk : ℕ) (xs ys zs : List (Option ChunkMember))
+    → ChunkRefused value chunk xs ys
     → KeepsMembers ys zs → ChunkRefused value chunk xs zs
 chunk_refused_then value chunk xs ys zs r kept =
-    let n : (o : Met) × (get_or zs chunk None ≡ Some o) × (o.shards ≡ r.met.shards) =
+    let n : (o : ChunkMember) × (get_or zs chunk None ≡ Some o) × (o.shards ≡ r.met.shards) =
     kept_met (get_or ys chunk None) (get_or zs chunk None) r.met r.there (kept chunk) in
     record {
       met = n.0;
@@ -234,7 +241,7 @@ chunk_refused_then value chunk xs ys zs r kept =
     }
 
 -- what was refused for any value was refused for this one
-pub refused_of : (value : List ℕ) (chunk shard : ℕ) (xs ys : List (Option Met)) (why : Refusal)
+pub refused_of : (value : List ℕ) (chunk shard : ℕ) (xs ys : List (Option ChunkMember)) (why : Refusal)
     → (why ≡ refusal.Memory) ⊎ ((value : List ℕ) → RefusedIn value chunk shard xs ys)
     → (why ≡ refusal.Memory) ⊎ RefusedIn value chunk shard xs ys
 refused_of value chunk shard xs ys why holds =
@@ -243,7 +250,7 @@ refused_of value chunk shard xs ys why holds =
 -- ---- the loops
 
 -- after a move the shard is owned, and an insert that finds no room there is its refusal
-pub owner_refused : (value : List ℕ) (chunk shard : ℕ) (xs ys zs : List (Option Met))
+pub owner_refused : (value : List ℕ) (chunk shard : ℕ) (xs ys zs : List (Option ChunkMember))
     (answer : Result (Option ℕ) Refusal) → KeepsMembers xs ys → OwnsThere shard (get_or ys chunk None)
     → OnNone answer ((shard : ℕ) → OwnsThere shard (get_or ys chunk None) → RefusedIn value chunk shard ys zs)
     → OnNone answer (RefusedIn value chunk shard xs zs)
@@ -253,11 +260,12 @@ owner_refused value chunk shard xs ys zs (Ok (Some key)) kept owns refused = tt
 owner_refused value chunk shard xs ys zs (Err why) kept owns refused = tt
 
 -- no shard was tried yet
-pub range_none : (value : List ℕ) (chunk from : ℕ) (xs : List (Option Met)) → RangeRefused value chunk from from xs xs
+pub range_none : (value : List ℕ) (chunk from : ℕ) (xs : List (Option ChunkMember))
+    → RangeRefused value chunk from from xs xs
 range_none value chunk from xs = λ shard low less. absurd (omega (arith, low, less))
 
 -- one shard more was refused
-pub range_more : (value : List ℕ) (chunk from i : ℕ) (xs ys zs : List (Option Met))
+pub range_more : (value : List ℕ) (chunk from i : ℕ) (xs ys zs : List (Option ChunkMember))
     → RangeRefused value chunk from i xs ys → KeepsMembers xs ys → KeepsMembers ys zs
     → RefusedIn value chunk i ys zs → RangeRefused value chunk from (i + 1) xs zs
 range_more value chunk from i xs ys zs below before kept here =
@@ -273,18 +281,18 @@ from_or_below (suc a) (suc b) =
     ⊎_elim (λ (low : a ≤ b). inl (omega (arith, low))) (λ (less : b < a). inr (omega (arith, less)))
     (from_or_below a b)
 
-both_refused : (value : List ℕ) (chunk first shards : ℕ) (xs ys zs : List (Option Met)) → HasMet xs chunk
+both_refused : (value : List ℕ) (chunk first shards : ℕ) (xs ys zs : List (Option ChunkMember)) → HasMet xs chunk
     → IfSome (get_or xs chunk None) (λ m. shards ≡ m.shards) → KeepsMembers xs ys → KeepsMembers ys zs
     → RangeRefused value chunk first shards xs ys → RangeRefused value chunk 0 first ys zs
     → ChunkRefused value chunk xs zs
 both_refused value chunk first shards xs ys zs has count kept later behind before =
-    let m : (o : Met) × (get_or xs chunk None ≡ Some o) = some_met (get_or xs chunk None) has in
-    let l : (o : Met) × (get_or ys chunk None ≡ Some o) × (o.shards ≡ m.0.shards) =
+    let m : (o : ChunkMember) × (get_or xs chunk None ≡ Some o) = some_met (get_or xs chunk None) has in
+    let l : (o : ChunkMember) × (get_or ys chunk None ≡ Some o) × (o.shards ≡ m.0.shards) =
     kept_met (get_or xs chunk None) (get_or ys chunk None) m.0 m.1 (kept chunk) in
-    let n : (o : Met) × (get_or zs chunk None ≡ Some o) × (o.shards ≡ l.0.shards) =
+    let n : (o : ChunkMember) × (get_or zs chunk None ≡ Some o) × (o.shards ≡ l.0.shards) =
     kept_met (get_or ys chunk None) (get_or zs chunk None) l.0 l.1 (later chunk) in
     let counted : shards ≡ m.0.shards =
-    subst (λ (o : Option Met). IfSome o (λ (x : Met). shards ≡ x.shards)) m.1 count in
+    subst (λ (o : Option ChunkMember). IfSome o (λ (x : ChunkMember). shards ≡ x.shards)) m.1 count in
     let all : n.0.shards ≡ shards = n.2 ∙ (l.2 ∙ sym counted) in
     record {
       met = n.0;
@@ -297,7 +305,7 @@ both_refused value chunk first shards xs ys zs has count kept later behind befor
           (from_or_below first shard);
     }
 
-pub both_tried : (value : List ℕ) (chunk first shards : ℕ) (xs ys zs : List (Option Met))
+pub both_tried : (value : List ℕ) (chunk first shards : ℕ) (xs ys zs : List (Option ChunkMember))
     (answer : Result (Option ℕ) Refusal) → HasMet xs chunk
     → IfSome (get_or xs chunk None) (λ m. shards ≡ m.shards) → KeepsMembers xs ys → TriesInsert value ys answer zs
     → RangeRefused value chunk first shards xs ys → OnNone answer (RangeRefused value chunk 0 first ys zs)
@@ -308,7 +316,7 @@ both_tried value chunk first shards xs ys zs (Ok (Some key)) has count kept trie
 both_tried value chunk first shards xs ys zs (Err why) has count kept tries behind before = tt
 
 -- one chunk more was refused, after it was met
-pub chunks_more : (value : List ℕ) (n : ℕ) (xs ys met zs : List (Option Met))
+pub chunks_more : (value : List ℕ) (n : ℕ) (xs ys met zs : List (Option ChunkMember))
     → ((chunk : ℕ) → chunk < n → ChunkRefused value chunk xs ys) → KeepsMembers xs ys → KeepsMembers ys met
     → KeepsMembers met zs → ChunkRefused value n met zs → (chunk : ℕ) → chunk < n + 1 → ChunkRefused value chunk xs zs
 chunks_more value n xs ys met zs each before kept later here =

@@ -4,7 +4,7 @@ use Rattle.std.proofs.Common.{Option, Some, None}
 use Rattle.std.specs.Prelude.{Result, Ok, Err, slice_set}
 use Rattle.sh_value.specs.declared.refusal.Refusal.{Refusal}
 use Rattle.sh_value.specs.declared.refusal.Refusal.TheVariants as refusal
-use Rattle.sh_grown.specs.declared.met.Met.{Met}
+use Rattle.sh_grown.specs.declared.met.ChunkMember.{ChunkMember}
 use Rattle.sh_grown.specs.declared.caller.Caller.{Caller as SeenCaller}
 use Rattle.sh_grown.specs.Callers.{Stays}
 use Rattle.sh_grown.specs.Inserts.{EndsWithInsert, Inserts, TriesInsert}
@@ -12,60 +12,64 @@ use Rattle.sh_grown.specs.Keeping.{KeepsMember, KeepsMembers}
 use Rattle.sh_grown.specs.Refusals.{ChunkRefused, WasRefused}
 
 -- a place that nothing is done in
-pub place_stays : (a : Option Met) → KeepsMember a a
+pub place_stays : (a : Option ChunkMember) → KeepsMember a a
 place_stays None = tt
 place_stays (Some m) = (refl, (refl, refl, refl))
 
 -- two calls, one after the other
-pub place_then : (a b c : Option Met) → KeepsMember a b → KeepsMember b c → KeepsMember a c
+pub place_then : (a b c : Option ChunkMember) → KeepsMember a b → KeepsMember b c → KeepsMember a c
 place_then None b c p q = tt
 place_then (Some x) None c p q = absurd p
 place_then (Some x) (Some y) None p q = absurd q
 place_then (Some x) (Some y) (Some z) p q = (q.0 ∙ p.0, (q.1.0 ∙ p.1.0, q.1.1 ∙ p.1.1, q.1.2 ∙ p.1.2))
 
 -- the same in each chunk
-pub keeps_then : (xs ys zs : List (Option Met)) → KeepsMembers xs ys → KeepsMembers ys zs → KeepsMembers xs zs
+pub keeps_then : (xs ys zs : List (Option ChunkMember)) → KeepsMembers xs ys → KeepsMembers ys zs → KeepsMembers xs zs
 keeps_then xs ys zs p q =
     λ chunk. place_then (get_or xs chunk None) (get_or ys chunk None) (get_or zs chunk None) (p chunk) (q chunk)
 
-first_kept : (x : Option Met) (xs : List (Option Met)) (place : Option Met) → KeepsMember x place → (chunk : ℕ)
+first_kept : (x : Option ChunkMember) (xs : List (Option ChunkMember)) (place : Option ChunkMember)
+    → KeepsMember x place → (chunk : ℕ)
     → KeepsMember (get_or (x ∷ xs) chunk None) (get_or (place ∷ xs) chunk None)
 first_kept x xs place kept zero = kept
 first_kept x xs place kept (suc k) = place_stays (get_or xs k None)
 
-later_kept : (x : Option Met) (xs : List (Option Met)) (i : ℕ) (place : Option Met)
+later_kept : (x : Option ChunkMember) (xs : List (Option ChunkMember)) (i : ℕ) (place : Option ChunkMember)
     → KeepsMembers xs (slice_set xs i place) → (chunk : ℕ)
     → KeepsMember (get_or (x ∷ xs) chunk None) (get_or (x ∷ slice_set xs i place) chunk None)
 later_kept x xs i place kept zero = place_stays x
 later_kept x xs i place kept (suc k) = kept k
 
 -- if one place alone is written, and it keeps its member, all keep theirs
-pub one_kept : (xs : List (Option Met)) (i : ℕ) (place : Option Met) → KeepsMember (get_or xs i None) place
+pub one_kept : (xs : List (Option ChunkMember)) (i : ℕ) (place : Option ChunkMember)
+    → KeepsMember (get_or xs i None) place
     → KeepsMembers xs (slice_set xs i place)
 one_kept [] i place kept = λ chunk. tt
 one_kept (x ∷ xs) zero place kept = first_kept x xs place kept
 one_kept (x ∷ xs) (suc i) place kept = later_kept x xs i place (one_kept xs i place kept)
 
 -- what was found at a place is what is there, or it is past the end
-pub place_found : (xs : List (Option Met)) (i : ℕ) (found place : Option Met) → found ≡ get_or xs i found
+pub place_found : (xs : List (Option ChunkMember)) (i : ℕ) (found place : Option ChunkMember) → found
+    ≡ get_or xs i found
     → KeepsMember found place → KeepsMember (get_or xs i None) place
 place_found [] i found place is kept = tt
 place_found (x ∷ xs) zero found place is kept = subst (λ o. KeepsMember o place) is kept
 place_found (x ∷ xs) (suc i) found place is kept = place_found xs i found place is kept
 
 -- one more place is written, which keeps the member that was found there
-pub keeps_more : (old now : List (Option Met)) (i : ℕ) (found place : Option Met) → KeepsMembers old now
+pub keeps_more : (old now : List (Option ChunkMember)) (i : ℕ) (found place : Option ChunkMember) → KeepsMembers old now
     → found ≡ get_or now i found → KeepsMember found place → KeepsMembers old (slice_set now i place)
 keeps_more old now i found place before is kept =
     keeps_then old now (slice_set now i place) before (one_kept now i place (place_found now i found place is kept))
 
 -- what was kept before an insert is kept in it
-pub kept_then_ends : (value : List ℕ) (key : ℕ) (xs ys zs : List (Option Met)) → KeepsMembers xs ys
+pub kept_then_ends : (value : List ℕ) (key : ℕ) (xs ys zs : List (Option ChunkMember)) → KeepsMembers xs ys
     → EndsWithInsert value key ys zs → EndsWithInsert value key xs zs
 kept_then_ends value key xs ys zs p q = (q.0, keeps_then xs ys q.0 p q.1, q.2)
 
 -- a try that is refused is refused as Memory
-pub try_refused : (value : List ℕ) (ys zs : List (Option Met)) (why : Refusal) → TriesInsert value ys (Err why) zs
+pub try_refused : (value : List ℕ) (ys zs : List (Option ChunkMember)) (why : Refusal)
+    → TriesInsert value ys (Err why) zs
     → (why ≡ refusal.Memory) × KeepsMembers ys zs
 try_refused value ys zs refusal.Memory q = (refl, q)
 try_refused value ys zs refusal.BadKey q = absurd q
@@ -81,7 +85,7 @@ try_refused value ys zs refusal.Waiting q = absurd q
 try_refused value ys zs refusal.BadShape q = absurd q
 try_refused value ys zs refusal.WrongKind q = absurd q
 
-pub tries_then : (value : List ℕ) (xs ys zs : List (Option Met)) (answer : Result (Option ℕ) Refusal)
+pub tries_then : (value : List ℕ) (xs ys zs : List (Option ChunkMember)) (answer : Result (Option ℕ) Refusal)
     → KeepsMembers xs ys → TriesInsert value ys answer zs → TriesInsert value xs answer zs
 tries_then value xs ys zs (Ok None) p q = keeps_then xs ys zs p q
 tries_then value xs ys zs (Ok (Some key)) p q = kept_then_ends value key xs ys zs p q
@@ -90,7 +94,8 @@ tries_then value xs ys zs (Err why) p q =
     subst (λ w. TriesInsert value xs (Err w) zs) (sym r.0) (keeps_then xs ys zs p r.1)
 
 -- what was kept before is kept in the course of the call
-pub then_refused : (value : List ℕ) (shard : ℕ) (a b c : Option Met) → KeepsMember a b → WasRefused value shard b c
+pub then_refused : (value : List ℕ) (shard : ℕ) (a b c : Option ChunkMember) → KeepsMember a b
+    → WasRefused value shard b c
     → WasRefused value shard a c
 then_refused value shard a b c kept r = record {
   before = r.before;
@@ -100,7 +105,7 @@ then_refused value shard a b c kept r = record {
   ends = r.ends;
 }
 
-pub then_chunk_refused : (value : List ℕ) (chunk : ℕ) (xs ys zs : List (Option Met)) → KeepsMembers xs ys
+pub then_chunk_refused : (value : List ℕ) (chunk : ℕ) (xs ys zs : List (Option ChunkMember)) → KeepsMembers xs ys
     → ChunkRefused value chunk ys zs → ChunkRefused value chunk xs zs
 then_chunk_refused value chunk xs ys zs kept r = record {
   met = r.met;
@@ -110,7 +115,7 @@ then_chunk_refused value chunk xs ys zs kept r = record {
       (r.each shard less);
 }
 
-refused_then : (chunks : ℕ) (value : List ℕ) (xs ys zs : List (Option Met)) (why : Refusal) → KeepsMembers xs ys
+refused_then : (chunks : ℕ) (value : List ℕ) (xs ys zs : List (Option ChunkMember)) (why : Refusal) → KeepsMembers xs ys
     → Inserts chunks value ys (Err why) zs → Inserts chunks value xs (Err why) zs
 refused_then chunks value xs ys zs refusal.Full p q =
     (keeps_then xs ys zs p q.0, λ chunk less. then_chunk_refused value chunk xs ys zs p (q.1 chunk less))
@@ -128,7 +133,7 @@ refused_then chunks value xs ys zs refusal.BadShape p q = absurd q
 refused_then chunks value xs ys zs refusal.WrongKind p q = absurd q
 
 -- what was kept before is kept in an insert over all chunks
-pub inserts_then : (chunks : ℕ) (value : List ℕ) (xs ys zs : List (Option Met)) (answer : Result ℕ Refusal)
+pub inserts_then : (chunks : ℕ) (value : List ℕ) (xs ys zs : List (Option ChunkMember)) (answer : Result ℕ Refusal)
     → KeepsMembers xs ys → Inserts chunks value ys answer zs → Inserts chunks value xs answer zs
 inserts_then chunks value xs ys zs (Ok key) p q = kept_then_ends value key xs ys zs p q
 inserts_then chunks value xs ys zs (Err why) p q = refused_then chunks value xs ys zs why p q

@@ -16,8 +16,8 @@ use Rattle.sh_chunk.specs.Chunks.{chunked}
 use Rattle.sh_member.specs.declared.member.Side.TheVariants.{Pass, Shard, Moving}
 use Rattle.sh_member.specs.Sides.{SeenSide, SideInserts}
 use Rattle.sh_grown.specs.declared.growing.Growing.{Growing}
-use Rattle.sh_grown.specs.declared.met.Met.{Met}
-use Rattle.sh_grown.specs.Callers.{ChunkDoes, Meets, MetDoes}
+use Rattle.sh_grown.specs.declared.met.ChunkMember.{ChunkMember}
+use Rattle.sh_grown.specs.Callers.{ChunkDoes, Meets, MemberDoes}
 
 -- inside, no other value is returned for what is missing
 pub inside : {X : Type 0} (xs : List X) (i : ℕ) (d e : X) → i < length xs → get_or xs i d ≡ get_or xs i e
@@ -27,31 +27,33 @@ inside (x ∷ xs) (suc i) d e lt = inside xs i d e (omega arith)
 
 -- the member at place n did it, and n is the number of the chunk
 pub chunk_does : {A : Type 0} (does : SeenSide → Result A Refusal → SeenSide → Type 0) (growing : Growing)
-    (number n chunk : ℕ) (old met new : List (Option Met)) (place after d : Option Met) (answer : Result A Refusal)
+    (number n chunk : ℕ) (old met new : List (Option ChunkMember)) (place after d : Option ChunkMember)
+        (answer : Result A Refusal)
     → n ≡ chunk → n < length met → Meets growing number n old met → place ≡ get_or met n d
-    → MetDoes does place answer after → new ≡ slice_set met n after → ChunkDoes does growing number chunk old answer new
+    → MemberDoes does place answer after → new ≡ slice_set met n after
+        → ChunkDoes does growing number chunk old answer new
 chunk_does does growing number n chunk old met new place after d answer is lt meets found does_it set =
     let at : place ≡ get_or met n None = found ∙ inside met n d None lt in
     record {
       met = met;
       meets = subst (λ i. Meets growing number i old met) is meets;
       after = after;
-      does_it = subst (λ i. MetDoes does (get_or met i None) answer after) is
-          (subst (λ o. MetDoes does o answer after) at does_it);
+      does_it = subst (λ i. MemberDoes does (get_or met i None) answer after) is
+          (subst (λ o. MemberDoes does o answer after) at does_it);
       others = set ∙ ap (λ i. slice_set met i after) is;
     }
 
 -- the same of a chunk that the caller had met
 pub met_does : {A : Type 0} (does : SeenSide → Result A Refusal → SeenSide → Type 0) (n chunk : ℕ)
-    (old new : List (Option Met)) (place after d : Option Met) (answer : Result A Refusal)
-    → n ≡ chunk → n < length old → place ≡ get_or old n d → MetDoes does place answer after
+    (old new : List (Option ChunkMember)) (place after d : Option ChunkMember) (answer : Result A Refusal)
+    → n ≡ chunk → n < length old → place ≡ get_or old n d → MemberDoes does place answer after
     → new ≡ slice_set old n after
-    → (m : Option Met) × MetDoes does (get_or old chunk None) answer m × (new ≡ slice_set old chunk m)
+    → (m : Option ChunkMember) × MemberDoes does (get_or old chunk None) answer m × (new ≡ slice_set old chunk m)
 met_does does n chunk old new place after d answer is lt found does_it set =
     let at : place ≡ get_or old n None = found ∙ inside old n d None lt in (
       after,
-      subst (λ i. MetDoes does (get_or old i None) answer after) is
-          (subst (λ o. MetDoes does o answer after) at does_it),
+      subst (λ i. MemberDoes does (get_or old i None) answer after) is
+          (subst (λ o. MemberDoes does o answer after) at does_it),
       set ∙ ap (λ i. slice_set old i after) is,
     )
 
@@ -75,7 +77,7 @@ inserted_fits value (Shard o) Moving k fits h = absurd h
 inserted_fits value Moving n k fits h = absurd h
 
 -- a list of chunks that are yet to be met stays one
-pub none_more : (xs : List (Option Met)) → ((k : ℕ) → get_or xs k None ≡ None) → (k : ℕ)
+pub none_more : (xs : List (Option ChunkMember)) → ((k : ℕ) → get_or xs k None ≡ None) → (k : ℕ)
     → get_or (xs ++ None ∷ []) k None ≡ None
 none_more [] all zero = refl
 none_more [] all (suc k) = refl

@@ -5,8 +5,8 @@ use Rattle.sh_value.specs.declared.refusal.Refusal.{Refusal}
 use Rattle.sh_value.specs.declared.refusal.Refusal.TheVariants as refusal
 use Rattle.sh_member.specs.declared.member.Side.TheVariants.{Pass, Shard, Moving}
 use Rattle.sh_member.specs.Sides.{SeenSide, SideAdopts, IsPass}
-use Rattle.sh_grown.specs.declared.met.Met.{Met}
-use Rattle.sh_grown.specs.Callers.{MetDoes}
+use Rattle.sh_grown.specs.declared.met.ChunkMember.{ChunkMember}
+use Rattle.sh_grown.specs.Callers.{MemberDoes}
 use Rattle.sh_grown.specs.Inserts.{OwnsNone}
 use Rattle.sh_grown.specs.Keeping.{KeepsMember}
 use Rattle.sh_grown.specs.Refusals.{OwnsShard, RefusesShard, Waits, WaitsThere, WasRefused}
@@ -55,7 +55,7 @@ side_waits value shard Moving b waits = absurd waits
 
 -- ---- of what a caller has in a chunk
 
-pub refused_now : (value : List ℕ) (shard : ℕ) (m n : Met) → RefusesShard value shard m.member n.member
+pub refused_now : (value : List ℕ) (shard : ℕ) (m n : ChunkMember) → RefusesShard value shard m.member n.member
     → WasRefused value shard (Some m) (Some n)
 refused_now value shard m n refuses = record {
   before = m;
@@ -65,20 +65,20 @@ refused_now value shard m n refuses = record {
   ends = (refl, (refl, refl, refl));
 }
 
-place_waits : (value : List ℕ) (shard : ℕ) (a b : Option Met) → WaitsThere a b → WasRefused value shard a b
+place_waits : (value : List ℕ) (shard : ℕ) (a b : Option ChunkMember) → WaitsThere a b → WasRefused value shard a b
 place_waits value shard (Some m) (Some n) waits =
     refused_now value shard m n (side_waits value shard m.member n.member waits)
 place_waits value shard (Some m) None waits = absurd waits
 place_waits value shard None b waits = absurd waits
 
 -- a caller that has to wait is refused each other shard, whatever the answer is
-pub place_stuck : (shard : ℕ) (a b : Option Met) (answer : Result (Unit {0}) Refusal) → WaitsThere a b
+pub place_stuck : (shard : ℕ) (a b : Option ChunkMember) (answer : Result (Unit {0}) Refusal) → WaitsThere a b
     → IfErr answer (λ why. (why ≡ refusal.Memory) ⊎ ((value : List ℕ) → WasRefused value shard a b))
 place_stuck shard a b (Ok x) waits = tt
 place_stuck shard a b (Err why) waits = inr (λ value. place_waits value shard a b waits)
 
-place_refused : (shard : ℕ) (a b c : Option Met) (why : Refusal) → KeepsMember a b → OwnsNone b
-    → MetDoes (SideAdopts shard) b (Err why) c
+place_refused : (shard : ℕ) (a b c : Option ChunkMember) (why : Refusal) → KeepsMember a b → OwnsNone b
+    → MemberDoes (SideAdopts shard) b (Err why) c
     → (why ≡ refusal.Memory) ⊎ ((value : List ℕ) → WasRefused value shard a c)
 place_refused shard a (Some m) (Some n) why kept none does =
     ⊎_elim inl
@@ -89,8 +89,9 @@ place_refused shard a (Some m) None why kept none does = absurd does
 place_refused shard a None c why kept none does = absurd does
 
 -- the same of any answer of an adoption
-pub place_adopts : (shard : ℕ) (a b c : Option Met) (answer : Result (Unit {0}) Refusal) → KeepsMember a b → OwnsNone b
-    → MetDoes (SideAdopts shard) b answer c
+pub place_adopts : (shard : ℕ) (a b c : Option ChunkMember) (answer : Result (Unit {0}) Refusal) → KeepsMember a b
+    → OwnsNone b
+    → MemberDoes (SideAdopts shard) b answer c
     → IfErr answer (λ why. (why ≡ refusal.Memory) ⊎ ((value : List ℕ) → WasRefused value shard a c))
 place_adopts shard a b c (Ok x) kept none does = tt
 place_adopts shard a b c (Err why) kept none does = place_refused shard a b c why kept none does

@@ -13,12 +13,12 @@ use Rattle.sh_member.specs.Sides.{SeenSide}
 use Rattle.sh_grown.specs.ChunkShapes.{IsShaped}
 use Rattle.sh_grown.specs.Growing.{shape_in}
 use Rattle.sh_grown.specs.declared.growing.Growing.{Growing}
-use Rattle.sh_grown.specs.declared.met.Met.{Met}
+use Rattle.sh_grown.specs.declared.met.ChunkMember.{ChunkMember}
 use Rattle.sh_grown.specs.declared.caller.Caller.{Caller as SeenCaller}
 use Rattle.sh_grown.specs.Keeping.{SamePlace}
 
 -- what a caller has at first in a chunk that has this heap: the pass of this number, at rest, from its pool slot
-pub record IsPooled (heap : Heap) (number : ℕ) (m : Met) : Type 0 where
+pub record IsPooled (heap : Heap) (number : ℕ) (m : ChunkMember) : Type 0 where
   pub pass : Caller
   pub member : m.member ≡ side.Pass pass
   pub of : pass.heap ≡ heap
@@ -29,7 +29,7 @@ pub record IsPooled (heap : Heap) (number : ℕ) (m : Met) : Type 0 where
   pub shards : m.shards ≡ heap.shape.shards
 
 -- the same of the chunk in the cell of this number, whose heap the note knows: it has the shape of that chunk
-pub record IsNewcomer (growing : Growing) (number chunk : ℕ) (m : Met) : Type 0 where
+pub record IsNewcomer (growing : Growing) (number chunk : ℕ) (m : ChunkMember) : Type 0 where
   pub heap : Heap
   pub pooled : IsPooled heap number m
   pub shape : IsShaped heap.shape (shape_in growing chunk)
@@ -37,8 +37,8 @@ pub record IsNewcomer (growing : Growing) (number chunk : ℕ) (m : Met) : Type 
   pub cell : IfSome (slice_get growing.cells.items chunk) (λ c. m.note.cell ≡ cell_name c)
 
 -- what a caller has that was just claimed: the pass of its number in the first chunk, and nothing in any other
-pub record IsClaimed (growing : Growing) (number : ℕ) (members : List (Option Met)) : Type 0 where
-  pub first : Met
+pub record IsClaimed (growing : Growing) (number : ℕ) (members : List (Option ChunkMember)) : Type 0 where
+  pub first : ChunkMember
   pub newcomer : IsNewcomer growing number 0 first
   pub met : get_or members 0 None ≡ Some first
   pub others : (chunk : ℕ) → 0 < chunk → get_or members chunk None ≡ None
@@ -51,33 +51,34 @@ WhyWithout refusal.Taken = Unit {0}
 WhyWithout _ = ⊥
 
 -- the chunk was met before, or it is met now; nothing else changes
-abbrev pub Meets : Growing → (number chunk : ℕ) → List (Option Met) → List (Option Met) → Type 0
+abbrev pub Meets : Growing → (number chunk : ℕ) → List (Option ChunkMember) → List (Option ChunkMember) → Type 0
 Meets growing number chunk old new =
     (IsSome (get_or old chunk None) × (new ≡ old))
-    ⊎ ((get_or old chunk None ≡ None) × (m : Met) × IsNewcomer growing number chunk m
+    ⊎ ((get_or old chunk None ≡ None) × (m : ChunkMember) × IsNewcomer growing number chunk m
     × (new ≡ slice_set old chunk (Some m)))
 
 -- the member in a chunk did this, and kept its place
-abbrev pub MetDoes : {A : Type 0} → (SeenSide → Result A Refusal → SeenSide → Type 0) → Option Met
-    → Result A Refusal → Option Met → Type 0
-MetDoes does (Some m) answer (Some n) = does m.member answer n.member × SamePlace m n
-MetDoes does (Some m) answer None = ⊥
-MetDoes does None answer n = ⊥
+abbrev pub MemberDoes : {A : Type 0} → (SeenSide → Result A Refusal → SeenSide → Type 0) → Option ChunkMember
+    → Result A Refusal → Option ChunkMember → Type 0
+MemberDoes does (Some m) answer (Some n) = does m.member answer n.member × SamePlace m n
+MemberDoes does (Some m) answer None = ⊥
+MemberDoes does None answer n = ⊥
 
 -- the member of this chunk, which the caller had met or met in this call, did it; all others are as they were
 pub record ChunkDoes {A : Type 0} (does : SeenSide → Result A Refusal → SeenSide → Type 0) (growing : Growing)
-    (number chunk : ℕ) (old : List (Option Met)) (answer : Result A Refusal) (new : List (Option Met)) : Type 0 where
-  pub met : List (Option Met)
+    (number chunk : ℕ) (old : List (Option ChunkMember)) (answer : Result A Refusal) (new : List (Option ChunkMember)) :
+        Type 0 where
+  pub met : List (Option ChunkMember)
   pub meets : Meets growing number chunk old met
-  pub after : Option Met
-  pub does_it : MetDoes does (get_or met chunk None) answer after
+  pub after : Option ChunkMember
+  pub does_it : MemberDoes does (get_or met chunk None) answer after
   pub others : new ≡ slice_set met chunk after
 
 -- this holds of the member in a chunk, before a call and after it
-abbrev pub MetTakes : (SeenSide → SeenSide → Type 0) → Option Met → Option Met → Type 0
-MetTakes takes (Some m) (Some n) = takes m.member n.member
-MetTakes takes (Some m) None = ⊥
-MetTakes takes None n = ⊥
+abbrev pub MemberTakes : (SeenSide → SeenSide → Type 0) → Option ChunkMember → Option ChunkMember → Type 0
+MemberTakes takes (Some m) (Some n) = takes m.member n.member
+MemberTakes takes (Some m) None = ⊥
+MemberTakes takes None n = ⊥
 
 -- why a chunk cannot be met: no chunk that is open has this number, or the caller's pass is not in the chunk's pool
 abbrev pub WhyUnmet : Refusal → Type 0
@@ -87,23 +88,24 @@ WhyUnmet _ = ⊥
 
 -- a call on a key of this chunk: its member does it, or the caller has not met the chunk and cannot meet it now
 abbrev pub GrownDoes : {A : Type 0} → (SeenSide → Result A Refusal → SeenSide → Type 0) → Growing
-    → (number chunk : ℕ) → List (Option Met) → Result A Refusal → List (Option Met) → Type 0
+    → (number chunk : ℕ) → List (Option ChunkMember) → Result A Refusal → List (Option ChunkMember) → Type 0
 GrownDoes does growing number chunk old answer new =
     ChunkDoes does growing number chunk old answer new
     ⊎ (IsErrAnd answer WhyUnmet × (get_or old chunk None ≡ None) × (new ≡ old))
 
 -- a call in a chunk that the caller has to have met: its member there does it, or this refusal comes and all is as it
 -- was
-abbrev pub IfMetDoes : {A : Type 0} → (SeenSide → Result A Refusal → SeenSide → Type 0) → (unmet : Refusal)
-    → (chunk : ℕ) → List (Option Met) → Result A Refusal → List (Option Met) → Type 0
-IfMetDoes does unmet chunk old answer new =
-    ((after : Option Met) × MetDoes does (get_or old chunk None) answer after × (new ≡ slice_set old chunk after))
+abbrev pub IfMemberDoes : {A : Type 0} → (SeenSide → Result A Refusal → SeenSide → Type 0) → (unmet : Refusal)
+    → (chunk : ℕ) → List (Option ChunkMember) → Result A Refusal → List (Option ChunkMember) → Type 0
+IfMemberDoes does unmet chunk old answer new =
+    ((after : Option ChunkMember) × MemberDoes does (get_or old chunk None) answer after
+        × (new ≡ slice_set old chunk after))
     ⊎ ((answer ≡ Err unmet) × (get_or old chunk None ≡ None) × (new ≡ old))
 
 -- the same for a call by a hold on a key of the chunk
 abbrev pub HeldDoes : {A : Type 0} → (SeenSide → Result A Refusal → SeenSide → Type 0) → (chunk : ℕ)
-    → List (Option Met) → Result A Refusal → List (Option Met) → Type 0
-HeldDoes does chunk old answer new = IfMetDoes does refusal.NotHeld chunk old answer new
+    → List (Option ChunkMember) → Result A Refusal → List (Option ChunkMember) → Type 0
+HeldDoes does chunk old answer new = IfMemberDoes does refusal.NotHeld chunk old answer new
 
 -- the hold that the member of the chunk gave, for a hold on the key with its chunk
 abbrev pub hold_within : Result Hold Refusal → Result Hold Refusal

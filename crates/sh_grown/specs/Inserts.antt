@@ -6,8 +6,8 @@ use Rattle.sh_value.specs.declared.refusal.Refusal.{Refusal}
 use Rattle.sh_value.specs.declared.refusal.Refusal.TheVariants as refusal
 use Rattle.sh_member.specs.Sides.{SeenSide, SideInserts, SideCollects, IsPass}
 use Rattle.sh_member.specs.SideBounds.{InsertTakes}
-use Rattle.sh_grown.specs.declared.met.Met.{Met}
-use Rattle.sh_grown.specs.Callers.{IfMetDoes, MetTakes}
+use Rattle.sh_grown.specs.declared.met.ChunkMember.{ChunkMember}
+use Rattle.sh_grown.specs.Callers.{IfMemberDoes, MemberTakes}
 use Rattle.sh_grown.specs.Keeping.{KeepsMembers}
 use Rattle.sh_grown.specs.Refusals.{ChunkRefused}
 
@@ -17,32 +17,35 @@ InsertsIn value m (Ok key) n = SideInserts chunked value m (Ok (key_within key))
 InsertsIn value m (Err why) n = SideInserts chunked value m (Err why) n
 
 -- the insert of a caller in one chunk: its member there does it, or it has none there and owns no shard
-abbrev pub InsertsInChunk : List ℕ → (chunk : ℕ) → List (Option Met) → Result ℕ Refusal → List (Option Met) → Type 0
-InsertsInChunk value chunk old answer new = IfMetDoes (InsertsIn value) refusal.NoShard chunk old answer new
+abbrev pub InsertsInChunk : List ℕ → (chunk : ℕ) → List (Option ChunkMember) → Result ℕ Refusal
+    → List (Option ChunkMember) → Type 0
+InsertsInChunk value chunk old answer new = IfMemberDoes (InsertsIn value) refusal.NoShard chunk old answer new
 
 -- that insert takes at most the steps of the shard, and none if the caller has no member in the chunk
-abbrev pub InsertTakesInChunk : List ℕ → (chunk : ℕ) → List (Option Met) → List (Option Met) → Type 0
+abbrev pub InsertTakesInChunk : List ℕ → (chunk : ℕ) → List (Option ChunkMember) → List (Option ChunkMember) → Type 0
 InsertTakesInChunk value chunk old new =
-    ((after : Option Met) × MetTakes (InsertTakes (length value)) (get_or old chunk None) after
+    ((after : Option ChunkMember) × MemberTakes (InsertTakes (length value)) (get_or old chunk None) after
     × (new ≡ slice_set old chunk after))
     ⊎ ((get_or old chunk None ≡ None) × (new ≡ old))
 
 -- the collect of a caller in one chunk: its member there does it, or it has none there and owns no shard
-abbrev pub CollectsInChunk : (chunk : ℕ) → List (Option Met) → Result (Unit {0}) Refusal → List (Option Met) → Type 0
-CollectsInChunk chunk old answer new = IfMetDoes (SideCollects chunked) refusal.NoShard chunk old answer new
+abbrev pub CollectsInChunk : (chunk : ℕ) → List (Option ChunkMember) → Result (Unit {0}) Refusal
+    → List (Option ChunkMember) → Type 0
+CollectsInChunk chunk old answer new = IfMemberDoes (SideCollects chunked) refusal.NoShard chunk old answer new
 
 -- the caller has a member in the chunk
-abbrev pub HasMet : List (Option Met) → ℕ → Type 0
+abbrev pub HasMet : List (Option ChunkMember) → ℕ → Type 0
 HasMet members chunk = IsSome (get_or members chunk None)
 
 -- At last the member of the key's chunk inserts the value, and no other member changes. Until then each member keeps
 -- its heap, its number, its log and its holds.
-abbrev pub EndsWithInsert : List ℕ → (key : ℕ) → List (Option Met) → List (Option Met) → Type 0
-EndsWithInsert value key old new = (before : List (Option Met)) × KeepsMembers old before
+abbrev pub EndsWithInsert : List ℕ → (key : ℕ) → List (Option ChunkMember) → List (Option ChunkMember) → Type 0
+EndsWithInsert value key old new = (before : List (Option ChunkMember)) × KeepsMembers old before
     × InsertsInChunk value (chunk_of key) before (Ok key) new
 
 -- the value is stored, or there is no room for it, or memory is refused
-abbrev pub TriesInsert : List ℕ → List (Option Met) → Result (Option ℕ) Refusal → List (Option Met) → Type 0
+abbrev pub TriesInsert : List ℕ → List (Option ChunkMember) → Result (Option ℕ) Refusal → List (Option ChunkMember)
+    → Type 0
 TriesInsert value old (Ok (Some key)) new = EndsWithInsert value key old new
 TriesInsert value old (Ok None) new = KeepsMembers old new
 TriesInsert value old (Err refusal.Memory) new = KeepsMembers old new
@@ -62,7 +65,8 @@ OnNone (Err why) p = Unit {0}
 -- An insert over the chunks of a heap that may have this many. The value is stored in the key's chunk. If it is
 -- refused, each member keeps its heap, its number, its log and its holds. It is Full only if in this call each shard of
 -- each chunk that the heap may have was refused, so that all chunks are open.
-abbrev pub Inserts : (chunks : ℕ) → List ℕ → List (Option Met) → Result ℕ Refusal → List (Option Met) → Type 0
+abbrev pub Inserts : (chunks : ℕ) → List ℕ → List (Option ChunkMember) → Result ℕ Refusal → List (Option ChunkMember)
+    → Type 0
 Inserts chunks value old (Ok key) new = EndsWithInsert value key old new
 Inserts chunks value old (Err refusal.Full) new =
     KeepsMembers old new × ((chunk : ℕ) → chunk < chunks → ChunkRefused value chunk old new)
@@ -71,6 +75,6 @@ Inserts chunks value old (Err refusal.Taken) new = KeepsMembers old new
 Inserts chunks value old (Err _) new = ⊥
 
 -- what a caller has in a chunk owns no shard
-abbrev pub OwnsNone : Option Met → Type 0
+abbrev pub OwnsNone : Option ChunkMember → Type 0
 OwnsNone None = Unit {0}
 OwnsNone (Some m) = IsPass m.member

@@ -6,7 +6,7 @@ use Rattle.sh_member.specs.Pages.{AdoptRefused}
 use Rattle.sh_member.specs.Shards.{NoRoom, value_class}
 use Rattle.sh_member.specs.declared.member.Side.TheVariants.{Pass, Shard, Moving}
 use Rattle.sh_member.specs.Sides.{SeenSide}
-use Rattle.sh_grown.specs.declared.met.Met.{Met}
+use Rattle.sh_grown.specs.declared.met.ChunkMember.{ChunkMember}
 use Rattle.sh_grown.specs.Keeping.{KeepsMember}
 
 -- the member owns this shard
@@ -16,7 +16,7 @@ OwnsShard shard (Shard o) = o.pages.shard ≡ shard
 OwnsShard shard Moving = ⊥
 
 -- so does what a caller has in a chunk
-abbrev pub OwnsThere : (shard : ℕ) → Option Met → Type 0
+abbrev pub OwnsThere : (shard : ℕ) → Option ChunkMember → Type 0
 OwnsThere shard None = ⊥
 OwnsThere shard (Some m) = OwnsShard shard m.member
 
@@ -28,7 +28,7 @@ Waits (Shard o) Moving = ⊥
 Waits (Pass v) n = ⊥
 Waits Moving n = ⊥
 
-abbrev pub WaitsThere : Option Met → Option Met → Type 0
+abbrev pub WaitsThere : Option ChunkMember → Option ChunkMember → Type 0
 WaitsThere (Some m) (Some n) = Waits m.member n.member
 WaitsThere (Some m) None = ⊥
 WaitsThere None n = ⊥
@@ -47,24 +47,24 @@ RefusesShard value shard (Shard o) Moving = ⊥
 RefusesShard value shard Moving n = ⊥
 
 -- in the course of a call, from what the caller had in a chunk to what it has there, the shard was refused
-pub record WasRefused (value : List ℕ) (shard : ℕ) (old new : Option Met) : Type 0 where
-  pub before : Met
-  pub after : Met
+pub record WasRefused (value : List ℕ) (shard : ℕ) (old new : Option ChunkMember) : Type 0 where
+  pub before : ChunkMember
+  pub after : ChunkMember
   pub begins : KeepsMember old (Some before)
   pub refuses : RefusesShard value shard before.member after.member
   pub ends : KeepsMember (Some after) new
 
 -- the same over all chunks, of a shard of this one
-abbrev pub RefusedIn : List ℕ → (chunk shard : ℕ) → List (Option Met) → List (Option Met) → Type 0
+abbrev pub RefusedIn : List ℕ → (chunk shard : ℕ) → List (Option ChunkMember) → List (Option ChunkMember) → Type 0
 RefusedIn value chunk shard old new = WasRefused value shard (get_or old chunk None) (get_or new chunk None)
 
 -- the same of each shard of the chunk from this one on, below another
-abbrev pub RangeRefused : List ℕ → (chunk from to : ℕ) → List (Option Met) → List (Option Met) → Type 0
+abbrev pub RangeRefused : List ℕ → (chunk from to : ℕ) → List (Option ChunkMember) → List (Option ChunkMember) → Type 0
 RangeRefused value chunk from to old new =
     (shard : ℕ) → from ≤ shard → shard < to → RefusedIn value chunk shard old new
 
 -- each shard of a chunk that the caller has met was refused
-pub record ChunkRefused (value : List ℕ) (chunk : ℕ) (old new : List (Option Met)) : Type 0 where
-  pub met : Met
+pub record ChunkRefused (value : List ℕ) (chunk : ℕ) (old new : List (Option ChunkMember)) : Type 0 where
+  pub met : ChunkMember
   pub there : get_or new chunk None ≡ Some met
   pub each : (shard : ℕ) → shard < met.shards → RefusedIn value chunk shard old new

@@ -6,7 +6,7 @@ ghost use Rattle.sh_grown.specs.Callers.{IsClaimed, IsNewcomer, Meets, Stays, Wh
 ghost use Rattle.sh_grown.specs.Keeping.{KeepsMembers};
 
 use crate::growing::Growing;
-use crate::met::{Met, meet, meet_first};
+use crate::met::{ChunkMember, meet, meet_first};
 use crate::share::GrowingShare;
 use sh_value::Refusal;
 use std::alloc::Global;
@@ -27,12 +27,12 @@ pub struct Caller {
     pub(crate) walked: u8,
     pub(crate) next: usize,
     // Its member in each chunk that it has met.
-    pub(crate) met: Vec<Option<Met>>,
+    pub(crate) met: Vec<Option<ChunkMember>>,
 }
 
 // Room for a member in each of this many chunks, none of which is met yet.
 #[tactic(auto, using(crate::proofs::Places::none_more))]
-fn no_members(alloc: Global, chunks: usize) -> Result<Vec<Option<Met>>, Refusal>
+fn no_members(alloc: Global, chunks: usize) -> Result<Vec<Option<ChunkMember>>, Refusal>
     ensures count { IfOk result (λ members. length members.items ≡ chunks) }
     ensures none { IfOk result (λ members. (chunk : ℕ) → get_or members.items chunk None ≡ None) }
     ensures err { IfErr result (λ why. why ≡ Memory) }
@@ -81,12 +81,12 @@ impl GrowingShare {
 impl Growing {
     // What a caller begins with: its number, and its members, of which only the one in the first chunk is there.
     #[tactic(auto, using(crate::proofs::Claims::first_goes))]
-    fn first_members(&self, alloc: Global) -> Result<(usize, Vec<Option<Met>>), Refusal>
+    fn first_members(&self, alloc: Global) -> Result<(usize, Vec<Option<ChunkMember>>), Refusal>
         ensures claimed { IfOk result (λ begun. IsClaimed self.now begun.0 begun.1.items) }
         ensures err { IfErr result WhyWithout }
     {
         let mut met = no_members(alloc, self.chunks_allowed())?;
-        let Some(first) = self.first_met() else {
+        let Some(first) = self.first_member() else {
             return Err(Refusal::Taken);
         };
         let number = first.pool_slot.number();
@@ -95,7 +95,7 @@ impl Growing {
     }
 
     // The first pass that is in the pool of the first chunk. `None` if none is.
-    fn first_met(&self) -> Option<Met>
+    fn first_member(&self) -> Option<ChunkMember>
         ensures { IfSome result (λ first. IsNewcomer self.now first.pool_slot 0 first) }
     {
         let mut note = self.note(0)?;

@@ -109,7 +109,7 @@ impl Caller {
 
     // The same in the shards that it owns. If they have no room, it collects in the chunk of its last insert.
     #[tactic(auto, using(crate::proofs::Keeping::tries_then))]
-    fn try_met(&mut self, value: &Value) -> Result<Option<u64>, Refusal>
+    fn try_owned_shards(&mut self, value: &Value) -> Result<Option<u64>, Refusal>
         ensures tries { TriesInsert value.now self.old.met.items result self.new.met.items }
         ensures stays { Stays self.old self.new }
     {
@@ -159,7 +159,7 @@ impl Caller {
         ensures tries { TriesInsert value.now self.old.met.items result self.new.met.items }
         ensures stays { Stays self.old self.new }
     {
-        let own = self.try_met(value)?;
+        let own = self.try_owned_shards(value)?;
         if own.is_some() {
             return Ok(own);
         }

@@ -7,7 +7,7 @@ ghost use Rattle.sh_pass.specs.Passes.{IsAtRest, ReadDoes, ReadIntoDoes, RemoveD
 ghost use Rattle.sh_member.specs.Readers.{FetchDoes, FetchIntoDoes, TakeIntoDoes};
 ghost use Rattle.sh_member.specs.Sides.{SideAdopts, SideDoes, SideCollects};
 ghost use Rattle.sh_member.specs.SideBounds.{InsertTakes};
-ghost use Rattle.sh_grown.specs.Callers.{IsPooled, MetDoes, MetTakes, GetsIn};
+ghost use Rattle.sh_grown.specs.Callers.{IsPooled, MemberDoes, MemberTakes, GetsIn};
 ghost use Rattle.sh_grown.specs.Inserts.{InsertsIn, OwnsNone};
 ghost use Rattle.sh_grown.specs.Keeping.{KeepsMember};
 ghost use Rattle.sh_grown.specs.Refusals.{OwnsThere, WaitsThere, WasRefused};
@@ -23,7 +23,7 @@ use std::alloc::Global;
 
 /// What a caller has in a chunk that it has met: its member there, the pool slot of that pass, and what it knows of the
 /// chunk's cell.
-pub struct Met {
+pub struct ChunkMember {
     pub(crate) member: Member<Chunked, Share<Chunked>>,
     pub(crate) pool_slot: PoolSlot<Chunked>,
     pub(crate) note: Note<Share<Chunked>>,
@@ -32,9 +32,9 @@ pub struct Met {
 }
 
 // A `PoolSlot` ends in `give_pass` or in `lose`: what is dropped is lost.
-impl Drop for Met {
+impl Drop for ChunkMember {
     fn drop(self) {
-        let Met {
+        let ChunkMember {
             member: _,
             pool_slot,
             note: _,
@@ -44,10 +44,10 @@ impl Drop for Met {
     }
 }
 
-impl Met {
+impl ChunkMember {
     // Gives the pass back to its pool slot. A pass that owns a shard is lost.
     fn return_to_pool(self) {
-        let Met {
+        let ChunkMember {
             member,
             pool_slot,
             note: _,
@@ -63,7 +63,7 @@ impl Met {
 }
 
 // What a caller has in a chunk of which it has just taken this pass. The note knows the chunk.
-fn met_by(kept: Share<Chunked>, note: Note<Share<Chunked>>, taken: Taken<Chunked>) -> Met
+fn met_by(kept: Share<Chunked>, note: Note<Share<Chunked>>, taken: Taken<Chunked>) -> ChunkMember
     requires heap { taken.state.heap ≡ kept }
     requires pass { taken.state.view.pass ≡ taken.pool_slot }
     requires below { taken.pool_slot < kept.shape.passes }
@@ -74,7 +74,7 @@ fn met_by(kept: Share<Chunked>, note: Note<Share<Chunked>>, taken: Taken<Chunked
     let Taken { state, pool_slot } = taken;
     let pass = PassOn::on(kept, state);
     let shards = pass.shape().shards();
-    Met {
+    ChunkMember {
         member: Member::of(pass),
         pool_slot,
         note,
@@ -83,7 +83,7 @@ fn met_by(kept: Share<Chunked>, note: Note<Share<Chunked>>, taken: Taken<Chunked
 }
 
 // The first pass that is in a chunk's pool, with its pool slot. `None` if none is, or if no more shares can be counted.
-pub(crate) fn meet_first(share: &Share<Chunked>, note: Note<Share<Chunked>>) -> Option<Met>
+pub(crate) fn meet_first(share: &Share<Chunked>, note: Note<Share<Chunked>>) -> Option<ChunkMember>
     requires { note.known ≡ Some share.now }
     ensures { IfSome result (λ m. IsPooled share.now m.pool_slot m × (m.note ≡ note)) }
 {
@@ -94,7 +94,11 @@ pub(crate) fn meet_first(share: &Share<Chunked>, note: Note<Share<Chunked>>) -> 
 
 // The pass of this number in a chunk. `None` if the pool slot of this number is empty, or if no more shares can be
 // counted.
-pub(crate) fn meet(share: &Share<Chunked>, note: Note<Share<Chunked>>, number: usize) -> Option<Met>
+pub(crate) fn meet(
+    share: &Share<Chunked>,
+    note: Note<Share<Chunked>>,
+    number: usize,
+) -> Option<ChunkMember>
     requires { note.known ≡ Some share.now }
     ensures { IfSome result (λ m. IsPooled share.now number m × (m.note ≡ note)) }
 {
@@ -111,9 +115,9 @@ fn within(key: u64) -> u64
     within
 }
 
-pub(crate) fn get_at(place: &mut Option<Met>, key: u64) -> Result<Hold, Refusal>
+pub(crate) fn get_at(place: &mut Option<ChunkMember>, key: u64) -> Result<Hold, Refusal>
     requires { IsSome place.old }
-    ensures does { MetDoes (SideDoes chunked (GetsIn key)) place.old result place.new }
+    ensures does { MemberDoes (SideDoes chunked (GetsIn key)) place.old result place.new }
     ensures hold { IfOk result (λ hold. hold.key ≡ key) }
 {
     match place {
@@ -125,9 +129,9 @@ pub(crate) fn get_at(place: &mut Option<Met>, key: u64) -> Result<Hold, Refusal>
     }
 }
 
-pub(crate) fn get_guard_at(place: &mut Option<Met>, key: u64) -> Result<GrownGuard, Refusal>
+pub(crate) fn get_guard_at(place: &mut Option<ChunkMember>, key: u64) -> Result<GrownGuard, Refusal>
     requires { IsSome place.old }
-    ensures does { MetDoes (SideDoes chunked (GetsIn key)) place.old result place.new }
+    ensures does { MemberDoes (SideDoes chunked (GetsIn key)) place.old result place.new }
     ensures hold { IfOk result (λ hold. hold.key ≡ key) }
 {
     match place {
@@ -139,9 +143,9 @@ pub(crate) fn get_guard_at(place: &mut Option<Met>, key: u64) -> Result<GrownGua
     }
 }
 
-pub(crate) fn read_at(place: &mut Option<Met>, hold: Hold) -> Result<Value, Refusal>
+pub(crate) fn read_at(place: &mut Option<ChunkMember>, hold: Hold) -> Result<Value, Refusal>
     requires { IsSome place.old }
-    ensures { MetDoes (SideDoes chunked (ReadDoes (key_within hold.key))) place.old result place.new }
+    ensures { MemberDoes (SideDoes chunked (ReadDoes (key_within hold.key))) place.old result place.new }
 {
     let key = within(hold.key);
     match place {
@@ -151,12 +155,13 @@ pub(crate) fn read_at(place: &mut Option<Met>, hold: Hold) -> Result<Value, Refu
 }
 
 pub(crate) fn read_into_at(
-    place: &mut Option<Met>,
+    place: &mut Option<ChunkMember>,
     hold: Hold,
     value: &mut Value,
 ) -> Result<(), Refusal>
     requires { IsSome place.old }
-    ensures { MetDoes (SideDoes chunked (λ v answer w. ReadIntoDoes (key_within hold.key) v value.old answer value.new
+    ensures { MemberDoes (SideDoes chunked (λ v answer w. ReadIntoDoes (key_within hold.key) v value.old answer
+        value.new
         w)) place.old result place.new }
 {
     let key = within(hold.key);
@@ -167,12 +172,12 @@ pub(crate) fn read_into_at(
 }
 
 pub(crate) fn read_guard_at(
-    place: &mut Option<Met>,
+    place: &mut Option<ChunkMember>,
     guard: &GrownGuard,
     value: &mut Value,
 ) -> Result<(), Refusal>
     requires { IsSome place.old }
-    ensures { MetDoes (SideDoes chunked (λ v answer w. ReadIntoDoes (key_within guard.now.key) v value.old answer
+    ensures { MemberDoes (SideDoes chunked (λ v answer w. ReadIntoDoes (key_within guard.now.key) v value.old answer
         value.new w)) place.old result place.new }
 {
     match place {
@@ -181,9 +186,9 @@ pub(crate) fn read_guard_at(
     }
 }
 
-pub(crate) fn release_at(place: &mut Option<Met>, hold: Hold) -> Result<(), Refusal>
+pub(crate) fn release_at(place: &mut Option<ChunkMember>, hold: Hold) -> Result<(), Refusal>
     requires { IsSome place.old }
-    ensures { MetDoes (SideDoes chunked (ReleaseDoes chunked (key_within hold.key))) place.old result place.new }
+    ensures { MemberDoes (SideDoes chunked (ReleaseDoes chunked (key_within hold.key))) place.old result place.new }
 {
     let key = within(hold.key);
     match place {
@@ -192,9 +197,12 @@ pub(crate) fn release_at(place: &mut Option<Met>, hold: Hold) -> Result<(), Refu
     }
 }
 
-pub(crate) fn release_guard_at(place: &mut Option<Met>, guard: GrownGuard) -> Result<(), Refusal>
+pub(crate) fn release_guard_at(
+    place: &mut Option<ChunkMember>,
+    guard: GrownGuard,
+) -> Result<(), Refusal>
     requires { IsSome place.old }
-    ensures { MetDoes (SideDoes chunked (ReleaseDoes chunked (key_within guard.key))) place.old result place.new }
+    ensures { MemberDoes (SideDoes chunked (ReleaseDoes chunked (key_within guard.key))) place.old result place.new }
 {
     let GrownGuard {
         key: _,
@@ -206,9 +214,9 @@ pub(crate) fn release_guard_at(place: &mut Option<Met>, guard: GrownGuard) -> Re
     }
 }
 
-pub(crate) fn fetch_at(place: &mut Option<Met>, key: u64) -> Result<Value, Refusal>
+pub(crate) fn fetch_at(place: &mut Option<ChunkMember>, key: u64) -> Result<Value, Refusal>
     requires { IsSome place.old }
-    ensures { MetDoes (SideDoes chunked (FetchDoes chunked (key_within key))) place.old result place.new }
+    ensures { MemberDoes (SideDoes chunked (FetchDoes chunked (key_within key))) place.old result place.new }
 {
     match place {
         Some(met) => met.member.fetch(within(key)),
@@ -217,12 +225,12 @@ pub(crate) fn fetch_at(place: &mut Option<Met>, key: u64) -> Result<Value, Refus
 }
 
 pub(crate) fn fetch_into_at(
-    place: &mut Option<Met>,
+    place: &mut Option<ChunkMember>,
     key: u64,
     value: &mut Value,
 ) -> Result<(), Refusal>
     requires { IsSome place.old }
-    ensures { MetDoes (SideDoes chunked (λ v answer w. FetchIntoDoes chunked (key_within key) v value.old answer
+    ensures { MemberDoes (SideDoes chunked (λ v answer w. FetchIntoDoes chunked (key_within key) v value.old answer
         value.new w)) place.old result place.new }
 {
     match place {
@@ -232,13 +240,14 @@ pub(crate) fn fetch_into_at(
 }
 
 pub(crate) fn take_into_at(
-    place: &mut Option<Met>,
+    place: &mut Option<ChunkMember>,
     key: u64,
     most: usize,
     value: &mut Value,
 ) -> Result<(), Refusal>
     requires { IsSome place.old }
-    ensures { MetDoes (SideDoes chunked (λ v answer w. TakeIntoDoes chunked (key_within key) most v answer value.new w))
+    ensures { MemberDoes (SideDoes chunked (λ v answer w. TakeIntoDoes chunked (key_within key) most v answer value.new
+        w))
         place.old result place.new }
 {
     match place {
@@ -247,9 +256,9 @@ pub(crate) fn take_into_at(
     }
 }
 
-pub(crate) fn remove_at(place: &mut Option<Met>, key: u64) -> Result<(), Refusal>
+pub(crate) fn remove_at(place: &mut Option<ChunkMember>, key: u64) -> Result<(), Refusal>
     requires { IsSome place.old }
-    ensures { MetDoes (SideDoes chunked (RemoveDoes chunked (key_within key))) place.old result place.new }
+    ensures { MemberDoes (SideDoes chunked (RemoveDoes chunked (key_within key))) place.old result place.new }
 {
     match place {
         Some(met) => met.member.remove(within(key)),
@@ -257,10 +266,14 @@ pub(crate) fn remove_at(place: &mut Option<Met>, key: u64) -> Result<(), Refusal
     }
 }
 
-pub(crate) fn insert_at(place: &mut Option<Met>, chunk: u8, value: &Value) -> Result<u64, Refusal>
+pub(crate) fn insert_at(
+    place: &mut Option<ChunkMember>,
+    chunk: u8,
+    value: &Value,
+) -> Result<u64, Refusal>
     requires { IsSome place.old }
-    ensures inserts { MetDoes (InsertsIn value.now) place.old result place.new }
-    ensures bounded { MetTakes (InsertTakes (length value.now)) place.old place.new }
+    ensures inserts { MemberDoes (InsertsIn value.now) place.old result place.new }
+    ensures bounded { MemberTakes (InsertTakes (length value.now)) place.old place.new }
     ensures chunk { IfOk result (λ key. chunk_of key ≡ chunk) }
     ensures keeps { OnErr result (KeepsMember place.old place.new) }
 {
@@ -274,9 +287,9 @@ pub(crate) fn insert_at(place: &mut Option<Met>, chunk: u8, value: &Value) -> Re
     }
 }
 
-pub(crate) fn collect_at(place: &mut Option<Met>) -> Result<(), Refusal>
+pub(crate) fn collect_at(place: &mut Option<ChunkMember>) -> Result<(), Refusal>
     requires { IsSome place.old }
-    ensures collects { MetDoes (SideCollects chunked) place.old result place.new }
+    ensures collects { MemberDoes (SideCollects chunked) place.old result place.new }
     ensures keeps { KeepsMember place.old place.new }
 {
     match place {
@@ -286,7 +299,7 @@ pub(crate) fn collect_at(place: &mut Option<Met>) -> Result<(), Refusal>
 }
 
 // How many shards the chunk has; 0 if the caller has not met it.
-pub(crate) fn shards_at(place: &Option<Met>) -> u32
+pub(crate) fn shards_at(place: &Option<ChunkMember>) -> u32
     ensures { MatchOption place.now (result ≡ 0) (λ met. result ≡ met.shards) }
 {
     match place {
@@ -297,7 +310,11 @@ pub(crate) fn shards_at(place: &Option<Met>) -> u32
 
 // Owns this shard of a chunk, and no other there. Refused as `Taken`, `NoShard` or `Memory`, and as `Waiting` if the
 // shard that it owns before cannot be left.
-pub(crate) fn move_to(alloc: Global, place: &mut Option<Met>, shard: usize) -> Result<(), Refusal>
+pub(crate) fn move_to(
+    alloc: Global,
+    place: &mut Option<ChunkMember>,
+    shard: usize,
+) -> Result<(), Refusal>
     requires { IsSome place.old }
     ensures owns { OnOk result (OwnsThere shard place.new) }
     ensures refused { IfErr result (λ why. (why ≡ Memory)
@@ -310,10 +327,10 @@ pub(crate) fn move_to(alloc: Global, place: &mut Option<Met>, shard: usize) -> R
 
 // The same of a caller that owns no shard there.
 #[tactic(auto, using(crate::proofs::Refusals::side_owns))]
-fn adopt_at(alloc: Global, place: &mut Option<Met>, shard: usize) -> Result<(), Refusal>
+fn adopt_at(alloc: Global, place: &mut Option<ChunkMember>, shard: usize) -> Result<(), Refusal>
     requires there { IsSome place.old }
     requires none { OwnsNone place.old }
-    ensures adopts { MetDoes (SideAdopts shard) place.old result place.new }
+    ensures adopts { MemberDoes (SideAdopts shard) place.old result place.new }
     ensures owns { OnOk result (OwnsThere shard place.new) }
     ensures keeps { KeepsMember place.old place.new }
 {
@@ -324,7 +341,7 @@ fn adopt_at(alloc: Global, place: &mut Option<Met>, shard: usize) -> Result<(), 
 }
 
 // Leaves the shard that the caller owns in a chunk, if it owns one. Refused as `Waiting`.
-pub(crate) fn leave_at(place: &mut Option<Met>) -> Result<(), Refusal>
+pub(crate) fn leave_at(place: &mut Option<ChunkMember>) -> Result<(), Refusal>
     ensures left { OnOk result (OwnsNone place.new) }
     ensures err { IfErr result (λ why. why ≡ Waiting) }
     ensures waits { OnErr result (WaitsThere place.old place.new) }
@@ -341,7 +358,7 @@ pub(crate) fn leave_at(place: &mut Option<Met>) -> Result<(), Refusal>
 }
 
 // Gives all passes back, from the last chunk to the first.
-pub(crate) fn return_each_to_pool(mut places: Vec<Option<Met>>) {
+pub(crate) fn return_each_to_pool(mut places: Vec<Option<ChunkMember>>) {
     while let Some(place) = places.pop() {
         if let Some(met) = place {
             met.return_to_pool();
