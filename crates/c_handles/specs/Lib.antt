@@ -14,4 +14,4 @@ pub use Rattle.sh_nullable.specs.Owning
 pub use Rattle.sh_grown.specs.Callers
 pub use Rattle.sh_grown.specs.Chunks
 pub use Rattle.sh_grown.specs.declared.growing.Growing
-pub use Rattle.sh_grown.specs.declared.met.ChunkMember
+pub use Rattle.sh_grown.specs.declared.chunk_member.ChunkMember

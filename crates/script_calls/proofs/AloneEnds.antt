@@ -14,7 +14,7 @@ use Rattle.script_calls.specs.Told.{part_told}
 use Rattle.script_calls.specs.InOrder.{adding_passes, times, AllHeard}
 use Rattle.script_calls.specs.Alone.{OrderedSoFar}
 use Rattle.script_calls.specs.Finished.{IsOrderedBy}
-use Rattle.script_calls.specs.Hearing.{AllHeedInTurn}
+use Rattle.script_calls.specs.Heeding.{AllHeedInTurn}
 use Rattle.script_calls.specs.Meeting.{HasMet, KeepsOrders, tales_told, orders_of}
 use Rattle.script_calls.proofs.HeardAll.{heard_head, heard_tales, heard_all}
 use Rattle.script_calls.proofs.ListLemmas.{take_past, up_get}

@@ -18,7 +18,7 @@ use Rattle.script_calls.specs.Receipts.{MayHeed, SideHeeded}
 use Rattle.script_calls.specs.Calls.{LeaveAnswers}
 use Rattle.script_calls.specs.Meeting.{JoinsParts, EndsAmong, EndedAmong, HasEnded, CarriesEnd, parts_carried}
 use Rattle.script_calls.specs.Alone.{AnsweredSoFar}
-use Rattle.script_calls.specs.Hearing.{AllHeedInTurn}
+use Rattle.script_calls.specs.Heeding.{AllHeedInTurn}
 use Rattle.script_calls.proofs.ListLemmas.{get_some, map_more}
 
 -- ---- leaving

@@ -25,8 +25,8 @@ use Rattle.script_calls.specs.Receipts.{SeenReceipt, seen_of_receipt, receipt_se
 use Rattle.script_calls.specs.Receipts.{MayHeed, HasOrderedTale}
 use Rattle.script_calls.specs.Meeting.{AllOfHeap, KeepsOrders}
 use Rattle.script_calls.specs.Alone.{HeedsLast, IsLastOf}
-use Rattle.script_calls.specs.Hearing.{CoversReceipt, HeedsInTurn, AllHeedInTurn, AreInHistory, KnowsReceipt, LastKnows}
-use Rattle.script_calls.specs.Hearing.{HeardSoFar}
+use Rattle.script_calls.specs.Heeding.{CoversReceipt, HeedsInTurn, AllHeedInTurn, AreInHistory, KnowsReceipt, LastKnows}
+use Rattle.script_calls.specs.Heeding.{HeardSoFar}
 use Rattle.script_calls.proofs.EndLaws.{side_heeds}
 use Rattle.script_calls.proofs.ListLemmas.{get_some, get_snoc, take_at, take_past}
 use Rattle.script_calls.proofs.NameLemmas.{heeds_keeps, heeded_order, may_log}

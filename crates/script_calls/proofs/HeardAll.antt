@@ -14,7 +14,7 @@ use Rattle.sh_pass.specs.Passes.{Caller}
 use Rattle.script_calls.specs.Parts.{RunTerms, SeenPass, HasAllLogs, tale_told}
 use Rattle.script_calls.specs.Receipts.{seen_of_receipt}
 use Rattle.script_calls.specs.Meeting.{AllOfHeap, HasMet, KeepsOrders, orders_of, tales_told}
-use Rattle.script_calls.specs.Hearing.{HeedsInTurn, AllHeedInTurn}
+use Rattle.script_calls.specs.Heeding.{HeedsInTurn, AllHeedInTurn}
 use Rattle.script_calls.specs.InOrder.{AllHeard, LastHeard}
 use Rattle.script_calls.proofs.NameLemmas.{may_log}
 use Rattle.sh_pass.proofs.OrderLaws.{each_in}

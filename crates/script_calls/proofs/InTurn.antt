@@ -18,7 +18,7 @@ use Rattle.script_calls.specs.Runs.{CallsRun, LineAnswered, LinesAnswered, openi
 use Rattle.script_calls.specs.Runs.{with_number}
 use Rattle.script_calls.specs.Runs.{number_meant}
 use Rattle.script_calls.specs.Receipts.{MayHeed, part_heard}
-use Rattle.script_calls.specs.Hearing.{AllHeedInTurn, AreInHistory}
+use Rattle.script_calls.specs.Heeding.{AllHeedInTurn, AreInHistory}
 use Rattle.script_calls.specs.Stepping.{StepsInTurn}
 use Rattle.script_calls.specs.Told.{AreReplies, part_told}
 use Rattle.script_calls.specs.Meeting.{HasMet, HasEnded, SomeWaits, tales_told, AllOfHeap, orders_of}

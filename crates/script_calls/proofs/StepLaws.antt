@@ -15,7 +15,7 @@ use Rattle.script_calls.specs.Parts.{RunTerms, PassPart, SeenPass, SamePass}
 use Rattle.script_calls.specs.Runs.{CallsRun, LineAnswered, opening_calls, with_part, next_run}
 use Rattle.script_calls.specs.Receipts.{SeenReceipt, seen_of_receipt, receipt_seen, order_seen, part_heard}
 use Rattle.script_calls.specs.Alone.{AnsweredSoFar, HeedsLast, seen_with_part}
-use Rattle.script_calls.specs.Hearing.{AllHeedInTurn, CoversReceipt}
+use Rattle.script_calls.specs.Heeding.{AllHeedInTurn, CoversReceipt}
 use Rattle.script_calls.specs.Meeting.{KeepsOrders, orders_of}
 use Rattle.script_calls.specs.Stepping.{HeardOfSteps, LinesHeard, StepsInTurn, LastHasSteps}
 use Rattle.script_calls.proofs.HeardAll.{heard_orders}

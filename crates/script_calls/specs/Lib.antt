@@ -9,6 +9,6 @@ pub mod Told
 pub mod Meeting
 pub mod Stepping
 pub mod Alone
-pub mod Hearing
+pub mod Heeding
 pub mod Running
 pub mod Finished

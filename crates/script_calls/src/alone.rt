@@ -7,7 +7,7 @@ ghost use Rattle.script_output.specs.Keys.{HasTagRoom};
 ghost use Rattle.script_calls.specs.Parts.{RunTerms, new_passes};
 ghost use Rattle.script_calls.specs.Finished.{heap_seen, terms_seen, AreAllNew, LinesRan};
 
-use crate::hearing::{heed_in_turn, heed_last};
+use crate::heeding::{heed_in_turn, heed_last};
 use crate::line::{answered, number_meant};
 use crate::meeting::met;
 use crate::reporting::{NoRoom, tell};

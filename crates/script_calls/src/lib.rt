@@ -2,7 +2,7 @@
 #![tactic(auto)]
 
 pub mod alone;
-pub mod hearing;
+pub mod heeding;
 pub mod laws;
 pub mod line;
 pub mod meeting;

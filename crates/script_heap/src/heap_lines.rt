@@ -12,7 +12,7 @@ ghost use Rattle.script_calls.specs.Meeting.{parts_carried};
 ghost use Rattle.script_heap.specs.WholeAccounts.{LeadsToWhole};
 ghost use Rattle.script_heap.specs.HeapOutput.{TellsTale, IsHeapOutput, IsRan};
 
-use crate::pages::WholeHeap;
+use crate::whole_heap::WholeHeap;
 use script_calls::running::pass_of;
 use script_output::account_line::push_accounts;
 use script_output::pages::Pages;

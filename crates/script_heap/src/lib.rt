@@ -5,4 +5,4 @@
 pub mod heap_lines;
 pub mod heap_output;
 pub mod laws;
-mod pages;
+mod whole_heap;

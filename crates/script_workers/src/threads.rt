@@ -15,7 +15,7 @@ use crate::merge::merged;
 use crate::room::Room;
 use crate::run::run_all;
 use crate::worker::{Shared, Worker};
-use script_calls::hearing::heed_in_turn;
+use script_calls::heeding::heed_in_turn;
 use script_calls::line::binds;
 use script_calls::meeting::met;
 use script_calls::side::Side;

@@ -6,7 +6,7 @@
 #![tactic(auto)]
 
 pub mod kinds;
-pub mod pages;
+pub mod page_accounts;
 
-pub use pages::page;
+pub use page_accounts::page;
 pub use sh_core::Accounts;

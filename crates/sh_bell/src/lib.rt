@@ -6,7 +6,7 @@
 #![tactic(auto)]
 
 pub mod head;
-pub mod pages;
+pub mod page_numbers;
 
 pub use head::{ARMED, head_word, is_armed, top_of};
-pub use pages::{local_of, named_over_heap, shard_of_page};
+pub use page_numbers::{local_of, named_over_heap, shard_of_page};

@@ -15,7 +15,7 @@ use Rattle.sh_core.specs.declared.accounts.Accounts.{Accounts}
 use Rattle.sh_accounts.specs.Accounts.{FillPage, all_slots, no_slots}
 use Rattle.sh_pass.specs.Passes.{Caller}
 use Rattle.sh_gather.specs.Gathering.{NotedMore}
-use Rattle.sh_gather.specs.declared.pages.PageAccounts.{PageAccounts}
+use Rattle.sh_gather.specs.declared.accounts_by_page.PageAccounts.{PageAccounts}
 use Rattle.sh_gather.specs.declared.totals.Totals.{Totals}
 use Rattle.sh_gather.specs.PageLists.{IsPage, ToldBetween, AreFirst}
 use Rattle.sh_gather.specs.Sums.{used, sums, with_page, AtMost}

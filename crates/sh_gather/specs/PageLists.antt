@@ -4,7 +4,7 @@ use Rattle.sh_key.specs.Layout.{Layout}
 use Rattle.sh_shape.specs.Places.{pages_of, page_number}
 use Rattle.sh_pass.specs.Passes.{Caller}
 use Rattle.sh_gather.specs.Gathering.{AreWholeAccounts, NotedMore}
-use Rattle.sh_gather.specs.declared.pages.PageAccounts.{PageAccounts}
+use Rattle.sh_gather.specs.declared.accounts_by_page.PageAccounts.{PageAccounts}
 
 -- page number i of the heap, and its accounts by what the caller knows
 pub record IsPage (layout : Layout) (c : Caller) (i : ℕ) (p : PageAccounts) : Type 0 where

@@ -1,6 +1,6 @@
 -- The sums of the accounts of some pages, as `total` returns them, and a bound that keeps them from wrapping.
 use Rattle.std.specs.Prelude.{ℕ, ◌+◌, ◌-◌, ◌≤◌, List, Some, None, sum_by}
-use Rattle.sh_gather.specs.declared.pages.PageAccounts.{PageAccounts}
+use Rattle.sh_gather.specs.declared.accounts_by_page.PageAccounts.{PageAccounts}
 use Rattle.sh_gather.specs.declared.totals.Totals.{Totals}
 
 -- 1 if the page has a class, and 0 otherwise

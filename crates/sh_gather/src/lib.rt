@@ -8,20 +8,20 @@
 #![tactic(auto)]
 
 mod accounts;
+pub mod accounts_by_page;
 mod borrowing;
 pub mod gathering;
 mod keys;
 pub mod laws;
 pub mod next_keys;
-pub mod pages;
 pub mod totals;
 pub mod view;
 
+pub use accounts_by_page::{PageAccounts, all_accounts, page_accounts};
 pub use borrowing::Whole;
 pub use gathering::{gather, join, whole};
 pub use laws::{notes_keep_histories, page_keys_are_all};
 pub use next_keys::next_key;
-pub use pages::{PageAccounts, all_accounts, page_accounts};
 pub use sh_core::Accounts;
 pub use totals::{Totals, total};
 pub use view::WholeOn;

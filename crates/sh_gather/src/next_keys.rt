@@ -3,7 +3,7 @@ ghost use Rattle.std.specs.Prelude.{◌≡◌};
 ghost use Rattle.sh_gather.specs.Gathering.{NotedMore};
 ghost use Rattle.sh_gather.specs.NextKeys.{IsNextKey};
 
-use crate::pages::page_count;
+use crate::accounts_by_page::page_count;
 use crate::view::WholeOn;
 use sh_key::KeyLayout;
 use sh_pass::{KeepsHeap, NextKey};

@@ -3,11 +3,11 @@ ghost use Rattle.std.specs.Prelude.{◌≡◌, ◌≤◌, ◌^◌, List, []};
 ghost use Rattle.sh_shape.specs.Places.{all_pages, slot_places};
 ghost use Rattle.sh_accounts.specs.Accounts.{all_slots};
 ghost use Rattle.sh_gather.specs.Gathering.{NotedMore};
-ghost use Rattle.sh_gather.specs.declared.pages.PageAccounts.{PageAccounts};
+ghost use Rattle.sh_gather.specs.declared.accounts_by_page.PageAccounts.{PageAccounts};
 ghost use Rattle.sh_gather.specs.PageLists.{AreFirst};
 ghost use Rattle.sh_gather.specs.Sums.{AtMost, with_page, sums};
 
-use crate::pages::{PageAccounts, page_accounts, page_count};
+use crate::accounts_by_page::{PageAccounts, page_accounts, page_count};
 use crate::view::WholeOn;
 use sh_key::KeyLayout;
 use sh_pass::KeepsHeap;

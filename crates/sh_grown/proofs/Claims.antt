@@ -3,7 +3,7 @@ use Rattle.std.proofs.Common.{◌≡◌, ℕ, ◌<◌, List, Option, Some, None,
 use Rattle.std.specs.Prelude.{slice_set}
 use Rattle.std.proofs.lemmas.List.{get_or-set_same, get_or-set_other, length-set}
 use Rattle.sh_grown.specs.declared.growing.Growing.{Growing}
-use Rattle.sh_grown.specs.declared.met.ChunkMember.{ChunkMember}
+use Rattle.sh_grown.specs.declared.chunk_member.ChunkMember.{ChunkMember}
 use Rattle.sh_grown.specs.Callers.{IsNewcomer, IsClaimed}
 
 -- the first member goes to the first place of a list that has none

@@ -7,7 +7,7 @@ use Rattle.sh_value.specs.declared.refusal.Refusal.{Refusal}
 use Rattle.sh_value.specs.declared.refusal.Refusal.TheVariants as refusal
 use Rattle.sh_member.specs.declared.member.Side.TheVariants.{Pass, Shard, Moving}
 use Rattle.sh_member.specs.Sides.{SeenSide}
-use Rattle.sh_grown.specs.declared.met.ChunkMember.{ChunkMember}
+use Rattle.sh_grown.specs.declared.chunk_member.ChunkMember.{ChunkMember}
 use Rattle.sh_grown.specs.Callers.{MemberDoes}
 use Rattle.sh_grown.specs.Inserts.{HasMet, InsertsIn, InsertsInChunk, OnNone, TriesInsert, unless_memory}
 use Rattle.sh_grown.specs.Keeping.{KeepsMember, KeepsMembers}

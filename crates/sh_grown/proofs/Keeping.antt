@@ -4,7 +4,7 @@ use Rattle.std.proofs.Common.{Option, Some, None}
 use Rattle.std.specs.Prelude.{Result, Ok, Err, slice_set}
 use Rattle.sh_value.specs.declared.refusal.Refusal.{Refusal}
 use Rattle.sh_value.specs.declared.refusal.Refusal.TheVariants as refusal
-use Rattle.sh_grown.specs.declared.met.ChunkMember.{ChunkMember}
+use Rattle.sh_grown.specs.declared.chunk_member.ChunkMember.{ChunkMember}
 use Rattle.sh_grown.specs.declared.caller.Caller.{Caller as SeenCaller}
 use Rattle.sh_grown.specs.Callers.{Stays}
 use Rattle.sh_grown.specs.Inserts.{EndsWithInsert, Inserts, TriesInsert}

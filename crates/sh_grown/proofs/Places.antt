@@ -16,7 +16,7 @@ use Rattle.sh_chunk.specs.Chunks.{chunked}
 use Rattle.sh_member.specs.declared.member.Side.TheVariants.{Pass, Shard, Moving}
 use Rattle.sh_member.specs.Sides.{SeenSide, SideInserts}
 use Rattle.sh_grown.specs.declared.growing.Growing.{Growing}
-use Rattle.sh_grown.specs.declared.met.ChunkMember.{ChunkMember}
+use Rattle.sh_grown.specs.declared.chunk_member.ChunkMember.{ChunkMember}
 use Rattle.sh_grown.specs.Callers.{ChunkDoes, Meets, MemberDoes}
 
 -- inside, no other value is returned for what is missing

@@ -13,7 +13,7 @@ use Rattle.sh_member.specs.Sides.{SeenSide}
 use Rattle.sh_grown.specs.ChunkShapes.{IsShaped}
 use Rattle.sh_grown.specs.Growing.{shape_in}
 use Rattle.sh_grown.specs.declared.growing.Growing.{Growing}
-use Rattle.sh_grown.specs.declared.met.ChunkMember.{ChunkMember}
+use Rattle.sh_grown.specs.declared.chunk_member.ChunkMember.{ChunkMember}
 use Rattle.sh_grown.specs.declared.caller.Caller.{Caller as SeenCaller}
 use Rattle.sh_grown.specs.Keeping.{SamePlace}
 

@@ -6,7 +6,7 @@ use Rattle.sh_value.specs.declared.refusal.Refusal.{Refusal}
 use Rattle.sh_value.specs.declared.refusal.Refusal.TheVariants as refusal
 use Rattle.sh_member.specs.Sides.{SeenSide, SideInserts, SideCollects, IsPass}
 use Rattle.sh_member.specs.SideBounds.{InsertTakes}
-use Rattle.sh_grown.specs.declared.met.ChunkMember.{ChunkMember}
+use Rattle.sh_grown.specs.declared.chunk_member.ChunkMember.{ChunkMember}
 use Rattle.sh_grown.specs.Callers.{IfMemberDoes, MemberTakes}
 use Rattle.sh_grown.specs.Keeping.{KeepsMembers}
 use Rattle.sh_grown.specs.Refusals.{ChunkRefused}

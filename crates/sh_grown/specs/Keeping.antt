@@ -5,7 +5,7 @@ use Rattle.sh_pass.specs.Seats.{Heap}
 use Rattle.sh_pass.specs.Passes.{Caller, holds}
 use Rattle.sh_member.specs.declared.member.Side.TheVariants.{Pass, Shard, Moving}
 use Rattle.sh_member.specs.Sides.{SeenSide}
-use Rattle.sh_grown.specs.declared.met.ChunkMember.{ChunkMember}
+use Rattle.sh_grown.specs.declared.chunk_member.ChunkMember.{ChunkMember}
 
 -- heap, number, log and holds of a pass
 pub record Kept : Type 0 where

@@ -6,7 +6,7 @@ use Rattle.sh_member.specs.Pages.{AdoptRefused}
 use Rattle.sh_member.specs.Shards.{NoRoom, value_class}
 use Rattle.sh_member.specs.declared.member.Side.TheVariants.{Pass, Shard, Moving}
 use Rattle.sh_member.specs.Sides.{SeenSide}
-use Rattle.sh_grown.specs.declared.met.ChunkMember.{ChunkMember}
+use Rattle.sh_grown.specs.declared.chunk_member.ChunkMember.{ChunkMember}
 use Rattle.sh_grown.specs.Keeping.{KeepsMember}
 
 -- the member owns this shard

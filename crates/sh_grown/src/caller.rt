@@ -5,8 +5,8 @@ ghost use Rattle.sh_value.specs.declared.refusal.Refusal.TheVariants.{Memory};
 ghost use Rattle.sh_grown.specs.Callers.{IsClaimed, IsNewcomer, Meets, Stays, WhyUnmet, WhyWithout};
 ghost use Rattle.sh_grown.specs.Keeping.{KeepsMembers};
 
+use crate::chunk_member::{ChunkMember, meet, meet_first};
 use crate::growing::Growing;
-use crate::met::{ChunkMember, meet, meet_first};
 use crate::share::GrowingShare;
 use sh_value::Refusal;
 use std::alloc::Global;

@@ -9,7 +9,7 @@ ghost use Rattle.sh_grown.specs.Keeping.{KeepsMembers};
 ghost use Rattle.sh_grown.specs.Refusals.{ChunkRefused, OwnsThere, RangeRefused, RefusedIn};
 
 use crate::caller::Caller;
-use crate::met::{collect_at, insert_at, meet, move_to, shards_at};
+use crate::chunk_member::{collect_at, insert_at, meet, move_to, shards_at};
 use sh_value::{Refusal, Value};
 use std::alloc::Global;
 

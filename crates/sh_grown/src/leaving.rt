@@ -6,7 +6,7 @@ ghost use Rattle.sh_grown.specs.Inserts.{OwnsNone};
 ghost use Rattle.sh_grown.specs.Keeping.{KeepsMembers};
 
 use crate::caller::Caller;
-use crate::met::{leave_at, return_each_to_pool};
+use crate::chunk_member::{leave_at, return_each_to_pool};
 use sh_value::Refusal;
 
 impl Caller {

@@ -16,13 +16,13 @@
 pub mod caller;
 mod calls;
 pub mod chunk;
+pub mod chunk_member;
 pub mod chunk_shapes;
 pub mod crossing;
 pub mod growing;
 pub mod guard;
 mod inserting;
 mod leaving;
-pub mod met;
 pub mod share;
 pub mod totals;
 

@@ -2,6 +2,7 @@
 ghost use Rattle.std.specs.Prelude.{◌≡◌};
 ghost use Rattle.sh_member.specs.declared.member.Side.TheVariants as side;
 
+mod between_calls;
 mod calls;
 mod counting;
 mod guards;
@@ -9,7 +10,6 @@ mod joining;
 mod moving;
 mod own_keys;
 mod receipts;
-mod standing;
 mod taking;
 mod warming;
 

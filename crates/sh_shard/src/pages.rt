@@ -5,6 +5,7 @@ ghost use Rattle.sh_shard.specs.Pages.{seen_class};
 
 mod adopting;
 mod bell;
+mod between_calls;
 mod calls;
 mod collecting;
 mod counting;
@@ -13,7 +14,6 @@ mod insert;
 mod leaving;
 mod receipts;
 mod stack;
-mod standing;
 
 use sh_key::KeyLayout;
 use sh_pass::KeepsHeap;

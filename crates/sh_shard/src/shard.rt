@@ -2,6 +2,7 @@
 
 mod adopting;
 mod bell;
+mod between_calls;
 mod calls;
 mod collecting;
 mod counting;
@@ -12,7 +13,6 @@ mod prepare;
 mod receipts;
 mod returning;
 mod search;
-mod standing;
 mod store;
 
 use crate::pages::PagesOn;

@@ -8,7 +8,7 @@ use Rattle.sh_pass.specs.Passes.{AreAll, AreOf, Caller}
 use Rattle.sh_gather.specs.AccountsType.{Accounts}
 use Rattle.sh_gather.specs.Accounts.{ShapeHasPage}
 use Rattle.sh_gather.specs.Gathering.{AreWholeAccounts, IsGatheredFrom, NotedMore}
-use Rattle.sh_gather.specs.declared.pages.PageAccounts.{PageAccounts}
+use Rattle.sh_gather.specs.declared.accounts_by_page.PageAccounts.{PageAccounts}
 use Rattle.sh_gather.specs.declared.totals.Totals.{Totals}
 use Rattle.sh_gather.specs.PageLists.{AreFirst}
 use Rattle.sh_gather.specs.Sums.{sums}

@@ -22,6 +22,6 @@ mod steps;
 #[cfg(test)]
 mod tests;
 #[cfg(test)]
-mod told;
+mod state_text;
 #[cfg(test)]
 mod walk;

@@ -4,7 +4,7 @@ use crate::facts::{Fact, are_so};
 use crate::moment::Moment;
 use crate::program::Program;
 use crate::settle::assert_settles;
-use crate::told::told;
+use crate::state_text::told;
 use sh_core::World;
 use sh_key::Tiny;
 use std::alloc::Global;

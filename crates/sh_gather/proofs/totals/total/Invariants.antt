@@ -2,7 +2,7 @@ use Rattle.std.proofs.Common.{◌≡◌, List}
 use Rattle.std.specs.Prelude.{◌*◌}
 use Rattle.sh_shape.specs.Places.{all_pages}
 use Rattle.sh_gather.specs.Gathering.{NotedMore}
-use Rattle.sh_gather.specs.declared.pages.PageAccounts.{PageAccounts}
+use Rattle.sh_gather.specs.declared.accounts_by_page.PageAccounts.{PageAccounts}
 use Rattle.sh_gather.specs.PageLists.{AreFirst}
 use Rattle.sh_gather.specs.Sums.{AtMost, sums}
 use Rattle.sh_gather.proofs.totals.total.Given as goal

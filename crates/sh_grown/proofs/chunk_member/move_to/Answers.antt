@@ -1,6 +1,6 @@
 use Rattle.sh_grown.proofs.Keeping.{place_then}
 use Rattle.sh_grown.proofs.Refusals.{place_adopts, place_stuck}
-use Rattle.sh_grown.proofs.met.move_to.Goals as goal
+use Rattle.sh_grown.proofs.chunk_member.move_to.Goals as goal
 
 pub returns-in_err-leave_at-clause-refused : goal.returns-in_err-leave_at-clause-refused
 returns-in_err-leave_at-clause-refused c =

@@ -2,7 +2,7 @@ use Rattle.std.proofs.Common.{◌≡◌}
 use Rattle.sh_shape.specs.Places.{all_pages}
 use Rattle.sh_gather.specs.Gathering.{NotedMore}
 use Rattle.sh_gather.specs.PageLists.{AreFirst}
-use Rattle.sh_gather.proofs.pages.all_accounts.Given as goal
+use Rattle.sh_gather.proofs.accounts_by_page.all_accounts.Given as goal
 
 -- the pages so far
 abbrev pub invariant-loop-number : goal.invariant-loop-number

@@ -6,7 +6,7 @@ use Rattle.sh_shape.proofs.PlaceLaws.{page_is_below}
 use Rattle.sh_core.specs.Lists.{class_named}
 use Rattle.sh_accounts.specs.Accounts.{class_word}
 use Rattle.sh_accounts.proofs.PageCounts.{class_small}
-use Rattle.sh_accounts.proofs.pages.class_at.Goals as goal
+use Rattle.sh_accounts.proofs.page_accounts.class_at.Goals as goal
 
 pub returns-clause-is : goal.returns-clause-is
 returns-clause-is g c =

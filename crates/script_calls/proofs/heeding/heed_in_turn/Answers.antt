@@ -5,7 +5,7 @@ use Rattle.std.proofs.lemmas.Option.{gets, slice_get-map}
 use Rattle.script_calls.proofs.HearLaws.{hearing_begins, hearing_ends, hearing_told, heeded_more, last_of_side}
 use Rattle.script_calls.proofs.InTurn.{map_set}
 use Rattle.script_calls.proofs.Newcomers.{length_map}
-use Rattle.script_calls.proofs.hearing.heed_in_turn.Goals as goal
+use Rattle.script_calls.proofs.heeding.heed_in_turn.Goals as goal
 
 pub loop-place-init : goal.loop-place-init
 loop-place-init g c = hearing_begins g.at.0 g.at.1 c.args.last (map g.S.Side.seen c.args.sides.items) c.requires.1.1

@@ -1,5 +1,5 @@
 use Rattle.sh_grown.proofs.Places.{inserted_fits}
-use Rattle.sh_grown.proofs.met.insert_at.Goals as goal
+use Rattle.sh_grown.proofs.chunk_member.insert_at.Goals as goal
 
 pub chunk_key-requires : goal.chunk_key-requires
 chunk_key-requires c =

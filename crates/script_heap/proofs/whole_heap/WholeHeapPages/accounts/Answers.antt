@@ -2,7 +2,7 @@ use Rattle.std.proofs.Common.{◌≡◌, ◌∙◌, ap, subst}
 use Rattle.sh_pass.specs.Passes.{Caller}
 use Rattle.sh_gather.specs.Gathering.{NotedMore}
 use Rattle.script_heap.proofs.WholeLemmas.{later_whole}
-use Rattle.script_heap.proofs.pages.WholeHeapPages.accounts.Goals as goal
+use Rattle.script_heap.proofs.whole_heap.WholeHeapPages.accounts.Goals as goal
 
 pub returns-clause-later : goal.returns-clause-later
 returns-clause-later g c =

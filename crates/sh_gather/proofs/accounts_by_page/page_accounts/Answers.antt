@@ -4,7 +4,7 @@ use Rattle.sh_shape.specs.Shape.{Numbers}
 use Rattle.sh_shape.specs.Places.{pages_of, page_number}
 use Rattle.sh_table.specs.Seats.{Heap}
 use Rattle.sh_gather.specs.Gathering.{AreWholeAccounts}
-use Rattle.sh_gather.proofs.pages.page_accounts.Goals as goal
+use Rattle.sh_gather.proofs.accounts_by_page.page_accounts.Goals as goal
 
 pub returns-clause-is : goal.returns-clause-is
 returns-clause-is g c =

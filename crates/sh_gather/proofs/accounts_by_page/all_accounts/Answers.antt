@@ -1,7 +1,7 @@
 use Rattle.std.proofs.Common.{◌+◌, ◌∙◌, subst, sym}
 use Rattle.sh_gather.specs.PageLists.{AreFirst}
 use Rattle.sh_gather.proofs.PageTotals.{first_more}
-use Rattle.sh_gather.proofs.pages.all_accounts.Goals as goal
+use Rattle.sh_gather.proofs.accounts_by_page.all_accounts.Goals as goal
 use Rattle.sh_gather.proofs.Walking.{later_again}
 
 pub loop-number-preserved : goal.loop-number-preserved

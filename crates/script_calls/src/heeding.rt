@@ -3,7 +3,7 @@ ghost use Rattle.std.specs.Prelude.{◌≡◌, ◌⊎◌, [], Option, map};
 ghost use Rattle.sh_pass.specs.Seats.{Heap};
 ghost use Rattle.script_calls.specs.Parts.{RunTerms};
 ghost use Rattle.script_calls.specs.Alone.{IsLastOf, HeedsLast};
-ghost use Rattle.script_calls.specs.Hearing.{AllHeedInTurn, AreInHistory};
+ghost use Rattle.script_calls.specs.Heeding.{AllHeedInTurn, AreInHistory};
 ghost use Rattle.script_calls.specs.Meeting.{AllOfHeap};
 
 use crate::side::Side;

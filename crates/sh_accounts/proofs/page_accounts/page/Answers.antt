@@ -3,7 +3,7 @@ use Rattle.sh_shape.specs.Places.{page_number, pages_of}
 use Rattle.sh_shape.specs.Shape.{Numbers}
 use Rattle.sh_shape.proofs.PlaceLaws.{page_is_below}
 use Rattle.sh_accounts.proofs.PageCounts.{are_counted, are_none, fills}
-use Rattle.sh_accounts.proofs.pages.page.Goals as goal
+use Rattle.sh_accounts.proofs.page_accounts.page.Goals as goal
 
 pub returns-in-Some-clause-are : goal.returns-in-Some-clause-are
 returns-in-Some-clause-are g c =
