@@ -78,11 +78,15 @@ class Edit:
         # (what is outside each function is many functions' own, and has a round of its own; so has a pair of texts
         # that rests on an earlier one of its edit, which is not in the file)
         self.is_outside, self.is_alone = False, False
+        # (the path of the function by whose goal an edit outside each function is refused, if the file says it)
+        self.refused_by = None
         path = old = None
         texts = {}
         for line in file.read_text().split("\n"):
             if line.startswith("file: "):
                 path = line[len("file: "):].strip()
+            elif line.startswith("refused by: "):
+                self.refused_by = line[len("refused by: "):].strip()
             elif line.startswith("old: "):
                 old = line[len("old: "):]
             elif line.startswith("new:") and path and old:
@@ -90,6 +94,8 @@ class Edit:
         self.texts = texts
         if not self.replaced and not self.bad:
             self.bad = "it has no pair of old: and new:"
+        if self.refused_by and not self.is_outside:
+            self.bad = "it changes a function, so no line has to say which function refuses it"
 
     def replace(self, crate, texts, path, old, new):
         file = crate.folder / path

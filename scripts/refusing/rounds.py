@@ -66,6 +66,12 @@ class Round:
     def name_of_copy(self, edit, function):
         return f"{function.name}_copy_{self.copies[edit]}"
 
+    def paths(self, wrong):
+        """The paths of the functions that the check has to try, or none if it has to check all of the crate."""
+        if any(it.is_outside for it in self.edits):
+            return [it.refused_by for it in self.edits if it.refused_by]
+        return paths_of(it for its in wrong.values() for it in its)
+
     def folders(self, edit):
         """The folder of a function's answers, that of its copy's, and the name of the one and the other in them."""
         (function,) = edit.functions.values()
@@ -99,6 +105,12 @@ def replaced(text, pairs):
         parts += [text[behind:at], new]
         behind = at + len(old)
     return "".join([*parts, text[behind:]])
+
+
+def paths_of(functions):
+    """The paths by which the prover finds these functions, or none if it has to check all of the crate."""
+    paths = {it.path_in_crate() for it in functions}
+    return sorted(paths) if all(paths) else []
 
 
 def rounds_of(crate, edits):
