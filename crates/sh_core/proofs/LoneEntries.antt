@@ -28,23 +28,26 @@ nothing_here : (b : Bool) (e : Entry) (xs : List Entry) → b ≡ true → cond 
 nothing_here true e xs is h = nothing_in e xs h
 nothing_here false e xs is h = absurd (let z : false ≡ true = is in cc)
 
+-- the first entry, if those after it are all of pass a
+first_own : (passes a : ℕ) (e : Entry) (new : List Entry) → All (λ (x : Entry). pass_of x < passes) (e ∷ new)
+    → ((b : ℕ) → b < passes → b ≢ a → entries b (e ∷ new) ≡ []) → new ≡ entries a new
+    → (b : Bool) → (pass_of e == a) ≡ b → e ∷ new ≡ entries a (e ∷ new)
+first_own passes a e new ours none rest true is =
+    ap (λ (l : List Entry). e ∷ l) rest ∙ sym (ap (λ (b : Bool). cond b (e ∷ entries a new) (entries a new)) is)
+first_own passes a e new ours none rest false is =
+    let other : pass_of e ≢ a = λ same. let z : true ≡ false = sym (eq-eqb (pass_of e) a same) ∙ is in cc in
+    let its = none (pass_of e) (All-head (λ (x : Entry). pass_of x < passes) e new ours) other in
+    absurd (nothing_here (pass_of e == pass_of e) e (entries (pass_of e) new) (eq-eqb (pass_of e) (pass_of e) refl) its)
+
 -- if no other pass of the heap has an entry, all are of pass a
 own_only : (passes a : ℕ) (new : List Entry) → All (λ (e : Entry). pass_of e < passes) new
     → ((b : ℕ) → b < passes → b ≢ a → entries b new ≡ []) → new ≡ entries a new
 own_only passes a [] ours none = refl
-own_only passes a (e ∷ new) ours none = go (pass_of e == a) refl where
-  rest : new ≡ entries a new
-  rest = own_only passes a new (All-tail (λ (x : Entry). pass_of x < passes) e new ours)
-      (λ b lt ne. rest_empty (pass_of e == b) e (entries b new) (none b lt ne))
-
-  go : (b : Bool) → (pass_of e == a) ≡ b → e ∷ new ≡ entries a (e ∷ new)
-  go true is = ap (λ (l : List Entry). e ∷ l) rest
-      ∙ sym (ap (λ (b : Bool). cond b (e ∷ entries a new) (entries a new)) is)
-  go false is =
-      let other : pass_of e ≢ a = λ same. let z : true ≡ false = sym (eq-eqb (pass_of e) a same) ∙ is in cc in
-      let its = none (pass_of e) (All-head (λ (x : Entry). pass_of x < passes) e new ours) other in
-      absurd (nothing_here (pass_of e == pass_of e) e (entries (pass_of e) new) (eq-eqb (pass_of e) (pass_of e) refl)
-      its)
+own_only passes a (e ∷ new) ours none =
+    first_own passes a e new ours none
+    (own_only passes a new (All-tail (λ (x : Entry). pass_of x < passes) e new ours)
+    (λ b lt ne. rest_empty (pass_of e == b) e (entries b new) (none b lt ne)))
+    (pass_of e == a) refl
 
 all_behind : (passes : ℕ) (xs ys : List Entry) → All (λ (e : Entry). pass_of e < passes) (xs ++ ys)
     → All (λ (e : Entry). pass_of e < passes) ys

@@ -51,7 +51,7 @@ module _ (plan : Plan) (w : Words) (ps : List Body) (l : PutLists) (a : ℕ) (p 
   ring_owed =
       let m = total_set (ring_tying plan ring_bell q) ps a ring_before ring_after at in
       let here : cond ((ring_bell == shard_of plan q) && (q == q))
-          (over_heap plan ring_bell 2 (w.bell_at ring_bell + 1)) 0
+      (over_heap plan ring_bell 2 (w.bell_at ring_bell + 1)) 0
       ≡ bell_head plan w.bell_at ring_bell + 1 = rw (eq-eqb ring_bell ring_bell refl, eq-eqb q q refl)
       (over_next plan ring_bell (w.bell_at ring_bell))
       in omega arith
@@ -76,12 +76,12 @@ module _ (plan : Plan) (w : Words) (ps : List Body) (l : PutLists) (a : ℕ) (p 
         (times_cons k q (l.bells ring_bell))
     go false e = rw (put_other l.bells ring_bell (shard_of plan k) (q ∷ l.bells ring_bell) e)
         (other (q == k) refl) where
-      other : (b : Bool) → (q == k) ≡ b → times k (l.bells (shard_of plan k))
-          ≡ if1 b + times k (l.bells (shard_of plan k))
-      other true f = let z : true ≡ false = sym (let y : (shard_of plan k == ring_bell) ≡ true =
-          rw (same_home k f) (eq-eqb ring_bell ring_bell refl)
-          in y) ∙ e in absurd (cc)
-      other false f = omega arith
+          other : (b : Bool) → (q == k) ≡ b → times k (l.bells (shard_of plan k))
+              ≡ if1 b + times k (l.bells (shard_of plan k))
+          other true f = let z : true ≡ false = sym (let y : (shard_of plan k == ring_bell) ≡ true =
+              rw (same_home k f) (eq-eqb ring_bell ring_bell refl)
+              in y) ∙ e in absurd (cc)
+          other false f = omega arith
 
   pub ring_agrees : ListsAgreeOf plan (write w (Bell ring_bell) (local plan q + 1)) (set ps a ring_after) ring_lists
   ring_agrees = record {

@@ -111,8 +111,11 @@ module _ (plan : Plan) (w : Words) (ps : List Body) (l : PutLists) (a : ℕ) (p 
         (l.bell_chain (shard_of plan k))
     moved k true e = let i = eqb-true (shard_of plan k) n e in rw
         (i, put_same l.bells n [], put_same l.bell_chain n (l.bells n), no_bell_chain) (omega arith)
-    moved k false e = rw (put_other l.bells n (shard_of plan k) [] e, put_other l.bell_chain n (shard_of plan k)
-        (l.bells n) e)
+    moved k false e = rw (
+      put_other l.bells n (shard_of plan k) [] e,
+      put_other l.bell_chain n (shard_of plan k)
+          (l.bells n) e,
+    )
         refl
 
 -- no pass stores a page's link on another shard's bell, so a page on a bell or its chain is of that shard
@@ -187,7 +190,7 @@ module _ (plan : Plan) (w : Words) (ps : List Body) (l : PutLists) (a : ℕ) (p 
       let d0 = d.0 in
       let d1 = d.1 in
       let e1 : times q (l.bells (shard_of plan q))
-          ≡ times q (l.bells n) = ap (λ (k : ℕ). times q (l.bells k)) page_home in
+      ≡ times q (l.bells n) = ap (λ (k : ℕ). times q (l.bells k)) page_home in
       let e2 : times q (l.bell_chain (shard_of plan q)) ≡ times q (l.bell_chain n) = ap
       (λ (k : ℕ). times q (l.bell_chain k)) page_home in omega arith
 
@@ -288,7 +291,7 @@ module _ (plan : Plan) (w : Words) (ps : List Body) (l : PutLists) (a : ℕ) (p 
 
     moved : (k : ℕ) (b : Bool) → (shard_of plan k == n) ≡ b
         → times k (put l.bell_chain n bell_left (shard_of plan k)) + if1 (q == k)
-            ≡ times k (l.bell_chain (shard_of plan k))
+        ≡ times k (l.bell_chain (shard_of plan k))
     moved k true e =
         let i = eqb-true (shard_of plan k) n e in
         let c : times k (l.bell_chain n) ≡ if1 (q == k) + times k bell_left =

@@ -56,7 +56,7 @@ module _ (plan : Plan) (w : Words) (ps : List Body) (l : PutLists) (a : ℕ) (p 
 
     go : (b : Bool) → (q == x.page) ≡ b → (total (armed_at q) (set ps a put_after)
         ≡ put w.head_at x.page put_word q % 2 + total (rings q) (set ps a put_after) + times q
-            (l.bells (shard_of plan q)) +
+        (l.bells (shard_of plan q)) +
         times q (l.bell_chain (shard_of plan q))) × (total (armed_at q) (set ps a put_after) ≤ 1)
     go true e =
         let i = eqb-true q x.page e in
@@ -214,7 +214,7 @@ module _ (plan : Plan) (w : Words) (ps : List Body) (l : PutLists) (a : ℕ) (p 
 
     go : (b : Bool) → (k == q) ≡ b → (total (armed_at k) (set ps a taken_after)
         ≡ put w.head_at q m k % 2 + total (rings k) (set ps a taken_after) + times k (l.bells (shard_of plan k)) + times
-            k
+        k
         (l.bell_chain (shard_of plan k))) × (total (armed_at k) (set ps a taken_after) ≤ 1)
     go true e =
         let i = eqb-true k q e in

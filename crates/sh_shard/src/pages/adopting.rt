@@ -20,7 +20,6 @@ impl<L: KeyLayout, H: KeepsHeap<L>> PagesOn<L, H> {
     /// Makes the pass the owner of the shard, and reads the class word of each page in ascending order. Refused, with
     /// the pass, as `NoShard` if there is no such shard, and as `Taken` if it has an owner. Refused as `Memory` if
     /// memory for the pages is refused: then the shard is left again.
-    #[tactic(auto, using(crate::proofs::Sides::free_then))]
     pub(crate) fn adopt(
         alloc: Global,
         pass: PassOn<L, H>,

@@ -1,4 +1,4 @@
-use Rattle.std.proofs.Common.{ℕ, Bool, Option, [], ◌∷◌, ◌∙◌, ap, sym, subst, arith}
+use Rattle.std.proofs.Common.{ℕ, Bool, false, Option, [], ◌∷◌, ◌∙◌, ap, sym, subst, arith}
 use Rattle.std.specs.Bool.{then_some}
 use Rattle.sh_slots.specs.Slots.{slot_ref_of}
 use Rattle.sh_slots.specs.declared.hand.Hand.TheVariants.{Idle, Removing, Leaving}
@@ -8,7 +8,7 @@ use Rattle.sh_step.specs.Rows.{hand}
 use Rattle.sh_pass.specs.Deciding.{Stepped, EntryTells}
 use Rattle.sh_pass.specs.Growing.{Grows, RemoveEnters, removal, with_slot}
 use Rattle.sh_pass.proofs.DecidedLaws.{removal_marked, removal_vain}
-use Rattle.sh_pass.proofs.GrowthLaws.{grows_on, grows_after, grows_as}
+use Rattle.sh_pass.proofs.GrowthLaws.{grows_on, grows_after, grows_as, left_on}
 use Rattle.sh_pass.proofs.entering.remove_at.Goals as goal
 
 pub returns-then-there-clause-grows : goal.returns-then-there-clause-grows
@@ -44,3 +44,17 @@ returns-else-there-clause-first g c =
     removal_vain c.args.seat.now.me.0 c.enter_to_remove-there.new.seat.me.0 c.give_back-is_own-else-there.new.seat.me.0
     c.args.key c.args.name (subst P c.if-there.false c.enter_to_remove-there.ensures.first)
     c.give_back-is_own-else-there.ensures.grows
+
+pub returns-else-there-clause-grows : goal.returns-else-there-clause-grows
+returns-else-there-clause-grows g c =
+    let v = c.args.seat.now.me.0 in
+    let w = c.enter_to_remove-there.new.seat.me.0 in
+    let Q : Bool → Type 0 = λ b. RemoveEnters c.args.key c.args.name b v w in
+    let e : Grows (hand v.own.body (Leaving (slot_ref_of c.args.name))) (removal v.pass c.args.key false ∷ []) 1 v w
+    = subst Q c.if-there.false c.enter_to_remove-there.ensures.grows in
+    let P : Option SlotRef → Type 0 = λ r. Grows (with_slot (hand v.own.body Idle) r)
+    (removal v.pass c.args.key false ∷ []) 8 v c.give_back-is_own-else-there.new.seat.me.0 in
+    subst P (sym c.then_some-else-there.ensures)
+    (left_on 8 (slot_ref_of c.args.name)
+    (then_some c.give_back-is_own-else-there.result c.slot_ref-slot_ref.result) e
+    c.give_back-is_own-else-there.ensures.grows (omega arith))
