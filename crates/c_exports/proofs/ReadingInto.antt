@@ -57,7 +57,7 @@ met_fills : (does : SeenSide → Result (List ℕ) Refusal → SeenSide → Type
     (into : SeenSide → Result (Unit {0}) Refusal → SeenSide → Type 0) (after : List ℕ)
     → ((a : Result (Unit {0}) Refusal) (m n : SeenSide) → into m a n → does m (read_in after a) n)
     → (a : Result (Unit {0}) Refusal) (x y : Option ChunkMember) → MemberDoes into x a y
-        → MemberDoes does x (read_in after a) y
+    → MemberDoes does x (read_in after a) y
 met_fills does into after fills a (Some m) (Some n) did = (fills a m.member n.member did.0, did.1)
 met_fills does into after fills a (Some m) None did = absurd did
 met_fills does into after fills a None y did = absurd did

@@ -179,7 +179,8 @@ module _ (layout : Layout) (shape : Numbers) (la : IsLayout layout) (ls : IsShap
 
     not_blank : (p : ℕ) → p < n.pages.count → (page_at n.pages p).class ≡ Some 0 → ⊥
     not_blank p below blank = full_by_words layout words insert_begins.owner fresh_terms tag pass second.begins
-        second.part (nat_lt 16 (length words)) second.does.result refl insert_begins.is second.does.is second.does.does p
+        second.part (nat_lt 16 (length words)) second.does.result refl insert_begins.is second.does.is
+        second.does.does p
         (let count = insert_begins.count in omega (arith, below, count))
         (class_same n second.begins.stands insert_begins p ∙ blank)
 

@@ -117,8 +117,8 @@ module _ (layout : Layout) (shape : Numbers) (la : IsLayout layout) (ls : IsShap
     has_slot p s lt one true is = is
     has_slot p s lt one false is =
         let none : mine room_world (slot_ref (page p) s) ≡ 0 = no_mine room_plan room_world
-        (lists_of room_plan (early ++ late)) room_refined quiet a room_body g.body (slot_ref (page p) s) (is_own p lt) is
-        in
+        (lists_of room_plan (early ++ late)) room_refined quiet a room_body g.body (slot_ref (page p) s)
+        (is_own p lt) is in
         absurd (omega (arith, one, none))
 
     pub wholly_mine : (p d : ℕ) → p < room_plan.pages → OwnersWholly room_plan room_world n.shard p d

@@ -28,10 +28,10 @@ inside (x ∷ xs) (suc i) d e lt = inside xs i d e (omega arith)
 -- the member at place n did it, and n is the number of the chunk
 pub chunk_does : {A : Type 0} (does : SeenSide → Result A Refusal → SeenSide → Type 0) (growing : Growing)
     (number n chunk : ℕ) (old met new : List (Option ChunkMember)) (place after d : Option ChunkMember)
-        (answer : Result A Refusal)
+    (answer : Result A Refusal)
     → n ≡ chunk → n < length met → Meets growing number n old met → place ≡ get_or met n d
     → MemberDoes does place answer after → new ≡ slice_set met n after
-        → ChunkDoes does growing number chunk old answer new
+    → ChunkDoes does growing number chunk old answer new
 chunk_does does growing number n chunk old met new place after d answer is lt meets found does_it set =
     let at : place ≡ get_or met n None = found ∙ inside met n d None lt in
     record {

@@ -67,7 +67,7 @@ MemberDoes does None answer n = ⊥
 -- the member of this chunk, which the caller had met or met in this call, did it; all others are as they were
 pub record ChunkDoes {A : Type 0} (does : SeenSide → Result A Refusal → SeenSide → Type 0) (growing : Growing)
     (number chunk : ℕ) (old : List (Option ChunkMember)) (answer : Result A Refusal) (new : List (Option ChunkMember)) :
-        Type 0 where
+    Type 0 where
   pub met : List (Option ChunkMember)
   pub meets : Meets growing number chunk old met
   pub after : Option ChunkMember
@@ -99,7 +99,7 @@ abbrev pub IfMemberDoes : {A : Type 0} → (SeenSide → Result A Refusal → Se
     → (chunk : ℕ) → List (Option ChunkMember) → Result A Refusal → List (Option ChunkMember) → Type 0
 IfMemberDoes does unmet chunk old answer new =
     ((after : Option ChunkMember) × MemberDoes does (get_or old chunk None) answer after
-        × (new ≡ slice_set old chunk after))
+    × (new ≡ slice_set old chunk after))
     ⊎ ((answer ≡ Err unmet) × (get_or old chunk None ≡ None) × (new ≡ old))
 
 -- the same for a call by a hold on a key of the chunk

@@ -8,11 +8,11 @@ ghost use Rattle.sh_member.specs.Sides.{SideDoes};
 ghost use Rattle.sh_grown.specs.Callers.{GrownDoes, HeldDoes, GetsIn, Stays};
 
 use crate::caller::Caller;
-use crate::guard::GrownGuard;
 use crate::chunk_member::{
     fetch_at, fetch_into_at, get_at, get_guard_at, read_at, read_guard_at, read_into_at,
     release_at, release_guard_at, remove_at, take_into_at,
 };
+use crate::guard::GrownGuard;
 use sh_chunk::Chunked;
 use sh_value::{Hold, Refusal, Value};
 

@@ -56,7 +56,7 @@ module _ (layout : Layout) (shape : Numbers) (is_layout : IsLayout layout) (is_s
   pub home_is : (q : ℕ) → own work_plan (own_body n.owner) q ≡ true → n.shard ≡ shard_of work_plan q
   home_is q mine =
       let both : Some n.shard ≡ Some (shard_of work_plan q) = sym owned ∙ owns_is work_plan (own_body n.owner) q mine in
-          cc
+      cc
 
   -- ---- a link that was not written
 

@@ -18,10 +18,10 @@ mod program;
 #[cfg(test)]
 mod settle;
 #[cfg(test)]
+mod state_text;
+#[cfg(test)]
 mod steps;
 #[cfg(test)]
 mod tests;
-#[cfg(test)]
-mod state_text;
 #[cfg(test)]
 mod walk;
