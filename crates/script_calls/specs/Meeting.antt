@@ -7,6 +7,7 @@ use Rattle.script_calls.specs.OwnParts.{EndsWith, own_part, taken_in}
 use Rattle.script_calls.specs.Parts.{RunTerms, PassPart, SeenPass, PassTold, HasWholeTale, tale_told}
 use Rattle.script_calls.specs.Receipts.{MayHeed}
 use Rattle.sh_pass.specs.Own.{Own}
+use Rattle.sh_pass.specs.Passes.{Caller}
 use Rattle.sh_pass.specs.Told.{Told}
 use Rattle.sh_pass.specs.Order.{Order}
 use Rattle.sh_pass.specs.Seats.{Heap}
@@ -77,6 +78,15 @@ SomeWaits ss = (i : ℕ) × (s : SeenPass) × (slice_get ss i ≡ Some s)
 -- the own parts of all passes that this one speaks for
 abbrev pub parts_carried : SeenPass → List Told
 parts_carried s = record { pass = s.pass; own = own_part s.part.stands } ∷ taken_in s.part.stands
+
+-- the bundle that a pass opens is of its heap, and has no pass yet
+abbrev pub OpensFor : SeenPass → Caller → Type 0
+OpensFor s b = (Some b.heap ≡ s.heap) × (b.view.shape ≡ s.terms.shape) × (b.view.told ≡ [])
+
+-- the bundle gets the own parts of all passes that this one speaks for, and what it heard
+abbrev pub BindsSide : SeenPass → Caller → Caller → Type 0
+BindsSide s b c = (c.heap ≡ b.heap) × (c.view.shape ≡ b.view.shape) × (c.view.told ≡ b.view.told ++ parts_carried s)
+    × (c.view.orders ≡ b.view.orders ++ s.orders)
 
 -- the result of meeting a carrier, if there is one, carries the own parts of both
 abbrev pub JoinsParts : Option SeenPass → SeenPass → SeenPass → Type 0
