@@ -47,7 +47,7 @@ pub orders_heed : (last : Option Caller) (s c : SeenPass) → HeedsLast last s c
 orders_heed None s c e o h = subst (λ (z : SeenPass). Contains z.orders o) (sym e) h
 orders_heed (Some r) s c e o h = heeds_keeps r s c e o h
 
-own_heeds : (last : Option Caller) (s c : SeenPass) → HeedsLast last s c
+pub own_heeds : (last : Option Caller) (s c : SeenPass) → HeedsLast last s c
     → own_part c.part.stands ≡ own_part s.part.stands
 own_heeds None s c e = ap (λ (z : SeenPass). own_part z.part.stands) e
 own_heeds (Some r) s c e = (side_heeds r s.part.stands c.part.stands e.part.stands).0
@@ -236,3 +236,10 @@ pub hearing_told : (heap : Option Heap) (terms : RunTerms) (first : Option Calle
     → (ss ≡ []) ⊎ AreInHistory terms ss
 hearing_told heap terms first ss n ts last past was =
     subst (λ (z : List SeenPass). (z ≡ []) ⊎ AreInHistory terms z) (take_past ss n past) was.history
+
+-- the last receipt contains all that they made and did
+pub hearing_knows : (heap : Option Heap) (terms : RunTerms) (first : Option Caller) (ss : List SeenPass) (n : ℕ)
+    (ts : List SeenPass) (last : Option Caller) → length ss ≤ n → HeardSoFar heap terms first ss n ts last
+    → LastKnows first ss last
+hearing_knows heap terms first ss n ts last past was =
+    subst (λ (z : List SeenPass). LastKnows first z last) (take_past ss n past) was.knows

@@ -33,7 +33,7 @@ pub type HeapMember<'a, L> = Member<L, &'a Heap<L>>;
 pub struct Ran {
     /// The reply lines, and the account lines after them.
     pub output: Vec<u8>,
-    /// Whether an owner could not leave at the end.
+    /// Whether an owner could not leave at the end. That never is so.
     pub is_waiting: bool,
 }
 
@@ -130,8 +130,8 @@ fn told<L: KeyLayout>(
     Ok(output)
 }
 
-/// What is written for lines that ran: their replies, and after them the accounts, if they are asked for and all owners
-/// could leave.
+/// What is written for lines that ran: their replies, and after them the accounts, if they are asked for. All owners
+/// could leave: no run of the core leads to a refusal there.
 pub fn gathered<L: KeyLayout>(
     output: Vec<u8>,
     carrier: Option<HeapMember<'_, L>>,
@@ -145,10 +145,7 @@ pub fn gathered<L: KeyLayout>(
     ensures memory { IfErr result (λ fault. fault ≡ Fault.Memory) }
 {
     let Some(carrier) = carrier else {
-        return Ok(Ran {
-            output,
-            is_waiting: true,
-        });
+        unreachable!()
     };
     match told(output, carrier, asked) {
         Ok(output) => Ok(Ran {

@@ -1,7 +1,7 @@
 //! What follows from the fact that a run has just the steps that its passes did.
 ghost use Rattle.script_heap.specs.OwnSteps.{LoneAdoptIsNotTaken, FirstInsertIsNotFull, TwoAdoptsAreNotDone};
 ghost use Rattle.script_heap.specs.OwnSteps.{LeaveIsNotWaiting};
-ghost use Rattle.script_heap.specs.Owners.{LinesKeepOwnersApart};
+ghost use Rattle.script_heap.specs.Owners.{LinesKeepOwnersApart, NoPassIsStuck};
 ghost use Rattle.script_heap.specs.Rooms.{LinesFindRoom, LinesSeeRoom, RoomExcludes};
 
 /// If a script consists of one adopt, no other pass does a step. So the adopt finds no owner, and its answer is not
@@ -16,6 +16,12 @@ pub fn lone_adopt_is_not_taken()
 /// owns a shard, and never `Waiting`.
 pub fn lines_keep_owners_apart()
     ensures { LinesKeepOwnersApart }
+{}
+
+/// No pass is refused when it leaves its shard at the end of a run, in one thread or in many. Each pass leaves after it
+/// heard of all that the others did. So no other pass is in the middle of anything, and none does a step meanwhile.
+pub fn no_pass_is_stuck()
+    ensures { NoPassIsStuck }
 {}
 
 /// In a run of mode heap an insert is `Full` only if its pass owns a shard that has no room for the value's class. Each

@@ -19,7 +19,7 @@ use std::io::{Read, Write};
 use std::sync::Wait;
 use std::thread::Threads;
 
-// The result of a script's run in one thread, with whether an owner could not leave at its end.
+// The result of a script's run in one thread. Its owners can leave at its end.
 fn output(alloc: Global, text: &[u8], mode: Mode, accounts: bool) -> Result<Ran, Fault>
     requires { mode ≢ Mode.Threads }
     ensures output { IfOk result (λ r. IsRunOf mode accounts text.now r.output.items r.is_waiting) }
@@ -57,7 +57,7 @@ fn output_gated<R: Threads + Wait + Sync, G: Gate + Sync>(
     }
 }
 
-// Writes the result of a script's run. If an owner could not leave, the run then ends as waiting.
+// Writes the result of a script's run. If an owner could not leave, which never is so, the run then ends as waiting.
 fn write_ran<W: Write>(writer: &mut W, ran: &Ran) -> Result<(), Fault>
     ensures ok { OnOk result ((ran.now.is_waiting ≡ false)
         × Appends (W.contents writer.old) (W.contents writer.new) ran.now.output.items) }
@@ -74,9 +74,8 @@ fn write_ran<W: Write>(writer: &mut W, ran: &Ran) -> Result<(), Fault>
 /// Reads a script, runs it in one thread, in a mode other than threads, and writes its replies.
 ///
 /// It reads until a read gives no byte, or 1,048,577 bytes, and parses the whole script before anything runs. The fault
-/// is the first fault of the script, or `Memory`, or `Io` if a read or a write failed. In mode heap it may also be
-/// `Waiting`, if an owner could not leave once all replies were written. The flag asks for accounts; mode plain has
-/// none.
+/// is the first fault of the script, or `Memory`, or `Io` if a read or a write failed. It is never `Waiting`, since all
+/// owners can leave once the lines have run. The flag asks for accounts; mode plain has none.
 pub fn replay_alone<R: Read, W: Write>(
     alloc: Global,
     reader: &mut R,
@@ -87,7 +86,7 @@ pub fn replay_alone<R: Read, W: Write>(
     requires mode { mode ≢ Mode.Threads }
 
     // If the run ends well, what was read is a script, and the output of its run was written. Otherwise it ends with a
-    // fault of the script; or, even with a script, with want of memory, a failed end, or an owner that could not leave.
+    // fault of the script; or, even with a script, with want of memory or a failed end.
     ensures ends { (input : List ℕ) → R.remaining reader.old ≡ Some input → Replays mode accounts (take 1048577 input)
         result (W.contents writer.old) (W.contents writer.new) }
     ensures reads { ReadsAtMostBytes (R.remaining reader.old) (R.remaining reader.new) 1048577 }

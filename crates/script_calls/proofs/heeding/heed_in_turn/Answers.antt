@@ -2,7 +2,8 @@ use Rattle.std.proofs.Common.{arith, ◌≡◌, ◌<◌, ◌≤◌, ◌∙◌, �
 use Rattle.std.specs.Option.{option_map}
 use Rattle.std.proofs.lemmas.Grind.{common_steps}
 use Rattle.std.proofs.lemmas.Option.{gets, slice_get-map}
-use Rattle.script_calls.proofs.HearLaws.{hearing_begins, hearing_ends, hearing_told, heeded_more, last_of_side}
+use Rattle.script_calls.proofs.HearLaws.{hearing_begins, hearing_ends, hearing_told, hearing_knows}
+use Rattle.script_calls.proofs.HearLaws.{heeded_more, last_of_side}
 use Rattle.script_calls.proofs.InTurn.{map_set}
 use Rattle.script_calls.proofs.Newcomers.{length_map}
 use Rattle.script_calls.proofs.heeding.heed_in_turn.Goals as goal
@@ -63,4 +64,19 @@ returns-clause-told g c =
     ends c.loop-place.place c.len-count.result (length (map seen c.args.sides.items)) (length c.args.sides.items)
     c.loop-place-test.false count (length_map seen c.args.sides.items) in
     hearing_told g.at.0 g.at.1 c.args.last (map seen c.args.sides.items) c.loop-place.place
+    (map seen c.loop-place.sides.items) c.loop-place.heard past c.loop-place.invariant
+
+pub returns-clause-of : goal.returns-clause-of
+returns-clause-of g c = c.loop-place.invariant.of
+
+pub returns-clause-knows : goal.returns-clause-knows
+returns-clause-knows g c =
+    let seen = g.S.Side.seen in
+    let many = c.args.sides.ok.0 in
+    let counted = c.len-count.ensures in
+    let count : c.len-count.result ≡ length c.args.sides.items = omega (arith, many, counted) in
+    let past : length (map seen c.args.sides.items) ≤ c.loop-place.place =
+    ends c.loop-place.place c.len-count.result (length (map seen c.args.sides.items)) (length c.args.sides.items)
+    c.loop-place-test.false count (length_map seen c.args.sides.items) in
+    hearing_knows g.at.0 g.at.1 c.args.last (map seen c.args.sides.items) c.loop-place.place
     (map seen c.loop-place.sides.items) c.loop-place.heard past c.loop-place.invariant
