@@ -168,8 +168,6 @@ class Phased:
         if ran is None:
             return ["a run of phases did not end"]
         status, output = ran
-        if status == 3 and "leave refused 11 Waiting" in output:
-            return []  # (then an owner may be left at the end, and there are no account lines)
         if status != 0:
             return [f"a run of phases ended with status {status}"]
         answered = self.answered(output)

@@ -13,10 +13,11 @@ use Rattle.sh_pass.specs.Passes.{Caller}
 use Rattle.sh_member.specs.declared.member.Side.TheVariants.{Pass, Shard, Moving}
 use Rattle.sh_member.specs.Sides.{SeenSide, SideLeaves}
 use Rattle.script_calls.specs.OwnParts.{EndsWith, own_part, taken_in}
-use Rattle.script_calls.specs.Parts.{RunTerms, PassPart, SeenPass, SamePass}
+use Rattle.script_calls.specs.Parts.{RunTerms, PassPart, SeenPass}
 use Rattle.script_calls.specs.Receipts.{MayHeed, SideHeeded}
 use Rattle.script_calls.specs.Calls.{LeaveAnswers}
-use Rattle.script_calls.specs.Meeting.{JoinsParts, EndsAmong, EndedAmong, HasEnded, CarriesEnd, parts_carried}
+use Rattle.script_calls.specs.Meeting.{JoinsParts, EndsAmong, EndedAmong, HasEnded, CarriesEnd, CarriesOwn}
+use Rattle.script_calls.specs.Meeting.{parts_carried}
 use Rattle.script_calls.specs.Alone.{AnsweredSoFar}
 use Rattle.script_calls.specs.Heeding.{AllHeedInTurn}
 use Rattle.script_calls.proofs.ListLemmas.{get_some, map_more}
@@ -44,53 +45,39 @@ ends_without_shard v w h = pass_so v.stands w.stands h.1
 
 -- ---- meeting
 
-more_told : (s : SeenPass) (xs ys : List Told) → ((t : Told) → Contains xs t → Contains ys t)
-    → EndsAmong xs s.pass s.part → EndsAmong ys s.pass s.part
-more_told s xs ys more h = (h.0, h.1, more (record { pass = s.pass; own = h.0 }) h.2)
-
 first_told : (x : Told) (xs : List Told) → Contains (x ∷ xs) x
 first_told x xs = (0, omega arith, refl)
 
-pub ended_more : {S : Type 0} (seen : S → SeenPass) (ys : List S) (x : S) (side r : SeenPass) (o : Option SeenPass)
-    → All (CarriesEnd o) (map seen ys) → SamePass (seen x) side
-    → EndsWith (seen x).part.stands (own_part side.part.stands) → JoinsParts o side r
+pub own_more : {S : Type 0} (seen : S → SeenPass) (ys : List S) (x : S) (r : SeenPass) (o : Option SeenPass)
+    → All (CarriesEnd o) (map seen ys) → JoinsParts o (seen x) r
     → All (CarriesEnd (Some r)) (map seen (ys ++ x ∷ []))
-ended_more seen ys x side r o h same ends meets =
-    subst (All (CarriesEnd (Some r))) (sym (map_more seen ys x)) (go o h meets)
+own_more seen ys x r o h meets = subst (All (CarriesEnd (Some r))) (sym (map_more seen ys x)) (go o h meets)
   where
     told : Told
-    told = record { pass = (seen x).pass; own = own_part side.part.stands }
+    told = record { pass = (seen x).pass; own = own_part (seen x).part.stands }
 
-    its : record { pass = side.pass; own = own_part side.part.stands } ≡ told
-    its = ap (λ (z : SeenPass). record { pass = z.pass; own = own_part side.part.stands }) same
+    here : Contains (parts_carried (seen x)) told
+    here = first_told told (taken_in (seen x).part.stands)
 
-    here : Contains (parts_carried side) told
-    here = subst (Contains (parts_carried side)) its
-        (first_told (record { pass = side.pass; own = own_part side.part.stands }) (taken_in side.part.stands))
-
-    go : (o : Option SeenPass) → All (CarriesEnd o) (map seen ys) → JoinsParts o side r
+    go : (o : Option SeenPass) → All (CarriesEnd o) (map seen ys) → JoinsParts o (seen x) r
         → All (CarriesEnd (Some r)) (map seen ys ++ seen x ∷ [])
     go None h meets = All-push (CarriesEnd (Some r)) (map seen ys) (seen x)
         (All-weaker (CarriesEnd None) (CarriesEnd (Some r)) (λ s e. absurd e) (map seen ys) h)
-        (own_part side.part.stands, ends, subst (λ (z : SeenPass). Contains (parts_carried z) told) (sym meets) here)
+        (subst (λ (z : SeenPass). Contains (parts_carried z) told) (sym meets) here)
     go (Some c) h meets =
         let left : (t : Told) → Contains (parts_carried c) t → Contains (parts_carried r) t = λ t k.
         subst (λ (z : List Told). Contains z t) (sym meets)
-        (Contains-append_left (parts_carried c) (parts_carried side) t k) in
+        (Contains-append_left (parts_carried c) (parts_carried (seen x)) t k) in
         All-push (CarriesEnd (Some r)) (map seen ys) (seen x)
         (All-weaker (CarriesEnd (Some c)) (CarriesEnd (Some r))
-        (λ s e. more_told s (parts_carried c) (parts_carried r) left e)
-        (map seen ys) h) (
-          own_part side.part.stands,
-          ends,
-          subst (λ (z : List Told). Contains z told) (sym meets)
-              (Contains-append_right (parts_carried c) (parts_carried side) told here),
-        )
+        (λ s e. left (record { pass = s.pass; own = own_part s.part.stands }) e) (map seen ys) h)
+        (subst (λ (z : List Told). Contains z told) (sym meets)
+        (Contains-append_right (parts_carried c) (parts_carried (seen x)) told here))
 
-pub all_ended : {S : Type 0} (seen : S → SeenPass) (all ys : List S) (c : SeenPass) (o : Option SeenPass) → ys ≡ all
-    → o ≡ Some c → All (CarriesEnd o) (map seen ys) → All (HasEnded c) (map seen all)
-all_ended seen all ys c o yielded is h =
-    subst (λ (z : List _). All (HasEnded c) (map seen z)) yielded
+pub all_own : {S : Type 0} (seen : S → SeenPass) (all ys : List S) (c : SeenPass) (o : Option SeenPass) → ys ≡ all
+    → o ≡ Some c → All (CarriesEnd o) (map seen ys) → All (CarriesOwn c) (map seen all)
+all_own seen all ys c o yielded is h =
+    subst (λ (z : List _). All (CarriesOwn c) (map seen z)) yielded
     (subst (λ (q : Option SeenPass). All (CarriesEnd q) (map seen ys)) is h)
 
 -- ---- heeding
@@ -103,7 +90,7 @@ side_heeds r Moving y h = absurd h
 
 -- ---- the end
 
-at_all : {A : Type 0} (P : A → Type 0) (xs : List A) (k : ℕ) (x : A) → slice_get xs k ≡ Some x → All P xs → P x
+pub at_all : {A : Type 0} (P : A → Type 0) (xs : List A) (k : ℕ) (x : A) → slice_get xs k ≡ Some x → All P xs → P x
 at_all P [] k x e h = absurd (none-some x e)
 at_all P (y ∷ ys) zero x e h = subst P (same_Some y x e) (All-head P y ys h)
 at_all P (y ∷ ys) (suc k) x e h = at_all P ys k x e (All-tail P y ys h)
@@ -123,7 +110,11 @@ parts_ended heap terms tag lines i numbers sides output h last ts hear c all p l
     let is = h.each p was.0 was.1 in
     let ended : HasEnded c now.0 = at_all (HasEnded c) ts p now.0 now.1 all in
     let pass : now.0.pass ≡ p = ap (λ (z : SeenPass). z.pass) heard.is ∙ ap (λ (z : SeenPass). z.pass) is in (
-      now.0.part,
-      subst (λ (v : PassPart). MayHeed v now.0.part) (ap (λ (z : SeenPass). z.part) is) heard.heeds,
-      subst (λ (q : ℕ). EndsAmong (parts_carried c) q now.0.part) pass ended,
+      ended.0,
+      (
+        now.0.part,
+        subst (λ (v : PassPart). MayHeed v now.0.part) (ap (λ (z : SeenPass). z.part) is) heard.heeds,
+        ended.1,
+      ),
+      subst (λ (q : ℕ). EndsAmong (parts_carried c) q ended.0) pass ended.2,
     )

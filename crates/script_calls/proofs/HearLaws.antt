@@ -1,32 +1,26 @@
 -- Passes that hear of one another, one after the other.
-use Rattle.std.proofs.Common.{◌≡◌, ◌≢◌, ℕ, zero, suc, ◌+◌, ◌<◌, ◌≤◌, ◌⊎◌, List, [], ◌∷◌, ◌++◌, length, take, set}
-use Rattle.std.proofs.Common.{map, slice_get, Option, Some, None, sym, refl, ap, ◌∙◌, subst, arith, append-nil}
-use Rattle.std.proofs.Common.{length-set, add-one, inl, inr, ⊎_elim}
+use Rattle.std.proofs.Common.{◌≡◌, ◌≢◌, ℕ, zero, suc, ◌+◌, ◌<◌, ◌≤◌, List, [], ◌∷◌, ◌++◌, length, take, set, map}
+use Rattle.std.proofs.Common.{slice_get, Option, Some, None, sym, refl, ap, ◌∙◌, subst, arith, length-set, add-one}
+use Rattle.std.proofs.Common.{inl, inr, ⊎_elim}
 use Rattle.std.specs.List.{Contains}
 use Rattle.std.proofs.lemmas.List.Elements.{Contains-append_left, Contains-append_right, Contains-push}
 use Rattle.std.proofs.lemmas.Option.{none-some, same_Some, slice_get_within}
 use mathlib.Core.Logic.{dite}
 use native.Mathlib.Decide.{ℕ_discrete}
-use Rattle.sh_pass.specs.Entry.{Entry}
-use Rattle.sh_pass.specs.History.{Legal}
 use Rattle.sh_pass.specs.Order.{Order}
 use Rattle.sh_pass.specs.Seats.{Heap}
-use Rattle.sh_pass.specs.Tales.{by, HasFirst, Before}
 use Rattle.sh_pass.specs.Views.{heard_in}
-use Rattle.sh_pass.proofs.Hearing.{heard_before}
 use Rattle.sh_pass.proofs.Sums.Totals.{get_set_here}
 use Rattle.sh_pass.proofs.Zips.{set_other}
 use Rattle.sh_pass.proofs.Standing.{contains_map}
-use Rattle.sh_pass.proofs.OrderLaws.{each_in}
 use Rattle.sh_pass.specs.Passes.{Caller}
 use Rattle.script_calls.specs.OwnParts.{own_part}
 use Rattle.script_calls.specs.Parts.{RunTerms, SeenPass}
 use Rattle.script_calls.specs.Receipts.{SeenReceipt, seen_of_receipt, receipt_seen, order_seen, part_heard, taken_heard}
-use Rattle.script_calls.specs.Receipts.{MayHeed, HasOrderedTale}
+use Rattle.script_calls.specs.Receipts.{MayHeed}
 use Rattle.script_calls.specs.Meeting.{AllOfHeap, KeepsOrders}
 use Rattle.script_calls.specs.Alone.{HeedsLast, IsLastOf}
-use Rattle.script_calls.specs.Heeding.{CoversReceipt, HeedsInTurn, AllHeedInTurn, AreInHistory, KnowsReceipt, LastKnows}
-use Rattle.script_calls.specs.Heeding.{HeardSoFar}
+use Rattle.script_calls.specs.Heeding.{CoversReceipt, HeedsInTurn, AllHeedInTurn, KnowsReceipt, LastKnows, HeardSoFar}
 use Rattle.script_calls.proofs.EndLaws.{side_heeds}
 use Rattle.script_calls.proofs.ListLemmas.{get_some, get_snoc, take_at, take_past}
 use Rattle.script_calls.proofs.NameLemmas.{heeds_keeps, heeded_order, may_log}
@@ -47,7 +41,7 @@ pub orders_heed : (last : Option Caller) (s c : SeenPass) → HeedsLast last s c
 orders_heed None s c e o h = subst (λ (z : SeenPass). Contains z.orders o) (sym e) h
 orders_heed (Some r) s c e o h = heeds_keeps r s c e o h
 
-own_heeds : (last : Option Caller) (s c : SeenPass) → HeedsLast last s c
+pub own_heeds : (last : Option Caller) (s c : SeenPass) → HeedsLast last s c
     → own_part c.part.stands ≡ own_part s.part.stands
 own_heeds None s c e = ap (λ (z : SeenPass). own_part z.part.stands) e
 own_heeds (Some r) s c e = (side_heeds r s.part.stands c.part.stands e.part.stands).0
@@ -93,7 +87,7 @@ of_at heap terms (x ∷ xs) (suc p) s all e = of_at heap terms xs p s all.2 e
 -- ---- one pass more
 
 module _ (heap : Option Heap) (terms : RunTerms) (first : Option Caller) (ss : List SeenPass) (n : ℕ)
-    (ts : List SeenPass) (last : Option Caller) (was : HeardSoFar heap terms first ss n ts last)
+    (ts : List SeenPass) (last : Option Caller) (was : HeardSoFar heap first ss n ts last)
     (all : AllOfHeap heap terms ss) (side : SeenPass) (at : slice_get ts n ≡ Some side) where
   pub side_at : slice_get ss n ≡ Some side
   side_at =
@@ -107,11 +101,9 @@ module _ (heap : Option Heap) (terms : RunTerms) (first : Option Caller) (ss : L
   last_of_side = last_is_of heap side.heap last (of_at heap terms ss n side all side_at).0 was.of
 
   module _ (mid : SeenPass) (heeds : HeedsLast last side mid) where
-    mid_of : (mid.heap ≡ heap) × (mid.terms ≡ terms)
-    mid_of =
-        let only = orders_only last side mid heeds in
-        let of = of_at heap terms ss n side all side_at in
-        (ap (λ (z : SeenPass). z.heap) only ∙ of.0, ap (λ (z : SeenPass). z.terms) only ∙ of.1)
+    mid_heap : mid.heap ≡ heap
+    mid_heap = ap (λ (z : SeenPass). z.heap) (orders_only last side mid heeds)
+        ∙ (of_at heap terms ss n side all side_at).0
 
     covered : (first last : Option Caller) → LastKnows first (take n ss) last → HeedsLast last side mid
         → CoversReceipt first side mid
@@ -166,24 +158,9 @@ module _ (heap : Option Heap) (terms : RunTerms) (first : Option Caller) (ss : L
           (subst (Contains (receipt_seen mid).heard) (heard_same last side mid heeds) (own_heard mid))),
     )
 
-    history_more : HasOrderedTale mid → AreInHistory terms (take (n + 1) ss)
-    history_more stands =
-        let history : List Entry = stands.whole.history in
-        let own : HasFirst history (part_heard mid.pass mid.part) =
-        (by mid.pass history, [], sym (append-nil (by mid.pass history)), stands.whole.has.0) in
-        record {
-          history = history;
-          legal = subst (λ (t : RunTerms). Legal t.shape.passes t.layout.guard_max history) mid_of.1 stands.whole.legal;
-          first = one_of (λ s. HasFirst history (part_heard s.pass s.part))
-              (λ p s e. heard_before history (order_seen side (part_heard s.pass s.part))
-              (each_in (Before history) mid.orders (order_seen side (part_heard s.pass s.part))
-              (earlier last was.knows heeds p s e) stands.orders))
-              (subst (HasFirst history) (heard_same last side mid heeds) own);
-        }
-
-    pub heeded_more : HasOrderedTale mid → (new : List SeenPass) (r : Caller) → new ≡ set ts n mid
-        → seen_of_receipt r ≡ receipt_seen mid → HeardSoFar heap terms first ss (n + 1) new (Some r)
-    heeded_more stands new r put tells = record {
+    pub heeded_more : (new : List SeenPass) (r : Caller) → new ≡ set ts n mid → seen_of_receipt r ≡ receipt_seen mid
+        → HeardSoFar heap first ss (n + 1) new (Some r)
+    heeded_more new r put tells = record {
       all = ap length put ∙ (length-set ts n mid ∙ was.all);
       done = λ p s t less e f.
           let g : slice_get (set ts n mid) p ≡ Some t = ap (λ (z : List SeenPass). slice_get z p) (sym put) ∙ f in
@@ -192,9 +169,8 @@ module _ (heap : Option Heap) (terms : RunTerms) (first : Option Caller) (ss : L
       left = λ p s t le e f.
           let g : slice_get (set ts n mid) p ≡ Some t = ap (λ (z : List SeenPass). slice_get z p) (sym put) ∙ f in
           was.left p s t (omega (arith, le)) e (sym (set_other ts n p mid (λ is. omega (arith, le, is))) ∙ g);
-      of = ap (λ (z : SeenReceipt). z.heap) tells ∙ mid_of.0;
+      of = ap (λ (z : SeenReceipt). z.heap) tells ∙ mid_heap;
       knows = knows_more r tells;
-      history = inr (history_more stands);
     }
       where
         here : (p : ℕ) (s t : SeenPass) → p ≡ n → slice_get ss p ≡ Some s → slice_get (set ts n mid) p ≡ Some t
@@ -212,27 +188,25 @@ knows_itself : (first : Option Caller) → LastKnows first [] first
 knows_itself None = (refl, refl)
 knows_itself (Some q) = ((λ h c. c, λ o c. c), λ p s e. absurd (none-some s e))
 
-pub hearing_begins : (heap : Option Heap) (terms : RunTerms) (first : Option Caller) (ss : List SeenPass)
-    → IsLastOf heap first → HeardSoFar heap terms first ss 0 ss first
-hearing_begins heap terms first ss of = record {
+pub hearing_begins : (heap : Option Heap) (first : Option Caller) (ss : List SeenPass) → IsLastOf heap first
+    → HeardSoFar heap first ss 0 ss first
+hearing_begins heap first ss of = record {
   all = refl;
   done = λ p s t less e f. absurd (omega (arith, less));
   left = λ p s t le e f. same_Some t s (sym f ∙ e);
   of = of;
   knows = knows_itself first;
-  history = inl refl;
 }
 
-pub hearing_ends : (heap : Option Heap) (terms : RunTerms) (first : Option Caller) (ss : List SeenPass) (n : ℕ)
-    (ts : List SeenPass) (last : Option Caller) → length ss ≤ n → HeardSoFar heap terms first ss n ts last
-    → AllHeedInTurn first ss ts
-hearing_ends heap terms first ss n ts last past was = record {
+pub hearing_ends : (heap : Option Heap) (first : Option Caller) (ss : List SeenPass) (n : ℕ) (ts : List SeenPass)
+    (last : Option Caller) → length ss ≤ n → HeardSoFar heap first ss n ts last → AllHeedInTurn first ss ts
+hearing_ends heap first ss n ts last past was = record {
   all = was.all;
   each = λ p s t e f. let inside = slice_get_within ss p s e in was.done p s t (omega (arith, inside, past)) e f;
 }
 
-pub hearing_told : (heap : Option Heap) (terms : RunTerms) (first : Option Caller) (ss : List SeenPass) (n : ℕ)
-    (ts : List SeenPass) (last : Option Caller) → length ss ≤ n → HeardSoFar heap terms first ss n ts last
-    → (ss ≡ []) ⊎ AreInHistory terms ss
-hearing_told heap terms first ss n ts last past was =
-    subst (λ (z : List SeenPass). (z ≡ []) ⊎ AreInHistory terms z) (take_past ss n past) was.history
+-- the last receipt contains all that they made and did
+pub hearing_knows : (heap : Option Heap) (first : Option Caller) (ss : List SeenPass) (n : ℕ) (ts : List SeenPass)
+    (last : Option Caller) → length ss ≤ n → HeardSoFar heap first ss n ts last → LastKnows first ss last
+hearing_knows heap first ss n ts last past was =
+    subst (λ (z : List SeenPass). LastKnows first z last) (take_past ss n past) was.knows

@@ -17,15 +17,16 @@ use Rattle.script_output.specs.Replies.{reply_line, replies_text}
 use Rattle.script_calls.specs.Runs.{CallsRun, LineAnswered, LinesAnswered, opening_calls, next_run, with_part}
 use Rattle.script_calls.specs.Runs.{with_number}
 use Rattle.script_calls.specs.Runs.{number_meant}
-use Rattle.script_calls.specs.Receipts.{MayHeed, part_heard}
-use Rattle.script_calls.specs.Heeding.{AllHeedInTurn, AreInHistory}
+use Rattle.script_calls.specs.Receipts.{MayHeed}
+use Rattle.script_calls.specs.Heeding.{AllHeedInTurn}
+use Rattle.script_calls.specs.Leaving.{AreStuck, EndInTurn}
 use Rattle.script_calls.specs.Stepping.{StepsInTurn}
 use Rattle.script_calls.specs.Told.{AreReplies, part_told}
-use Rattle.script_calls.specs.Meeting.{HasMet, HasEnded, SomeWaits, tales_told, AllOfHeap, orders_of}
+use Rattle.script_calls.specs.Meeting.{HasMet, HasEnded, tales_told, AllOfHeap, orders_of}
 use Rattle.script_calls.proofs.EndLaws.{parts_ended}
 use Rattle.script_calls.specs.Named.{NamesWereHeard}
 use Rattle.script_calls.specs.Alone.{seen_with_part, AnsweredSoFar}
-use Rattle.script_calls.specs.Finished.{CarrierRan, AreWaiting, LinesRan, IsNamedBy, IsOrderedBy}
+use Rattle.script_calls.specs.Finished.{AllAreStuck, CarrierRan, LinesRan, IsNamedBy, IsOrderedBy}
 use Rattle.script_calls.proofs.ListLemmas.{get_some, take_at, take_past, up_length}
 use Rattle.script_calls.proofs.ListLemmas.{up_get}
 use Rattle.script_calls.proofs.HeardAll.{met_of_heard}
@@ -33,7 +34,6 @@ use Rattle.script_calls.proofs.NameLaws.{named_by}
 use Rattle.script_calls.proofs.LineLemmas.{one_more, part_here, part_there}
 use Rattle.script_calls.proofs.Newcomers.{newcomers_length, newcomers_get, length_map}
 use Rattle.sh_pass.specs.Seats.{Heap}
-use Rattle.sh_pass.specs.Tales.{HasFirst}
 use Rattle.sh_pass.specs.Passes.{Caller}
 use Rattle.sh_pass.proofs.Sums.Totals.{get_set_here}
 use Rattle.sh_pass.proofs.Zips.{set_other}
@@ -236,82 +236,55 @@ carrier_ran alone heap terms tag lines i numbers sides output c last ts past fit
       steps = λ e. (ordered e).1;
     }
 
--- what holds of what is seen of the carrier, if there is one
-some_met : {S : Type 0} {P : S → Type 0} (seen : S → SeenPass) (Q : SeenPass → Type 0) → ((s : S) → P s → Q (seen s))
-    → (o : Option S) → IfSome o P → IfSome (option_map seen o) Q
-some_met seen Q f None h = h
-some_met seen Q f (Some s) h = f s h
-
-both_met : {S : Type 0} (P Q : S → Type 0) (o : Option S) → IfSome o P → IfSome o Q → IfSome o (λ s. P s × Q s)
-both_met P Q None p q = tt
-both_met P Q (Some s) p q = (p, q)
+-- what holds of the carrier, if there is one
+some_met : (P Q R : SeenPass → Type 0) → ((s : SeenPass) → P s → Q s → R s) → (o : Option SeenPass) → IfSome o P
+    → IfSome o Q → IfSome o R
+some_met P Q R f None p q = tt
+some_met P Q R f (Some s) p q = f s p q
 
 -- the same if there is none
-none_met : {S : Type 0} {P Q : Type 0} (seen : S → SeenPass) → (P → Q) → (o : Option S) → IfNone o P
-    → IfNone (option_map seen o) Q
-none_met seen f None h = f h
-none_met seen f (Some s) h = h
+none_met : {P Q : Type 0} → (P → Q) → (o : Option SeenPass) → IfNone o P → IfNone o Q
+none_met f None h = f h
+none_met f (Some s) h = h
 
-module _ (heap : Option Heap) (terms : RunTerms) (tag : Option ℕ) (lines : List CallLine) (i : ℕ)
+-- why no pass carries the tale
+lines_stay : (heap : Option Heap) (terms : RunTerms) (tag : Option ℕ) (lines : List CallLine) (i : ℕ)
     (numbers : List (Option ℕ)) (sides : List SeenPass) (output : List ℕ) (last : Option Caller) (ts : List SeenPass)
-    (past : length lines ≤ i) (h : AnsweredSoFar heap terms tag lines i numbers sides output)
-    (hear : AllHeedInTurn last sides ts) (told : (sides ≡ []) ⊎ AreInHistory terms sides) where
-  -- the leave of this pass was refused
-  waits_so : SomeWaits ts → AreWaiting heap terms tag lines output
-  waits_so o =
-      let inside = slice_get_within ts o.0 o.1 o.2 in
-      let same : length ts ≡ length sides = hear.all in
-      let few : o.0 < length sides = omega (arith, inside, same) in
-      let was = get_some sides o.0 few in
-      let heard = hear.each o.0 was.0 o.1 was.1 o.2 in
-      let is = h.each o.0 was.0 was.1 in
-      let all : AreInHistory terms sides = ⊎_elim
-      (λ (e : sides ≡ []). absurd (let none : length sides ≡ 0 = ap length e in omega (arith, none, few)))
-      (λ (a : AreInHistory terms sides). a) told in
-      record {
-        replies = ends_alone heap terms tag lines i numbers sides output past h;
-        pass = o.0;
-        begins = o.1.part;
-        heeds = subst (λ (v : PassPart). MayHeed v o.1.part) (ap (λ (z : SeenPass). z.part) is) heard.heeds;
-        stays = o.3.0;
-        waits = o.3.1;
-        history = all.history;
-        legal = all.legal;
-        first = λ p lt.
-            let many : length sides ≡ terms.shape.passes = h.all in
-            let its = get_some sides p (omega (arith, lt, many)) in
-            subst (HasFirst all.history) (ap (λ (z : SeenPass). part_heard z.pass z.part) (h.each p its.0 its.1))
-            (all.first p its.0 its.1);
-      }
+    → AnsweredSoFar heap terms tag lines i numbers sides output → AllHeedInTurn last sides ts
+    → AreStuck terms ts ⊎ (ts ≡ []) → AllAreStuck terms ⊎ (terms.shape.passes ≡ 0)
+lines_stay heap terms tag lines i numbers sides output last ts h hear = ⊎_elim
+    (λ (stuck : AreStuck terms ts). inl (record {
+      passes = ts;
+      all = hear.all ∙ h.all;
+      numbers = numbers_are;
+      stuck = stuck;
+    }))
+    (λ (e : ts ≡ []). inr (sym h.all ∙ (sym hear.all ∙ ap length e)))
+  where
+    numbers_are : (p : ℕ) (s : SeenPass) → slice_get ts p ≡ Some s → s.pass ≡ p
+    numbers_are p s at =
+        let inside = slice_get_within ts p s at in
+        let same : length ts ≡ length sides = hear.all in
+        let was = get_some sides p (omega (arith, inside, same)) in
+        ap (λ (z : SeenPass). z.pass) (hear.each p was.0 s was.1 at).is
+        ∙ ap (λ (z : SeenPass). z.pass) (h.each p was.0 was.1)
 
-  -- which leave was refused, if no pass carries the tale
-  lines_wait : {S : Type 0} (seen : S → SeenPass) (carrier : Option S) → IfNone carrier (SomeWaits ts ⊎ (ts ≡ []))
-      → IfNone (option_map seen carrier) (AreWaiting heap terms tag lines output ⊎ (terms.shape.passes ≡ 0))
-  lines_wait seen carrier stays =
-      none_met seen (⊎_elim (λ (o : SomeWaits ts). inl (waits_so o))
-      (λ (e : ts ≡ []). inr (sym h.all ∙ (sym hear.all ∙ ap length e)))) carrier stays
-
--- what the carrier has if all could meet, and otherwise which leave was refused
-pub lines_ran : {S : Type 0} (seen : S → SeenPass) (alone : Bool) (heap : Option Heap) (terms : RunTerms)
-    (tag : Option ℕ) (lines : List CallLine) (i : ℕ) (numbers : List (Option ℕ)) (sides : List SeenPass)
-    (output : List ℕ) (carrier : Option S) (last : Option Caller) (ts : List SeenPass) → length lines ≤ i
-    → All (λ (l : CallLine). l.pass < terms.shape.passes) lines
-    → (h : AnsweredSoFar heap terms tag lines i numbers sides output) → AllHeedInTurn last sides ts
-    → (sides ≡ []) ⊎ AreInHistory terms sides
-    → ((c : SeenPass) → HasMet heap terms c (tales_told ts) (orders_of ts) → alone ≡ true
+-- what the carrier has if all could meet, and otherwise why they could not
+pub lines_ran : (alone : Bool) (heap : Option Heap) (terms : RunTerms) (tag : Option ℕ) (lines : List CallLine) (i : ℕ)
+    (numbers : List (Option ℕ)) (sides : List SeenPass) (output : List ℕ) (carrier : Option SeenPass)
+    (last : Option Caller) → length lines ≤ i → All (λ (l : CallLine). l.pass < terms.shape.passes) lines
+    → (h : AnsweredSoFar heap terms tag lines i numbers sides output)
+    → (e : EndInTurn heap terms last sides carrier)
+    → ((c : SeenPass) → HasMet heap terms c (tales_told e.heard) (orders_of e.heard) → alone ≡ true
     → IsOrderedBy terms lines h.answers c × StepsInTurn c.orders heap terms tag lines h.answers h.run)
-    → IfSome carrier (λ s. HasMet heap terms (seen s) (tales_told ts) (orders_of ts))
-    → IfSome carrier (λ s. All (HasEnded (seen s)) ts) → IfNone carrier (SomeWaits ts ⊎ (ts ≡ []))
-    → LinesRan alone heap terms tag lines output (option_map seen carrier)
-lines_ran seen alone heap terms tag lines i numbers sides output carrier last ts past fits h hear told ordered met ended
-    stays = record {
-      met = some_met seen (CarrierRan alone heap terms tag lines output) (λ s m.
-          carrier_ran alone heap terms tag lines i numbers sides output (seen s) last ts past fits h hear
-          (ordered (seen s) m.0) m.0 m.1) carrier
-          (both_met (λ s. HasMet heap terms (seen s) (tales_told ts) (orders_of ts))
-          (λ s. All (HasEnded (seen s)) ts) carrier met ended);
-      stays = lines_wait heap terms tag lines i numbers sides output last ts past h hear told seen carrier stays;
-    }
+    → LinesRan alone heap terms tag lines output carrier
+lines_ran alone heap terms tag lines i numbers sides output carrier last past fits h e ordered = record {
+  met = some_met (λ c. HasMet heap terms c (tales_told e.heard) (orders_of e.heard)) (λ c. All (HasEnded c) e.heard)
+      (CarrierRan alone heap terms tag lines output)
+      (λ s m k. carrier_ran alone heap terms tag lines i numbers sides output s last e.heard past fits h e.hear
+      (ordered s m) m k) carrier e.leave.met e.leave.ended;
+  stays = none_met (lines_stay heap terms tag lines i numbers sides output last e.heard h e.hear) carrier e.leave.stays;
+}
 
 pub map_set : {A B : Type 0} (f : A → B) (xs : List A) (k : ℕ) (y : A) → map f (set xs k y) ≡ set (map f xs) k (f y)
 map_set f [] k y = refl
@@ -333,13 +306,3 @@ terms_at heap terms tag lines i numbers sides output h p s e = ap (λ (z : SeenP
 pub passes_are : (parts : ℕ → PassPart) (ns : List ℕ) → map told_pass (map (part_told parts) ns) ≡ ns
 passes_are parts [] = refl
 passes_are parts (n ∷ ns) = ap (λ (z : List ℕ). n ∷ z) (passes_are parts ns)
-
--- they speak for all passes
-pub all_speak : (heap : Option Heap) (terms : RunTerms) (tag : Option ℕ) (lines : List CallLine) (i : ℕ)
-    (numbers : List (Option ℕ)) (sides : List SeenPass) (output : List ℕ)
-    → AnsweredSoFar heap terms tag lines i numbers sides output → map told_pass (tales_told sides)
-    ≡ passes_below terms.shape.passes
-all_speak heap terms tag lines i numbers sides output h =
-    ap (map told_pass) (sym (bare_tales sides) ∙ ap tales_told (sides_are heap terms h.run.parts sides h.all h.each))
-    ∙ (ap (map told_pass) (tales_are heap terms h.run.parts (passes_below terms.shape.passes))
-    ∙ passes_are h.run.parts (passes_below terms.shape.passes))

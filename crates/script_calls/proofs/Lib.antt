@@ -8,6 +8,9 @@ pub mod NameLemmas
 pub mod NameLaws
 pub mod MeetLaws
 pub mod HearLaws
+pub mod LeaveLaws
+pub mod LeftLaws
+pub mod BundleLaws
 pub mod HeardAll
 pub mod InTurn
 pub mod StepLaws

@@ -1,22 +1,18 @@
 -- Passes that meet: what their carrier carries.
-use Rattle.std.proofs.Common.{◌≡◌, ℕ, suc, ◌+◌, List, [], ◌∷◌, ◌++◌, length, map, slice_get, Option, Some, None, sym}
+use Rattle.std.proofs.Common.{◌≡◌, ℕ, suc, ◌+◌, List, [], ◌∷◌, ◌++◌, length, map, Option, Some, None, sym}
 use Rattle.std.proofs.Common.{refl, ap, ◌∙◌, subst, arith, append_assoc, append-nil, length-append, ⊎_elim}
-use Rattle.std.specs.Prelude.{Err, nat_lt, not}
-use Rattle.std.specs.List.{Contains}
+use Rattle.std.specs.Prelude.{nat_lt, not}
+use Rattle.std.specs.List.{All, Contains}
+use Rattle.std.proofs.lemmas.List.Elements.{All-head, All-tail}
 use Rattle.std.proofs.lemmas.List.Elements.{Contains-append_left, Contains-append_right, Contains-append_cases}
 use Rattle.sh_pass.specs.History.{Legal}
 use Rattle.sh_pass.specs.Log.{entries_of}
 use Rattle.sh_pass.specs.Order.{Order}
-use Rattle.sh_value.specs.declared.refusal.Refusal.TheVariants as refusal
-use Rattle.sh_member.specs.Sides.{SeenSide, SideLeaves}
-use Rattle.std.specs.Option.{option_map}
-use Rattle.std.proofs.lemmas.Option.{slice_get-map}
 use Rattle.script_calls.specs.Parts.{RunTerms, SeenPass, PassTold, SamePass, HasAllLogs, tale_told}
 use Rattle.script_calls.specs.Receipts.{HasOrderedTale}
-use Rattle.script_calls.specs.Meeting.{CarriesTale, MeetsCarrier, HasMet, SomeWaits, tales_told, AllOfHeap, KeepsOrders}
-use Rattle.script_calls.specs.Meeting.{CarriesOrders, OwnsNone, orders_of}
+use Rattle.script_calls.specs.Meeting.{CarriesTale, MeetsCarrier, HasMet, tales_told, AllOfHeap, KeepsOrders}
+use Rattle.script_calls.specs.Meeting.{CarriesOrders, IsOfHeap, IsShardless, OwnsNone, orders_of}
 use Rattle.script_calls.proofs.ListLemmas.{map_more}
-use Rattle.script_calls.proofs.Newcomers.{get_middle}
 use Rattle.sh_pass.specs.Seats.{Heap}
 
 tales_more : (ss : List SeenPass) (s : SeenPass) → tales_told (ss ++ s ∷ []) ≡ tales_told ss ++ tale_told s
@@ -71,6 +67,26 @@ pub rest_of : {S : Type 0} (seen : S → SeenPass) (heap : Option Heap) (terms :
     → AllOfHeap heap terms (map seen its) → its ≡ x ∷ rest → AllOfHeap heap terms (map seen rest)
 rest_of seen heap terms x rest its all k = let of : AllOfHeap heap terms (seen x ∷ map seen rest) = subst
     (λ (z : List _). AllOfHeap heap terms (map seen z)) k all in of.2
+
+-- the rest of passes that own no shard
+pub rest_left : {S : Type 0} (seen : S → SeenPass) (x : S) (rest its : List S) → All IsShardless (map seen its)
+    → its ≡ x ∷ rest → All IsShardless (map seen rest)
+rest_left seen x rest its all k =
+    All-tail IsShardless (seen x) (map seen rest) (subst (λ (z : List _). All IsShardless (map seen z)) k all)
+
+pub first_left : {S : Type 0} (seen : S → SeenPass) (x : S) (rest its : List S) → All IsShardless (map seen its)
+    → its ≡ x ∷ rest → (seen x).part.shard ≡ None
+first_left seen x rest its all k =
+    All-head IsShardless (seen x) (map seen rest) (subst (λ (z : List _). All IsShardless (map seen z)) k all)
+
+-- the carrier is of the heap of the next pass
+pub carrier_of : {S : Type 0} (seen : S → SeenPass) (heap : Option Heap) (terms : RunTerms) (ts : List PassTold) (x : S)
+    (rest its : List S) (o : Option SeenPass) → CarriesTale heap terms o ts → AllOfHeap heap terms (map seen its)
+    → its ≡ x ∷ rest → IsOfHeap (seen x).heap o
+carrier_of seen heap terms ts x rest its None carries all k = tt
+carrier_of seen heap terms ts x rest its (Some c) carries all k =
+    let of : AllOfHeap heap terms (seen x ∷ map seen rest) = subst
+    (λ (z : List _). AllOfHeap heap terms (map seen z)) k all in carries.0 ∙ sym of.0
 
 orders_snoc : (ss : List SeenPass) (s : SeenPass) → orders_of (ss ++ s ∷ []) ≡ orders_of ss ++ s.orders
 orders_snoc [] s = append-nil s.orders
@@ -130,19 +146,6 @@ has_met {S} seen heap terms all ys its n c o e l z carries heard none is stands 
       };
       kept = stands.orders;
     }
-
--- the next one of these passes was refused when it left its shard
-pub next_waits : {S : Type 0} (seen : S → SeenPass) (all ys rest its : List S) (s : S) (stays : SeenSide)
-    → all ≡ ys ++ its → its ≡ s ∷ rest → SideLeaves (seen s).part.stands (Err refusal.Waiting) stays
-    → SomeWaits (map seen all)
-next_waits seen all ys rest its s stays e f waits =
-    let at : slice_get all (length ys) ≡ Some s = ap (λ z. slice_get z (length ys)) (e ∙ ap (λ z. ys ++ z) f)
-    ∙ get_middle ys s rest in (
-      length ys,
-      seen s,
-      slice_get-map seen all (length ys) ∙ ap (option_map seen) at,
-      (stays, waits),
-    )
 
 -- if no pass carries a tale once all have met, there is no pass
 pub none_there : {S : Type 0} (seen : S → SeenPass) (all ys : List S) (left : ℕ) → length ys + left ≡ length all

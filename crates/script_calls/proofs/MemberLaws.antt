@@ -7,17 +7,18 @@ use Rattle.sh_value.specs.declared.refusal.Refusal.{Refusal}
 use Rattle.sh_key.specs.Layout.{Layout, first_key, key_count}
 use Rattle.sh_pass.specs.View.{View}
 use Rattle.sh_pass.specs.Tales.{ViewIsValid}
+use Rattle.sh_pass.specs.Together.{LeadsTogether}
 use Rattle.sh_pass.specs.Passes.{Caller, GetDoes, ReadDoes, RemoveDoes, ReleaseDoes}
 use Rattle.sh_member.specs.Shards.{value_class}
 use Rattle.sh_member.specs.declared.member.Side.TheVariants.{Pass, Shard, Moving}
 use Rattle.sh_member.specs.SideBounds.{AdoptTakes}
 use Rattle.sh_member.specs.Sides.{SeenSide, SideDoes, SideInserts, SideAdopts, SideLeaves, SideIsValid, SideHeeds}
-use Rattle.sh_member.specs.Sides.{IsOfHeap, IsReceiptBy, MayJoin, SideJoins, SideGivesPass}
-use Rattle.script_calls.specs.OwnParts.{PartIsTrue}
+use Rattle.sh_member.specs.Sides.{IsOfHeap, IsReceiptBy, MayJoin, SideJoins, SideGivesPass, OpensBundle, EndsInBundle}
+use Rattle.script_calls.specs.OwnParts.{PartIsTrue, shape_in}
 use Rattle.script_calls.specs.Parts.{SeenPass, SamePass, heap_terms, shard_owned, tale_told}
 use Rattle.script_calls.specs.Calls.{AdoptAnswers, LeaveAnswers, InsertAnswers}
 use Rattle.script_calls.specs.Calls.{GetAnswers, ReadAnswers, RemoveAnswers, ReleaseAnswers}
-use Rattle.script_calls.specs.Meeting.{KeepsOrders, parts_carried}
+use Rattle.script_calls.specs.Meeting.{BindsSide, KeepsOrders, OpensFor, parts_carried}
 use Rattle.script_calls.specs.Receipts.{Heeds, HasOrderedTale, seen_of_receipt, receipt_seen}
 use Rattle.script_calls.specs.Running.{seen_standing, seen_of_caller, seen_of_member}
 use Rattle.script_calls.proofs.RunningLaws.{get_answers, read_answers, remove_answers, release_answers}
@@ -165,6 +166,36 @@ member_heeds layout (Pass v) Moving r h = absurd h
 member_heeds layout (Shard o) (Pass w) r h = absurd h
 member_heeds layout (Shard o) Moving r h = absurd h
 member_heeds layout Moving n r h = absurd h
+
+-- ---- bundles
+
+pub member_opens : (layout : Layout) (m : SeenSide) (b : Caller) → OpensBundle m b
+    → OpensFor (seen_of_member layout m) b
+member_opens layout (Pass v) b h =
+    subst (λ (z : Caller). OpensFor (seen_of_member layout (Pass v)) z) (sym h) (refl, refl, refl)
+member_opens layout (Shard o) b h =
+    subst (λ (z : Caller). OpensFor (seen_of_member layout (Shard o)) z) (sym h) (refl, refl, refl)
+member_opens layout Moving b h = absurd h
+
+pub member_binds : (layout : Layout) (m : SeenSide) (b c : Caller) → EndsInBundle m b c
+    → BindsSide (seen_of_member layout m) b c
+member_binds layout (Pass v) b c h =
+    subst (λ (z : Caller). BindsSide (seen_of_member layout (Pass v)) b z) (sym h) (refl, refl, refl, refl)
+member_binds layout (Shard o) b c h =
+    subst (λ (z : Caller). BindsSide (seen_of_member layout (Shard o)) b z) (sym h) (refl, refl, refl, refl)
+member_binds layout Moving b c h = absurd h
+
+pub member_leads : (layout : Layout) (m : SeenSide) (b c : Caller) → EndsInBundle m b c → LeadsTogether layout c.view
+    → LeadsTogether (seen_of_member layout m).terms.layout c.view
+member_leads layout (Pass v) b c h leads = leads
+member_leads layout (Shard o) b c h leads = leads
+member_leads layout Moving b c h leads = absurd h
+
+pub member_shape : (layout : Layout) (m : SeenSide) → SideIsValid layout m
+    → shape_in (seen_of_member layout m).part.stands ≡ (seen_of_member layout m).terms.shape
+member_shape layout (Pass v) h = refl
+member_shape layout (Shard o) h = refl
+member_shape layout Moving h = absurd h
 
 -- ---- meeting
 

@@ -21,7 +21,7 @@ use Rattle.sh_script.specs.declared.calls.CallLine.{CallLine}
 use Rattle.script_output.specs.declared.answer.Answer.{Answer}
 use Rattle.script_calls.specs.OwnParts.{EndsWith, Follows, own_part, shape_in}
 use Rattle.script_calls.specs.Parts.{RunTerms, PassPart, shard_owned}
-use Rattle.script_calls.specs.Receipts.{MayHeed, SideHeeded}
+use Rattle.script_calls.specs.Receipts.{HeedsTwice, MayHeed, SideHeeded}
 use Rattle.script_calls.specs.Calls.{CallAnswers, OnKey, UnlessRefused, key_meant, words_refusal}
 use Rattle.script_calls.specs.Runs.{CallsRun, LineAnswered, number_meant}
 use Rattle.script_calls.proofs.LineLemmas.{part_here, part_there}
@@ -98,7 +98,7 @@ adopt_follows shard (Pass v) (Err e) Moving h = absurd h
 adopt_follows shard (Shard o) r t h = still (Shard o) t h.1
 adopt_follows shard Moving r t h = absurd h
 
-leave_follows : (s : SeenSide) (r : Result (Unit {0}) Refusal) (t : SeenSide) → SideLeaves s r t → Follows s t
+pub leave_follows : (s : SeenSide) (r : Result (Unit {0}) Refusal) (t : SeenSide) → SideLeaves s r t → Follows s t
 leave_follows (Shard o) (Ok x) (Pass w) h = record { shape = h.same.shape; trail = h.same.trail }
 leave_follows (Shard o) (Ok x) (Shard n) h = absurd h
 leave_follows (Shard o) (Ok x) Moving h = absurd h
@@ -202,12 +202,13 @@ ends_on (Shard o) own h =
     (f.trail.0, ap (λ (o : Own). o.trail) h.2 ∙ f.trail.1)
 ends_on Moving own h = absurd h
 
-pub goes_to_end : (part begins : PassPart) (own : Own) → MayHeed part begins → EndsWith begins.stands own
+pub goes_to_end : (part begins : PassPart) (own : Own) → HeedsTwice part begins → EndsWith begins.stands own
     → GoesOn (own_part part.stands).trail own.trail
 goes_to_end part begins own heeds ends =
-    let same = heeds_same part begins heeds in
+    let first = heeds_same part heeds.0 heeds.1 in
+    let same = heeds_same heeds.0 begins heeds.2 in
     let on = ends_on begins.stands own ends in
-    (on.0, on.1 ∙ ap (λ (o : Own). o.trail ++ on.0) same.own)
+    (on.0, on.1 ∙ ap (λ (o : Own). o.trail ++ on.0) (same.own ∙ first.own))
 
 -- one after the other
 pub goes_then : (before mid after : List Footstep) → GoesOn before mid → GoesOn mid after → GoesOn before after

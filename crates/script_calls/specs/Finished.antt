@@ -1,22 +1,19 @@
 -- How the lines of a script ended on the passes of a heap.
 use Rattle.std.specs.Prelude.{◌≡◌, ℕ, ◌<◌, nat_lt, not, Bool, true, List, [], ◌∷◌, ◌⊎◌, Option, Some, None, IfSome}
-use Rattle.std.specs.Prelude.{IfNone, Err}
-use Rattle.sh_value.specs.declared.refusal.Refusal.TheVariants as refusal
+use Rattle.std.specs.Prelude.{IfNone, length, slice_get}
 use Rattle.sh_pass.specs.Entry.{Entry}
-use Rattle.sh_pass.specs.History.{Legal}
 use Rattle.sh_pass.specs.Log.{entries_of}
 use Rattle.sh_script.specs.declared.calls.CallLine.{CallLine}
 use Rattle.script_output.specs.declared.answer.Answer.{Answer}
 use Rattle.sh_pass.specs.Seats.{Heap}
-use Rattle.sh_pass.specs.Tales.{HasFirst, Before}
+use Rattle.sh_pass.specs.Tales.{Before}
 use Rattle.sh_pass.specs.Views.{Each}
-use Rattle.sh_member.specs.Sides.{SeenSide, SideLeaves}
-use Rattle.script_calls.specs.Parts.{SeenPass, PassPart, RunTerms, HasAllLogs, no_terms, new_passes, tale_told}
-use Rattle.script_calls.specs.Receipts.{MayHeed, part_heard}
+use Rattle.script_calls.specs.Parts.{SeenPass, RunTerms, HasAllLogs, no_terms, new_passes, tale_told}
 use Rattle.script_calls.specs.InOrder.{IsInOrder}
 use Rattle.script_calls.specs.Named.{NamesComeFirst}
 use Rattle.script_calls.specs.Stepping.{StepsInTurn}
-use Rattle.script_calls.specs.Told.{AreReplies, IsTold}
+use Rattle.script_calls.specs.Leaving.{AreStuck}
+use Rattle.script_calls.specs.Told.{IsTold}
 use Rattle.script_calls.specs.Meeting.{CarriesTale, OwnsNone, EndedAmong, parts_carried}
 
 -- the heap of passes that are of one heap, and what stays the same in it
@@ -56,24 +53,17 @@ pub record CarrierRan (alone : Bool) (heap : Option Heap) (terms : RunTerms) (ta
   pub ordered : alone ≡ true → IsOrderedBy terms lines told.replies.answers c
   pub steps : alone ≡ true → StepsInTurn c.orders heap terms tag lines told.replies.answers told.replies.after
 
--- The replies were written, and then this pass was refused when it left its shard, as the contract of leaving says. It
--- may have heeded a receipt before. There is one legal history in which the first entries of each pass are those that
--- its answers say, in order.
-pub record AreWaiting (heap : Option Heap) (terms : RunTerms) (tag : Option ℕ) (lines : List CallLine)
-    (output : List ℕ) : Type 0 where
-  pub replies : AreReplies heap terms tag lines output
-  pub pass : ℕ
-  pub begins : PassPart
-  pub heeds : MayHeed (replies.after.parts pass) begins
-  pub stays : SeenSide
-  pub waits : SideLeaves begins.stands (Err refusal.Waiting) stays
-  pub history : List Entry
-  pub legal : Legal terms.shape.passes terms.layout.guard_max history
-  pub first : (p : ℕ) → p < terms.shape.passes → HasFirst history (part_heard p (replies.after.parts p))
+-- These are all passes of the heap, in order. One was refused when it left its shard, and then all ended in one bundle.
+-- No run of the core leads to that: `no_pass_is_stuck` of script_heap.
+pub record AllAreStuck (terms : RunTerms) : Type 0 where
+  pub passes : List SeenPass
+  pub all : length passes ≡ terms.shape.passes
+  pub numbers : (p : ℕ) (s : SeenPass) → slice_get passes p ≡ Some s → s.pass ≡ p
+  pub stuck : AreStuck terms passes
 
 -- The replies were written. If there is a carrier, it carries the tale of all. There is none only if a pass was refused
 -- when it left its shard, or if there is no pass.
 pub record LinesRan (alone : Bool) (heap : Option Heap) (terms : RunTerms) (tag : Option ℕ) (lines : List CallLine)
     (output : List ℕ) (carrier : Option SeenPass) : Type 0 where
   pub met : IfSome carrier (CarrierRan alone heap terms tag lines output)
-  pub stays : IfNone carrier (AreWaiting heap terms tag lines output ⊎ (terms.shape.passes ≡ 0))
+  pub stays : IfNone carrier (AllAreStuck terms ⊎ (terms.shape.passes ≡ 0))

@@ -1,13 +1,10 @@
 -- Passes that hear of one another before they leave their shards and meet.
-use Rattle.std.specs.Prelude.{◌≡◌, ◌⊎◌, ℕ, ◌<◌, ◌≤◌, List, [], length, take, slice_get, Option, Some, None}
+use Rattle.std.specs.Prelude.{◌≡◌, ℕ, ◌<◌, ◌≤◌, List, [], length, take, slice_get, Option, Some, None}
 use Rattle.std.specs.List.{Contains}
-use Rattle.sh_pass.specs.Entry.{Entry}
-use Rattle.sh_pass.specs.History.{Legal}
 use Rattle.sh_pass.specs.Heard.{Heard}
 use Rattle.sh_pass.specs.Seats.{Heap}
-use Rattle.sh_pass.specs.Tales.{HasFirst}
 use Rattle.sh_pass.specs.Passes.{Caller}
-use Rattle.script_calls.specs.Parts.{RunTerms, SeenPass}
+use Rattle.script_calls.specs.Parts.{SeenPass}
 use Rattle.script_calls.specs.Receipts.{MayHeed, seen_of_receipt, order_seen, part_heard}
 use Rattle.script_calls.specs.Alone.{IsLastOf}
 use Rattle.script_calls.specs.Meeting.{KeepsOrders}
@@ -30,12 +27,6 @@ pub record AllHeedInTurn (last : Option Caller) (ss ts : List SeenPass) : Type 0
   pub all : length ts ≡ length ss
   pub each : (p : ℕ) (s t : SeenPass) → slice_get ss p ≡ Some s → slice_get ts p ≡ Some t → HeedsInTurn last s t
 
--- there is one legal history in which the first entries of each of these passes are its own, in order
-pub record AreInHistory (terms : RunTerms) (ss : List SeenPass) : Type 0 where
-  pub history : List Entry
-  pub legal : Legal terms.shape.passes terms.layout.guard_max history
-  pub first : (p : ℕ) (s : SeenPass) → slice_get ss p ≡ Some s → HasFirst history (part_heard s.pass s.part)
-
 -- ---- how they are found
 
 -- the receipt contains what the first one contains, if there is one
@@ -51,12 +42,11 @@ LastKnows first ss (Some r) = KnowsReceipt first r
     × ((p : ℕ) (s : SeenPass) → slice_get ss p ≡ Some s → Contains (seen_of_receipt r).heard (part_heard s.pass s.part))
 
 -- the first n of these passes have heard, and the others are as they were
-pub record HeardSoFar (heap : Option Heap) (terms : RunTerms) (first : Option Caller) (ss : List SeenPass) (n : ℕ)
-    (ts : List SeenPass) (last : Option Caller) : Type 0 where
+pub record HeardSoFar (heap : Option Heap) (first : Option Caller) (ss : List SeenPass) (n : ℕ) (ts : List SeenPass)
+    (last : Option Caller) : Type 0 where
   pub all : length ts ≡ length ss
   pub done : (p : ℕ) (s t : SeenPass) → p < n → slice_get ss p ≡ Some s → slice_get ts p ≡ Some t
       → HeedsInTurn first s t
   pub left : (p : ℕ) (s t : SeenPass) → n ≤ p → slice_get ss p ≡ Some s → slice_get ts p ≡ Some t → t ≡ s
   pub of : IsLastOf heap last
   pub knows : LastKnows first (take n ss) last
-  pub history : (take n ss ≡ []) ⊎ AreInHistory terms (take n ss)

@@ -10,5 +10,6 @@ pub mod Meeting
 pub mod Stepping
 pub mod Alone
 pub mod Heeding
+pub mod Leaving
 pub mod Running
 pub mod Finished

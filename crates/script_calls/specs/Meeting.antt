@@ -1,12 +1,11 @@
 -- Passes that meet: one of them carries the tale of all.
-use Rattle.std.specs.Prelude.{◌≡◌, ℕ, List, [], ◌∷◌, ◌++◌, slice_get, Option, Some, None, Err}
+use Rattle.std.specs.Prelude.{◌≡◌, ℕ, List, [], ◌∷◌, ◌++◌, Option, Some, None}
 use Rattle.std.specs.List.{Contains}
-use Rattle.sh_value.specs.declared.refusal.Refusal.TheVariants as refusal
-use Rattle.sh_member.specs.Sides.{SeenSide, SideLeaves}
 use Rattle.script_calls.specs.OwnParts.{EndsWith, own_part, taken_in}
 use Rattle.script_calls.specs.Parts.{RunTerms, PassPart, SeenPass, PassTold, HasWholeTale, tale_told}
-use Rattle.script_calls.specs.Receipts.{MayHeed}
+use Rattle.script_calls.specs.Receipts.{MayHeed, HeedsTwice}
 use Rattle.sh_pass.specs.Own.{Own}
+use Rattle.sh_pass.specs.Passes.{Caller}
 use Rattle.sh_pass.specs.Told.{Told}
 use Rattle.sh_pass.specs.Order.{Order}
 use Rattle.sh_pass.specs.Seats.{Heap}
@@ -67,16 +66,20 @@ abbrev pub AllOfHeap : Option Heap → RunTerms → List SeenPass → Type 0
 AllOfHeap heap terms [] = Unit {0}
 AllOfHeap heap terms (s ∷ ss) = (s.heap ≡ heap) × (s.terms ≡ terms) × AllOfHeap heap terms ss
 
--- one of these passes was refused when it left its shard
-abbrev pub SomeWaits : List SeenPass → Type 0
-SomeWaits ss = (i : ℕ) × (s : SeenPass) × (slice_get ss i ≡ Some s)
-    × ((stays : SeenSide) × SideLeaves s.part.stands (Err refusal.Waiting) stays)
-
 -- ---- own parts
 
 -- the own parts of all passes that this one speaks for
 abbrev pub parts_carried : SeenPass → List Told
 parts_carried s = record { pass = s.pass; own = own_part s.part.stands } ∷ taken_in s.part.stands
+
+-- the bundle that a pass opens is of its heap, and has no pass yet
+abbrev pub OpensFor : SeenPass → Caller → Type 0
+OpensFor s b = (Some b.heap ≡ s.heap) × (b.view.shape ≡ s.terms.shape) × (b.view.told ≡ [])
+
+-- the bundle gets the own parts of all passes that this one speaks for, and what it heard
+abbrev pub BindsSide : SeenPass → Caller → Caller → Type 0
+BindsSide s b c = (c.heap ≡ b.heap) × (c.view.shape ≡ b.view.shape) × (c.view.told ≡ b.view.told ++ parts_carried s)
+    × (c.view.orders ≡ b.view.orders ++ s.orders)
 
 -- the result of meeting a carrier, if there is one, carries the own parts of both
 abbrev pub JoinsParts : Option SeenPass → SeenPass → SeenPass → Type 0
@@ -88,15 +91,23 @@ abbrev pub EndsAmong : List Told → (pass : ℕ) → PassPart → Type 0
 EndsAmong parts pass part = (own : Own) × EndsWith part.stands own
     × Contains parts (record { pass = pass; own = own })
 
--- the same, and it may have heeded a receipt before
+-- the same, and it may have heeded two receipts before
 abbrev pub EndedAmong : List Told → (pass : ℕ) → PassPart → Type 0
-EndedAmong parts pass part = (begins : PassPart) × MayHeed part begins × EndsAmong parts pass begins
+EndedAmong parts pass part = (begins : PassPart) × HeedsTwice part begins × EndsAmong parts pass begins
 
--- the carrier carries an own part with which this pass ended
+-- the carrier carries an own part with which this pass ended, which may have heeded a receipt before
 abbrev pub HasEnded : (carrier : SeenPass) → SeenPass → Type 0
-HasEnded carrier s = EndsAmong (parts_carried carrier) s.pass s.part
+HasEnded carrier s = (begins : PassPart) × MayHeed s.part begins × EndsAmong (parts_carried carrier) s.pass begins
 
--- the same if there is a carrier; there is one once a pass has ended
+-- the carrier carries the own part of this pass
+abbrev pub CarriesOwn : (carrier : SeenPass) → SeenPass → Type 0
+CarriesOwn carrier s = Contains (parts_carried carrier) (record { pass = s.pass; own = own_part s.part.stands })
+
+-- the same if there is a carrier; there is one once a pass has met it
 abbrev pub CarriesEnd : Option SeenPass → SeenPass → Type 0
 CarriesEnd None s = ⊥
-CarriesEnd (Some c) s = HasEnded c s
+CarriesEnd (Some c) s = CarriesOwn c s
+
+-- it owns no shard
+abbrev pub IsShardless : SeenPass → Type 0
+IsShardless s = s.part.shard ≡ None

@@ -66,6 +66,10 @@ pub record PartHeeds (r : Caller) (v w : PassPart) : Type 0 where
 abbrev pub MayHeed : PassPart → PassPart → Type 0
 MayHeed v w = (w ≡ v) ⊎ ((r : Caller) × PartHeeds r v w)
 
+-- the same twice: as its last line began or once all lines ended, and again before it left its shard
+abbrev pub HeedsTwice : PassPart → PassPart → Type 0
+HeedsTwice v w = (mid : PassPart) × MayHeed v mid × MayHeed mid w
+
 -- the pass, once it heeded the receipt
 pub record Heeds (r : Caller) (s t : SeenPass) : Type 0 where
   pub is : t ≡ record s { part = t.part; orders = orders_heard s (seen_of_receipt r) }

@@ -7,9 +7,9 @@ ghost use Rattle.script_output.specs.Keys.{HasTagRoom};
 ghost use Rattle.script_calls.specs.Parts.{RunTerms, new_passes};
 ghost use Rattle.script_calls.specs.Finished.{heap_seen, terms_seen, AreAllNew, LinesRan};
 
-use crate::heeding::{heed_in_turn, heed_last};
+use crate::heeding::heed_last;
+use crate::leaving::met_in_turn;
 use crate::line::{answered, number_meant};
-use crate::meeting::met;
 use crate::reporting::{NoRoom, tell};
 use crate::side::Side;
 use sh_pass::Receipt;
@@ -44,12 +44,12 @@ fn lines_in_turn<S: Side>(
         last = Some(side.receipt());
         tell(&mut output, &mut numbers, line, &answer)?;
     }
-    Ok((output, met(heed_in_turn(sides, last))))
+    Ok((output, met_in_turn(sides, last)))
 }
 
 /// Runs the lines in their order, each with a receipt of the line before. Then all passes hear of all lines, all owners
-/// leave, and all passes meet. Returns the reply lines and the pass that carries the tale of all; no pass if an owner
-/// could not leave.
+/// leave in turn, and all passes meet. Returns the reply lines and the pass that carries the tale of all; no pass if an
+/// owner could not leave.
 pub fn alone_lines<S: Side>(
     alloc: Global,
     lines: &[CallLine],

@@ -1,13 +1,22 @@
 //! Passes that hear of one another before they leave their shards and meet.
-ghost use Rattle.std.specs.Prelude.{◌≡◌, ◌⊎◌, [], Option, map};
+ghost use Rattle.std.specs.Prelude.{Option, map};
 ghost use Rattle.sh_pass.specs.Seats.{Heap};
 ghost use Rattle.script_calls.specs.Parts.{RunTerms};
 ghost use Rattle.script_calls.specs.Alone.{IsLastOf, HeedsLast};
-ghost use Rattle.script_calls.specs.Heeding.{AllHeedInTurn, AreInHistory};
+ghost use Rattle.script_calls.specs.Heeding.{AllHeedInTurn, LastKnows};
 ghost use Rattle.script_calls.specs.Meeting.{AllOfHeap};
 
 use crate::side::Side;
 use sh_pass::Receipt;
+
+/// Sides that heard of one another, and a receipt of all of them.
+#[derive(Drop)]
+pub struct HeardSides<S> {
+    /// The sides, in order.
+    pub sides: Vec<S>,
+    /// The receipt of the last side; if there is no side, the receipt that there was before.
+    pub last: Option<Receipt>,
+}
 
 /// Heeds the receipt, if there is one.
 pub fn heed_last<S: Side>(side: &mut S, last: Option<Receipt>)
@@ -20,14 +29,14 @@ pub fn heed_last<S: Side>(side: &mut S, last: Option<Receipt>)
 }
 
 /// The sides, each of which has heeded a receipt of the side before, and the first one this receipt. So what each does
-/// to leave its shard comes after all that the receipt contains. And the last side has heard of all others: one legal
-/// history has what was returned to each of them.
-pub fn heed_in_turn<S: Side>(sides: Vec<S>, last: Option<Receipt>) -> Vec<S>
+/// to leave its shard comes after all that the receipt contains. A receipt of the last side contains all that they did.
+pub fn heed_in_turn<S: Side>(sides: Vec<S>, last: Option<Receipt>) -> HeardSides<S>
     ghost at: { Option Heap × RunTerms }
     requires of { AllOfHeap at.0 at.1 (map S.seen sides.items) }
     requires last { IsLastOf at.0 last }
-    ensures hear { AllHeedInTurn last (map S.seen sides.items) (map S.seen result.items) }
-    ensures told { (map S.seen sides.items ≡ []) ⊎ AreInHistory at.1 (map S.seen sides.items) }
+    ensures hear { AllHeedInTurn last (map S.seen sides.items) (map S.seen result.sides.items) }
+    ensures of { IsLastOf at.0 result.last }
+    ensures knows { LastKnows last (map S.seen sides.items) result.last }
 {
     let count = sides.len();
     let mut sides = sides;
@@ -37,8 +46,7 @@ pub fn heed_in_turn<S: Side>(sides: Vec<S>, last: Option<Receipt>) -> Vec<S>
             unreachable!()
         };
         heed_last(side, heard);
-        let _known = side.whole();
         heard = Some(side.receipt());
     }
-    sides
+    HeardSides { sides, last: heard }
 }

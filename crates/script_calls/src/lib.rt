@@ -4,6 +4,7 @@
 pub mod alone;
 pub mod heeding;
 pub mod laws;
+pub mod leaving;
 pub mod line;
 pub mod meeting;
 pub mod reporting;

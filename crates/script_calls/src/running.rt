@@ -6,7 +6,7 @@ use crate::side::Side;
 use sh_key::KeyLayout;
 use sh_member::Member;
 use sh_pass::pass::PassOn;
-use sh_pass::{KeepsHeap, Receipt};
+use sh_pass::{Bundle, KeepsHeap, Receipt};
 use sh_value::{Hold, Refusal, Value};
 use std::alloc::Global;
 
@@ -51,6 +51,14 @@ impl<L: KeyLayout, H: KeepsHeap<L>> Side for Member<L, H> {
 
     fn join(self, other: Self) -> Self {
         Member::join(self, other)
+    }
+
+    fn bundle(&mut self) -> Bundle {
+        Member::bundle(self)
+    }
+
+    fn bind(self, bundle: &mut Bundle) {
+        Member::bind(self, bundle);
     }
 
     fn whole(&self) {

@@ -1,14 +1,15 @@
 //! A pass of a heap, with or without a shard: what runs the calls of a script.
-ghost use Rattle.std.specs.Prelude.{◌≡◌, ◌<◌, ◌+◌, ◌∷◌, ◌++◌, IfOk, None};
+ghost use Rattle.std.specs.Prelude.{◌≡◌, ◌<◌, ◌+◌, ◌∷◌, ◌++◌, IfOk, None, Some};
 ghost use Rattle.sh_key.specs.Layout.{first_key, key_count};
 ghost use Rattle.script_calls.specs.Parts.{SeenPass, SamePass, tale_told};
 ghost use Rattle.script_calls.specs.Calls.{AdoptAnswers, LeaveAnswers, InsertAnswers, GetAnswers, ReadAnswers};
 ghost use Rattle.script_calls.specs.Calls.{RemoveAnswers, ReleaseAnswers};
-ghost use Rattle.script_calls.specs.Meeting.{KeepsOrders, parts_carried};
-ghost use Rattle.script_calls.specs.OwnParts.{PartIsTrue};
+ghost use Rattle.sh_pass.specs.Together.{LeadsTogether};
+ghost use Rattle.script_calls.specs.Meeting.{KeepsOrders, OpensFor, BindsSide, parts_carried};
+ghost use Rattle.script_calls.specs.OwnParts.{PartIsTrue, shape_in};
 ghost use Rattle.script_calls.specs.Receipts.{seen_of_receipt, receipt_seen, Heeds, HasOrderedTale};
 
-use sh_pass::Receipt;
+use sh_pass::{Bundle, Receipt};
 use sh_value::{Hold, Refusal, Value};
 use std::alloc::Global;
 
@@ -85,9 +86,24 @@ pub trait Side: Drop {
         ensures orders { KeepsOrders ((seen self).orders ++ (seen other).orders) (seen result).orders }
         ensures parts { parts_carried (seen result) ≡ parts_carried (seen self) ++ parts_carried (seen other) };
 
+    /// A bundle of no passes yet.
+    fn bundle(&mut self) -> Bundle
+        ensures opens { OpensFor (seen self.old) result }
+        ensures same { seen self.new ≡ seen self.old };
+
+    /// Ends this side in the bundle, with the shard that it owns. One run of the core leads to the parts of all passes
+    /// that ended there.
+    fn bind(self, bundle: &mut Bundle)
+    where
+        Self: Sized,
+        requires { Some bundle.old.heap ≡ (seen self).heap }
+        ensures binds { BindsSide (seen self) bundle.old bundle.new }
+        ensures leads { LeadsTogether (seen self).terms.layout bundle.new.view };
+
     /// One legal history has the entries of each pass that it speaks for, and keeps the orders that it heard of. All
     /// that it knows is true, nothing is begun, and its entries are those of its own part.
     fn whole(&self)
         ensures tale { HasOrderedTale (seen self.now) }
-        ensures stands { PartIsTrue (seen self.now).terms.layout (seen self.now).part };
+        ensures stands { PartIsTrue (seen self.now).terms.layout (seen self.now).part }
+        ensures shape { shape_in (seen self.now).part.stands ≡ (seen self.now).terms.shape };
 }

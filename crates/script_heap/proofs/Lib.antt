@@ -1,5 +1,6 @@
 pub mod LineCuts
 pub mod LineRuns
+pub mod Stuck
 pub mod WholeLemmas
 pub mod OpenedLemmas
 pub mod FirstSteps

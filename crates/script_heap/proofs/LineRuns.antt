@@ -41,7 +41,7 @@ use Rattle.script_heap.proofs.LineCuts.{CutBefore, CutAt, heard_cut, exact_cut, 
 
 -- ---- what is true of each pass between two lines
 
-record Settled (layout : Layout) (shape : Numbers) (s : SeenSide) : Type 0 where
+pub record Settled (layout : Layout) (shape : Numbers) (s : SeenSide) : Type 0 where
   pub shape_is : shape_in s ≡ shape
   pub made : (own_part s).body ≡ body_by (plan_of layout shape) newcomer (own_part s).trail
   pub entries : length (own_part s).log ≡ decided (plan_of layout shape) (own_part s).trail
@@ -60,7 +60,7 @@ settled_new layout heap p = record {
   bell = tt;
 }
 
-settled_so : (layout : Layout) (shape : Numbers) (s : SeenSide) → SideIsValid layout s → shape_in s ≡ shape
+pub settled_so : (layout : Layout) (shape : Numbers) (s : SeenSide) → SideIsValid layout s → shape_in s ≡ shape
     → Settled layout shape s
 settled_so layout shape (Pass v) h e = record {
   shape_is = e;
@@ -90,7 +90,7 @@ settled_so layout shape (Shard o) h e = record {
 settled_so layout shape Moving h e = absurd h
 
 -- lists that begin with the same number of elements of one list
-same_front : (xs us ys vs : List Footstep) → xs ++ us ≡ ys ++ vs → length xs ≡ length ys → xs ≡ ys
+pub same_front : (xs us ys vs : List Footstep) → xs ++ us ≡ ys ++ vs → length xs ≡ length ys → xs ≡ ys
 same_front [] us [] vs e l = refl
 same_front [] us (y ∷ ys) vs e l = absurd (omega (arith, l))
 same_front (x ∷ xs) us [] vs e l = absurd (omega (arith, l))

@@ -21,7 +21,7 @@ use Rattle.sh_member.specs.declared.member.Side.TheVariants.{Pass, Shard, Moving
 use Rattle.sh_member.specs.Sides.{SeenSide, SideAdopts}
 use Rattle.script_calls.specs.OwnParts.{EndsWith}
 use Rattle.script_calls.specs.Parts.{RunTerms, PassPart, new_part, heap_terms}
-use Rattle.script_calls.specs.Receipts.{MayHeed, PartHeeds, SideHeeded}
+use Rattle.script_calls.specs.Receipts.{HeedsTwice, MayHeed, PartHeeds, SideHeeded}
 use Rattle.script_calls.specs.Calls.{AdoptAnswers}
 use Rattle.script_calls.specs.Runs.{CallsRun, LinesAnswered, opening_calls, with_part}
 use Rattle.script_heap.specs.HeapOutput.{EndsInRun}
@@ -93,19 +93,22 @@ taken_so terms shard v w (Err e) is new does = met_owner terms shard v w new
 
 -- ---- the run
 
--- a pass that owns no shard ends with its own part, whether it heeded a receipt before or not
-ends_as_pass : (v begins : PassPart) (c : Caller) (own : Own) → v.stands ≡ Pass c → MayHeed v begins
-    → EndsWith begins.stands own → own ≡ c.view.own
-ends_as_pass v begins c own stands heeds ends = ⊎_elim as_it_was heeded_it heeds
-  where
-    as_it_was : begins ≡ v → own ≡ c.view.own
-    as_it_was e = subst (λ (s : SeenSide). EndsWith s own) (ap (λ (u : PassPart). u.stands) e ∙ stands) ends
+-- a pass that owns no shard, once it may have heeded a receipt, still owns none and has the part that it had
+heeded_pass : (v w : PassPart) (c : Caller) → v.stands ≡ Pass c → MayHeed v w → (d : Caller) × (w.stands ≡ Pass d)
+    × (d.view.own ≡ c.view.own)
+heeded_pass v w c stands heeds = ⊎_elim
+    (λ (e : w ≡ v). (c, ap (λ (u : PassPart). u.stands) e ∙ stands, refl))
+    (λ (k : (r : Caller) × PartHeeds r v w).
+    (heeded c k.0, subst (λ (s : SeenSide). SideHeeded k.0 s w.stands) stands k.1.stands, refl)) heeds
 
-    heeded_it : (r : Caller) × PartHeeds r v begins → own ≡ c.view.own
-    heeded_it k =
-        let is : begins.stands ≡ Pass (heeded c k.0) =
-        subst (λ (s : SeenSide). SideHeeded k.0 s begins.stands) stands k.1.stands in
-        subst (λ (s : SeenSide). EndsWith s own) is ends
+-- so it ends with its own part, whether it heeded receipts before or not
+ends_as_pass : (v begins : PassPart) (c : Caller) (own : Own) → v.stands ≡ Pass c → HeedsTwice v begins
+    → EndsWith begins.stands own → own ≡ c.view.own
+ends_as_pass v begins c own stands heeds ends =
+    let mid = heeded_pass v heeds.0 c stands heeds.1 in
+    let last = heeded_pass heeds.0 begins mid.0 mid.1 heeds.2 in
+    let its : own ≡ last.0.view.own = subst (λ (s : SeenSide). EndsWith s own) last.1 ends in
+    its ∙ (last.2 ∙ mid.2)
 
 -- the trail of a pass that owns no shard in the end
 trail_is : (layout : Layout) (shape : Numbers) (events : List Event) (p : ℕ) (v : PassPart) (c : Caller)

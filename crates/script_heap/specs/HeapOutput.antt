@@ -1,5 +1,5 @@
--- What modes heap and threads write for a script of calls: the reply lines, and then the accounts of the pages. The
--- accounts come only if they are asked for and every owner could leave.
+-- What modes heap and threads write for a script of calls: the reply lines, and then the accounts of the pages, if they
+-- are asked for.
 use Rattle.std.specs.Prelude.{◌≡◌, ℕ, ◌<◌, Bool, true, false, List, [], ◌++◌, Option, Some}
 use Rattle.std.specs.List.{All}
 use Rattle.sh_key.specs.Layout.{Layout}
@@ -22,9 +22,8 @@ use Rattle.sh_pass.specs.Reached.{HasOwn, StepsBefore}
 use Rattle.sh_core.specs.Plans.{Plan}
 use Rattle.script_calls.specs.OwnParts.{EndsWith}
 use Rattle.script_calls.specs.Parts.{PassPart, PassTold, HasWholeTale, heap_terms}
-use Rattle.script_calls.specs.Receipts.{MayHeed}
+use Rattle.script_calls.specs.Receipts.{HeedsTwice}
 use Rattle.script_calls.specs.Told.{IsTold}
-use Rattle.script_calls.specs.Finished.{AreWaiting}
 use Rattle.script_calls.specs.Runs.{opening_calls}
 use Rattle.script_heap.specs.ByLine.{RunsByLine}
 use Rattle.script_heap.specs.WholeAccounts.{AreAccountLines}
@@ -40,10 +39,10 @@ pub record TellsTale (layout : Layout) (shape : Numbers) (tale : List PassTold) 
   pub steps : Each (StepsBefore (plan_of layout shape) lines.events) orders
 
 -- After these events the pass has exactly the own part with which it ended. So its steps among these events are those
--- that it did, in order, and each found the word that the pass found. It may have heeded a receipt before it ended.
+-- that it did, in order, and each found the word that the pass found. It may have heeded two receipts before it ended.
 abbrev pub EndsInRun : Plan → List Event → (pass : ℕ) → PassPart → Type 0
-EndsInRun plan events pass part = (begins : PassPart) × MayHeed part begins × (own : Own) × EndsWith begins.stands own
-    × HasOwn plan events pass own
+EndsInRun plan events pass part = (begins : PassPart) × HeedsTwice part begins × (own : Own)
+    × EndsWith begins.stands own × HasOwn plan events pass own
 
 -- account lines by this history, if they are asked for; otherwise none
 abbrev pub AccountsAsked : (asked : Bool) → Layout → Numbers → List Entry → List ℕ → Type 0
@@ -76,32 +75,3 @@ pub record IsHeap (alone asked : Bool) (text output : List ℕ) : Type 0 where
   pub lines : List CallLine
   pub is_calls : IsCalls text header lines
   pub is_output : IsHeapOutput alone (layout_of header.layout) header.shape header.tag lines asked output
-
--- These are the replies of a run on a heap of this shape, after which a pass was refused when it left its shard. One
--- legal history has what was returned to each pass.
-pub record IsStopped (layout : Layout) (shape : Numbers) (tag : Option ℕ) (lines : List CallLine)
-    (output : List ℕ) : Type 0 where
-  pub heap : Heap
-  pub of_shape : heap.shape ≡ shape
-  pub waiting : AreWaiting (Some heap) (heap_terms layout shape) tag lines output
-
--- The text is a script of calls, and these are the replies of a run of it. At the end of the run a pass was refused
--- when it left its shard, so there is no account line.
-pub record IsHeapWaiting (text output : List ℕ) : Type 0 where
-  pub header : Header
-  pub lines : List CallLine
-  pub is_calls : IsCalls text header lines
-  pub stopped : IsStopped (layout_of header.layout) header.shape header.tag lines output
-
--- ---- how it is produced
-
--- the result of the lines, with whether an owner could not leave
-abbrev pub IsRan : (alone : Bool) → Layout → Numbers → Option ℕ → List CallLine → (asked : Bool) → List ℕ
-    → (is_waiting : Bool) → Type 0
-IsRan alone layout shape tag lines asked output true = IsStopped layout shape tag lines output
-IsRan alone layout shape tag lines asked output false = IsHeapOutput alone layout shape tag lines asked output
-
--- the result of a script on the running heap, with whether an owner could not leave
-abbrev pub IsHeapRun : (alone asked : Bool) → (text output : List ℕ) → (is_waiting : Bool) → Type 0
-IsHeapRun alone asked text output true = IsHeapWaiting text output
-IsHeapRun alone asked text output false = IsHeap alone asked text output

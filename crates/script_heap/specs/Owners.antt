@@ -1,4 +1,5 @@
--- Who owns what between the lines of a run in one thread, and what an adopt and a leave are answered.
+-- Who owns what between the lines of a run in one thread, what an adopt and a leave are answered, and that all passes
+-- can leave at the end of a run.
 use Rattle.std.specs.Prelude.{◌≡◌, ◌≢◌, ◌⊎◌, ℕ, ◌<◌, ◌≤◌, Bool, true, List, [], ◌∷◌, ◌++◌, Option, Some, None}
 use Rattle.std.specs.Prelude.{IsSome, refl}
 use Rattle.std.specs.List.{All}
@@ -12,6 +13,7 @@ use Rattle.sh_script.specs.declared.calls.Call.TheVariants as call
 use Rattle.sh_script.specs.declared.calls.CallLine.{CallLine}
 use Rattle.script_output.specs.declared.answer.Answer.{Answer}
 use Rattle.script_output.specs.declared.answer.Answer.TheVariants as answer
+use Rattle.script_calls.specs.Finished.{AllAreStuck}
 use Rattle.script_calls.specs.Parts.{RunTerms, PassPart, heap_terms, shard_owned}
 use Rattle.script_calls.specs.Runs.{CallsRun, opening_calls}
 use Rattle.script_heap.specs.ByLine.{RunsByLine}
@@ -78,3 +80,7 @@ LinesKeepOwnersApart = (asked : Bool) (layout : Layout) (shape : Numbers) (tag :
     → (h : IsHeapOutput true layout shape tag lines asked output)
     → OwnersAreExact (plan_of layout shape) [] h.events (heap_terms layout shape) tag (opening_calls (Some h.heap))
     lines h.told.replies.answers h.told.replies.after (h.by_line refl)
+
+-- at the end of a run no pass is refused when it leaves its shard, in one thread or in many
+abbrev pub NoPassIsStuck : Type 0
+NoPassIsStuck = (terms : RunTerms) → ¬ AllAreStuck terms

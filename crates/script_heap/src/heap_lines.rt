@@ -10,7 +10,7 @@ ghost use Rattle.script_calls.specs.Finished.{LinesRan, CarrierRan};
 ghost use Rattle.script_calls.specs.Running.{as_member, seen_of_caller, seen_of_member};
 ghost use Rattle.script_calls.specs.Meeting.{parts_carried};
 ghost use Rattle.script_heap.specs.WholeAccounts.{LeadsToWhole};
-ghost use Rattle.script_heap.specs.HeapOutput.{TellsTale, IsHeapOutput, IsRan};
+ghost use Rattle.script_heap.specs.HeapOutput.{TellsTale, IsHeapOutput};
 
 use crate::whole_heap::WholeHeap;
 use script_calls::running::pass_of;
@@ -27,15 +27,6 @@ use std::alloc::{AllocError, Global};
 
 /// A pass of a running heap, with or without a shard.
 pub type HeapMember<'a, L> = Member<L, &'a Heap<L>>;
-
-/// What a run on a running heap writes.
-#[derive(Drop)]
-pub struct Ran {
-    /// The reply lines, and the account lines after them.
-    pub output: Vec<u8>,
-    /// Whether an owner could not leave at the end.
-    pub is_waiting: bool,
-}
 
 /// Opens a heap of this shape, which fits the layout. Returns it with the right to its passes.
 pub fn opened<L: KeyLayout>(alloc: Global, shape: Shape) -> Result<(Heap<L>, Seats<L>), Fault>
@@ -130,31 +121,25 @@ fn told<L: KeyLayout>(
     Ok(output)
 }
 
-/// What is written for lines that ran: their replies, and after them the accounts, if they are asked for and all owners
-/// could leave.
+/// What is written for lines that ran: their replies, and after them the accounts, if they are asked for. All owners
+/// could leave: no run of the core leads to a refusal there.
 pub fn gathered<L: KeyLayout>(
     output: Vec<u8>,
     carrier: Option<HeapMember<'_, L>>,
     asked: bool,
-) -> Result<Ran, Fault>
+) -> Result<Vec<u8>, Fault>
     ghost at: { HeapSeen × Option ℕ × List CallLine × Bool }
     requires shape { IsShape at.0.shape }
     requires ran { LinesRan at.3 (Some at.0) (heap_terms L.layout at.0.shape) at.1 at.2 output.items
         (option_map (λ m. seen_of_member L.layout m) carrier) }
-    ensures told { IfOk result (λ r. IsRan at.3 L.layout at.0.shape at.1 at.2 asked r.output.items r.is_waiting) }
+    ensures told { IfOk result (λ output. IsHeapOutput at.3 L.layout at.0.shape at.1 at.2 asked output.items) }
     ensures memory { IfErr result (λ fault. fault ≡ Fault.Memory) }
 {
     let Some(carrier) = carrier else {
-        return Ok(Ran {
-            output,
-            is_waiting: true,
-        });
+        unreachable!()
     };
     match told(output, carrier, asked) {
-        Ok(output) => Ok(Ran {
-            output,
-            is_waiting: false,
-        }),
+        Ok(output) => Ok(output),
         Err(_) => Err(Fault::Memory),
     }
 }

@@ -5,11 +5,11 @@ ghost use Rattle.sh_shape.specs.Shape.{IsShape, Fits};
 ghost use Rattle.sh_script.specs.declared.calls.CallLine.{CallLine};
 ghost use Rattle.sh_pass.specs.Seats.{Heap as HeapSeen};
 ghost use Rattle.script_output.specs.Keys.{HasTagRoom};
-ghost use Rattle.script_heap.specs.HeapOutput.{IsRan, IsHeapRun};
+ghost use Rattle.script_heap.specs.HeapOutput.{IsHeapOutput, IsHeap};
 ghost use Rattle.script_output.specs.Ends.{IsEndFault};
 ghost use Rattle.script_output.specs.Faults.{IsScriptOf, IsFaultOf};
 
-use crate::heap_lines::{Ran, gathered, members, opened};
+use crate::heap_lines::{gathered, members, opened};
 use script_calls::alone::alone_lines;
 use script_output::Mode;
 use sh_key::{KeyLayout, Tagged, Tiny, Wide};
@@ -26,7 +26,7 @@ fn lines_on<L: KeyLayout>(
     tag: Option<u8>,
     lines: &[CallLine],
     asked: bool,
-) -> Result<Ran, Fault>
+) -> Result<Vec<u8>, Fault>
     ghost at: { HeapSeen × Option ℕ × List CallLine }
     requires heap { heap.now ≡ at.0 }
     requires tag { tag ≡ at.1 }
@@ -35,7 +35,7 @@ fn lines_on<L: KeyLayout>(
     requires shape { IsShape at.0.shape }
     requires room { HasTagRoom L.layout at.1 }
     requires passes { All (λ (l : CallLine). l.pass < at.0.shape.passes) at.2 }
-    ensures told { IfOk result (λ r. IsRan true L.layout at.0.shape at.1 at.2 asked r.output.items r.is_waiting) }
+    ensures told { IfOk result (λ output. IsHeapOutput true L.layout at.0.shape at.1 at.2 asked output.items) }
     ensures memory { IfErr result (λ fault. fault ≡ Fault.Memory) }
 {
     let sides = members(alloc, heap, seats)?;
@@ -50,12 +50,12 @@ fn heap_lines<L: KeyLayout>(
     tag: Option<u8>,
     lines: &[CallLine],
     asked: bool,
-) -> Result<Ran, Fault>
+) -> Result<Vec<u8>, Fault>
     requires shape { IsShape shape }
     requires fits { Fits L.layout shape }
     requires room { HasTagRoom L.layout tag }
     requires passes { All (λ (l : CallLine). l.pass < shape.passes) lines.now }
-    ensures told { IfOk result (λ r. IsRan true L.layout shape tag lines.now asked r.output.items r.is_waiting) }
+    ensures told { IfOk result (λ output. IsHeapOutput true L.layout shape tag lines.now asked output.items) }
     ensures memory { IfErr result (λ fault. fault ≡ Fault.Memory) }
 {
     let (heap, seats) = opened::<L>(alloc, shape)?;
@@ -63,8 +63,8 @@ fn heap_lines<L: KeyLayout>(
 }
 
 /// What is written for a script of calls on the running heap, or its fault.
-pub fn heap_output(alloc: Global, text: &[u8], asked: bool) -> Result<Ran, Fault>
-    ensures output { IfOk result (λ r. IsHeapRun true asked text.now r.output.items r.is_waiting) }
+pub fn heap_output(alloc: Global, text: &[u8], asked: bool) -> Result<Vec<u8>, Fault>
+    ensures output { IfOk result (λ output. IsHeap true asked text.now output.items) }
     ensures fault { IfErr result (IsFaultOf Mode.Heap text.now) }
     ensures answers { IsScriptOf Mode.Heap text.now → IfErr result IsEndFault }
 {

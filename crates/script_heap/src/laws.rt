@@ -1,7 +1,7 @@
 //! What follows from the fact that a run has just the steps that its passes did.
 ghost use Rattle.script_heap.specs.OwnSteps.{LoneAdoptIsNotTaken, FirstInsertIsNotFull, TwoAdoptsAreNotDone};
 ghost use Rattle.script_heap.specs.OwnSteps.{LeaveIsNotWaiting};
-ghost use Rattle.script_heap.specs.Owners.{LinesKeepOwnersApart};
+ghost use Rattle.script_heap.specs.Owners.{LinesKeepOwnersApart, NoPassIsStuck};
 ghost use Rattle.script_heap.specs.Rooms.{LinesFindRoom, LinesSeeRoom, RoomExcludes};
 
 /// If a script consists of one adopt, no other pass does a step. So the adopt finds no owner, and its answer is not
@@ -18,6 +18,12 @@ pub fn lines_keep_owners_apart()
     ensures { LinesKeepOwnersApart }
 {}
 
+/// No pass is refused when it leaves its shard at the end of a run, in one thread or in many. Each pass leaves after it
+/// heard of all that the others did. So no other pass is in the middle of anything, and none does a step meanwhile.
+pub fn no_pass_is_stuck()
+    ensures { NoPassIsStuck }
+{}
+
 /// In a run of mode heap an insert is `Full` only if its pass owns a shard that has no room for the value's class. Each
 /// slot of each page of the class is live, marked or retired, and no page is blank. No page of another class is wholly
 /// the owner's. `Memory` comes only if all this is true, except that pages may be blank.
@@ -25,10 +31,10 @@ pub fn lines_find_room()
     ensures { LinesFindRoom }
 {}
 
-/// In a run of mode heap an insert is ok only if its pass's shard had room for the value's class before the line. A slot
-/// of the class was not live, marked or retired, a page was blank, or a page of another class was wholly the owner's.
-/// The insert is `Full` only if the shard had none of these. So it is `Full` exactly if there was no room, unless memory
-/// was refused, and then no page but a blank one had room.
+/// In a run of mode heap an insert is ok only if its pass's shard had room for the value's class before the line. A
+/// slot of the class was not live, marked or retired, a page was blank, or a page of another class was wholly the
+/// owner's. The insert is `Full` only if the shard had none of these. So it is `Full` exactly if there was no room,
+/// unless memory was refused, and then no page but a blank one had room.
 pub fn lines_see_room()
     ensures room { LinesSeeRoom }
     ensures apart { RoomExcludes }

@@ -6,8 +6,8 @@ use Rattle.clap.specs.declared.error.kind.ErrorKind.{ErrorKind}
 use Rattle.clap.specs.declared.error.kind.ErrorKind.TheVariants.{DisplayHelp, DisplayVersion, OutOfMemory}
 use Rattle.sh_script.specs.declared.fault.Fault.{Fault}
 use Rattle.script_output.specs.declared.mode.Mode.{Mode}
-use Rattle.script_output.specs.Ends.{WroteBeginning}
-use Rattle.script_output.specs.Faults.{IsFaultOf, IsRunFault, IsScriptOf}
+use Rattle.script_output.specs.Ends.{IsEndFault, WroteBeginning}
+use Rattle.script_output.specs.Faults.{IsFaultOf, IsScriptOf}
 use Rattle.sh_replay.specs.Output.{WritesOutput, Stops}
 use Rattle.script_program.specs.Faults.{status_of}
 use Rattle.script_program.specs.Options.{IsRefused, CommandSays}
@@ -45,7 +45,7 @@ pub record EndsFaulty (mode : Mode) (accounts : Bool) (text : List ℕ) (old new
     pub fault : Fault
     pub is : status ≡ status_of fault
     pub may : IsFaultOf mode text fault
-    pub answers : IsScriptOf mode text → IsRunFault mode fault
+    pub answers : IsScriptOf mode text → IsEndFault fault
     pub stops : Stops mode accounts text fault old new
 
 -- the words say a mode, and the script was run in it: to its end, with status 0, or up to a fault

@@ -10,8 +10,8 @@ use sh_script::{Cause, Fault};
 /// digits, and `Command` or `Unbound`.
 pub const LINE_MAX: usize = 64;
 
-/// The exit status of a run that ended with this fault: 2 if the script is at fault, and 3 if memory, an owner or a
-/// device is.
+/// The exit status of a run that ended with this fault: 2 if the script is at fault, and 3 if memory or a device is. No
+/// run ends with `Waiting`.
 pub fn status(fault: Fault) -> u8
     ensures { result ≡ status_of fault }
 {

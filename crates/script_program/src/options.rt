@@ -53,7 +53,7 @@ Example, of files in the folder examples/:
 Exit status:
   0  the script was run, or help or the version was asked for
   2  the command line or the script is wrong
-  3  memory was refused, an owner could not leave, or a read or a write failed";
+  3  memory was refused, or a read or a write failed";
 
 // The mode, which is required.
 fn mode_argument<'a>(alloc: Global, modes: &'a [&'a str]) -> Arg<'a>

@@ -15,9 +15,8 @@ use crate::merge::merged;
 use crate::room::Room;
 use crate::run::run_all;
 use crate::worker::{Shared, Worker};
-use script_calls::heeding::heed_in_turn;
+use script_calls::leaving::met_in_turn;
 use script_calls::line::binds;
-use script_calls::meeting::met;
 use script_calls::side::Side;
 use sh_script::{CallLine, Fault};
 use std::alloc::Global;
@@ -100,7 +99,7 @@ fn played<S: Side + Send, B: Room + Send + Sync, R: Threads + Wait + Sync, G: Ga
     let workers = run_all(rt, &shared, workers)?;
     let ended = all_ended(empty, workers, lines.len())?;
     let (output, sides) = merged::<S, B>(alloc, lines, ended)?;
-    Ok((output, met(heed_in_turn(sides, None))))
+    Ok((output, met_in_turn(sides, None)))
 }
 
 /// Runs each pass's lines in a thread of its own, in the order of the script. A line that uses a name waits until it is

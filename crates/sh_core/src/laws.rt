@@ -8,8 +8,8 @@ ghost use Rattle.sh_core.specs.Quiet.{QuietLosesNothing, CollectingFindsAll};
 ghost use Rattle.sh_core.specs.InHeap.{PlansHaveShapesPlaces, CountsLeaveRoom};
 
 /// What one more event adds to the trails of the passes: a step to that of the pass that did it, and nothing to
-/// another's. The part of a pass is what the steps of its trail leave of a newcomer's. A pass has as many entries in the
-/// log as steps that decided a call.
+/// another's. The part of a pass is what the steps of its trail leave of a newcomer's. A pass has as many entries in
+/// the log as steps that decided a call.
 pub fn trails_grow()
     ensures own { TrailGrows }
     ensures others { OthersTrailsStay }

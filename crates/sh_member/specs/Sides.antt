@@ -8,6 +8,7 @@ use Rattle.sh_pass.specs.Seats.{Heap}
 use Rattle.sh_pass.specs.Tales.{ViewIsValid}
 use Rattle.sh_pass.specs.Views.{joined_view}
 use Rattle.sh_pass.specs.Passes.{Caller, IsAtRest}
+use Rattle.sh_pass.specs.Bundles.{bundle_by, bundled}
 use Rattle.sh_pass.specs.Receipts.{heeded, receipt_by}
 use Rattle.sh_pass.specs.Remaining.{Remains}
 use Rattle.sh_pass.specs.declared.next_key.NextKey.{NextKey}
@@ -182,3 +183,17 @@ SideHeeds layout r (Shard o) (Shard n) = (n ≡ shard_heeded o r) × HoldsShard 
 SideHeeds layout r (Shard o) (Pass w) = ⊥
 SideHeeds layout r (Shard o) Moving = ⊥
 SideHeeds layout r Moving new = ⊥
+
+-- ---- bundles
+
+-- the bundle of no passes that it opens
+abbrev pub OpensBundle : SeenSide → Caller → Type 0
+OpensBundle (Pass v) b = b ≡ bundle_by v
+OpensBundle (Shard o) b = b ≡ bundle_by o.pages.owner
+OpensBundle Moving b = ⊥
+
+-- the bundle before and after it ended there
+abbrev pub EndsInBundle : SeenSide → Caller → Caller → Type 0
+EndsInBundle (Pass v) b c = c ≡ bundled b v
+EndsInBundle (Shard o) b c = c ≡ bundled b o.pages.owner
+EndsInBundle Moving b c = ⊥

@@ -3,6 +3,7 @@ ghost use Rattle.std.specs.Prelude.{◌≡◌};
 ghost use Rattle.sh_member.specs.declared.member.Side.TheVariants as side;
 
 mod between_calls;
+mod bundles;
 mod calls;
 mod counting;
 mod guards;

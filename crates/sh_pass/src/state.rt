@@ -2,9 +2,9 @@
 ghost use Rattle.std.specs.Prelude.{◌≡◌};
 ghost use Rattle.sh_table.specs.Tales.{ViewIsValid};
 ghost use Rattle.sh_pass.specs.Remaining.{Remains};
-ghost use Rattle.sh_pass.specs.Passes.{GetDoes, ReadDoes, ReadIntoDoes, RemoveDoes, ReleaseDoes, IsAtRest};
+ghost use Rattle.sh_pass.specs.Passes.{GetDoes, ReadIntoDoes, RemoveDoes, ReleaseDoes, IsAtRest};
 
-use crate::calls::{get_guard_of, get_key, read_key, read_value, release_key, remove_key};
+use crate::calls::{get_guard_of, get_key, read_key, release_key, remove_key};
 use crate::guard::Guard;
 use crate::heap::Heap;
 use crate::seated::Seated;
@@ -121,16 +121,6 @@ impl<L: KeyLayout> PassState<L> {
     {
         let Seated { seat, held, .. } = &mut self.seated;
         release_key(&heap.table, seat, held, &guard, None).0
-    }
-
-    /// The value of a key that the pass holds. Refused as `NotHeld` exactly if it has no hold on the key.
-    #[inline(always)]
-    pub fn read(&mut self, heap: &Heap<L>, hold: Hold) -> Result<Value, Refusal>
-        requires { self.old.heap ≡ heap.now }
-        ensures does { ReadDoes hold.key self.old result self.new }
-        ensures remains { Remains L.layout self.old self.new }
-    {
-        read_value(&heap.table, &mut self.seated.seat, &self.seated.held, &hold)
     }
 
     /// Reads the value of a key that the pass holds into a value of the caller's, replacing what that was. Refused as

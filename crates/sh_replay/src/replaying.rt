@@ -1,12 +1,10 @@
 //! A whole run: reads, parses and runs a script, and writes its output.
-ghost use Rattle.std.specs.Prelude.{◌≡◌, ◌≢◌, ℕ, List, IfOk, IfErr, OnOk, Some, take, false};
-ghost use Rattle.std.specs.Io.KnownBytes.{Appends};
+ghost use Rattle.std.specs.Prelude.{◌≡◌, ◌≢◌, ℕ, List, IfOk, IfErr, Some, take};
 ghost use Rattle.script_output.specs.Ends.{IsEndFault, ReadsAtMostBytes};
 ghost use Rattle.script_output.specs.Faults.{IsScriptOf, IsFaultOf};
-ghost use Rattle.sh_replay.specs.Output.{IsRunOf, EndsWriting, Replays};
+ghost use Rattle.sh_replay.specs.Output.{IsOutput, Replays};
 
 use crate::threads_output::threads_output;
-use script_heap::heap_lines::Ran;
 use script_heap::heap_output::heap_output;
 use script_models::plain_output::plain_output;
 use script_models::steps_output::steps_output;
@@ -19,23 +17,19 @@ use std::io::{Read, Write};
 use std::sync::Wait;
 use std::thread::Threads;
 
-// The result of a script's run in one thread, with whether an owner could not leave at its end.
-fn output(alloc: Global, text: &[u8], mode: Mode, accounts: bool) -> Result<Ran, Fault>
+// The output of a script's run in one thread.
+fn output(alloc: Global, text: &[u8], mode: Mode, accounts: bool) -> Result<Vec<u8>, Fault>
     requires { mode ≢ Mode.Threads }
-    ensures output { IfOk result (λ r. IsRunOf mode accounts text.now r.output.items r.is_waiting) }
+    ensures output { IfOk result (λ output. IsOutput mode accounts text.now output.items) }
     ensures fault { IfErr result (IsFaultOf mode text.now) }
     ensures answers { IsScriptOf mode text.now → IfErr result IsEndFault }
 {
-    let output = match mode {
-        Mode::Plain => plain_output(alloc, text)?,
-        Mode::Steps => steps_output(alloc, text, accounts)?,
-        Mode::Heap => return heap_output(alloc, text, accounts),
+    match mode {
+        Mode::Plain => plain_output(alloc, text),
+        Mode::Steps => steps_output(alloc, text, accounts),
+        Mode::Heap => heap_output(alloc, text, accounts),
         Mode::Threads => unreachable!(),
-    };
-    Ok(Ran {
-        output,
-        is_waiting: false,
-    })
+    }
 }
 
 // The same in any mode.
@@ -46,8 +40,8 @@ fn output_gated<R: Threads + Wait + Sync, G: Gate + Sync>(
     mode: Mode,
     accounts: bool,
     gate: &G,
-) -> Result<Ran, Fault>
-    ensures output { IfOk result (λ r. IsRunOf mode accounts text.now r.output.items r.is_waiting) }
+) -> Result<Vec<u8>, Fault>
+    ensures output { IfOk result (λ output. IsOutput mode accounts text.now output.items) }
     ensures fault { IfErr result (IsFaultOf mode text.now) }
     ensures answers { IsScriptOf mode text.now → IfErr result IsEndFault }
 {
@@ -57,26 +51,11 @@ fn output_gated<R: Threads + Wait + Sync, G: Gate + Sync>(
     }
 }
 
-// Writes the result of a script's run. If an owner could not leave, the run then ends as waiting.
-fn write_ran<W: Write>(writer: &mut W, ran: &Ran) -> Result<(), Fault>
-    ensures ok { OnOk result ((ran.now.is_waiting ≡ false)
-        × Appends (W.contents writer.old) (W.contents writer.new) ran.now.output.items) }
-    ensures fault { IfErr result (λ fault.
-        EndsWriting ran.now.output.items ran.now.is_waiting fault (W.contents writer.old) (W.contents writer.new)) }
-{
-    write_text(writer, ran.output.as_slice())?;
-    if ran.is_waiting {
-        return Err(Fault::Waiting);
-    }
-    Ok(())
-}
-
 /// Reads a script, runs it in one thread, in a mode other than threads, and writes its replies.
 ///
 /// It reads until a read gives no byte, or 1,048,577 bytes, and parses the whole script before anything runs. The fault
-/// is the first fault of the script, or `Memory`, or `Io` if a read or a write failed. In mode heap it may also be
-/// `Waiting`, if an owner could not leave once all replies were written. The flag asks for accounts; mode plain has
-/// none.
+/// is the first fault of the script, or `Memory`, or `Io` if a read or a write failed. It is never `Waiting`, since all
+/// owners can leave once the lines have run. The flag asks for accounts; mode plain has none.
 pub fn replay_alone<R: Read, W: Write>(
     alloc: Global,
     reader: &mut R,
@@ -87,14 +66,14 @@ pub fn replay_alone<R: Read, W: Write>(
     requires mode { mode ≢ Mode.Threads }
 
     // If the run ends well, what was read is a script, and the output of its run was written. Otherwise it ends with a
-    // fault of the script; or, even with a script, with want of memory, a failed end, or an owner that could not leave.
+    // fault of the script; or, even with a script, with want of memory or a failed end.
     ensures ends { (input : List ℕ) → R.remaining reader.old ≡ Some input → Replays mode accounts (take 1048577 input)
         result (W.contents writer.old) (W.contents writer.new) }
     ensures reads { ReadsAtMostBytes (R.remaining reader.old) (R.remaining reader.new) 1048577 }
 {
     let text = read_text(alloc, reader)?;
-    let ran = output(alloc, text.as_slice(), mode, accounts)?;
-    write_ran(writer, &ran)
+    let output = output(alloc, text.as_slice(), mode, accounts)?;
+    write_text(writer, output.as_slice())
 }
 
 /// The same in any mode. In mode threads the lines of each pass run in a thread of their own, and a line that uses a
@@ -116,8 +95,8 @@ pub fn replay_gated<R: Read, W: Write, T: Threads + Wait + Sync, G: Gate + Sync>
     ensures reads { ReadsAtMostBytes (R.remaining reader.old) (R.remaining reader.new) 1048577 }
 {
     let text = read_text(alloc, reader)?;
-    let ran = output_gated(rt, alloc, text.as_slice(), mode, accounts, gate)?;
-    write_ran(writer, &ran)
+    let output = output_gated(rt, alloc, text.as_slice(), mode, accounts, gate)?;
+    write_text(writer, output.as_slice())
 }
 
 /// The same with a gate that does nothing.

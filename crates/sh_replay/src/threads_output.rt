@@ -5,11 +5,11 @@ ghost use Rattle.sh_shape.specs.Shape.{IsShape, Fits};
 ghost use Rattle.sh_script.specs.declared.calls.CallLine.{CallLine};
 ghost use Rattle.sh_pass.specs.Seats.{Heap as HeapSeen};
 ghost use Rattle.script_output.specs.Keys.{HasTagRoom};
-ghost use Rattle.script_heap.specs.HeapOutput.{IsRan, IsHeapRun};
+ghost use Rattle.script_heap.specs.HeapOutput.{IsHeapOutput, IsHeap};
 ghost use Rattle.script_output.specs.Ends.{IsEndFault};
 ghost use Rattle.script_output.specs.Faults.{IsScriptOf, IsFaultOf};
 
-use script_heap::heap_lines::{Ran, gathered, members, opened};
+use script_heap::heap_lines::{gathered, members, opened};
 use script_output::Mode;
 use script_workers::gate::Gate;
 use script_workers::threads::threads_lines;
@@ -31,7 +31,7 @@ fn lines_on<L: KeyLayout + Send + Sync, R: Threads + Wait + Sync, G: Gate + Sync
     lines: &[CallLine],
     asked: bool,
     gate: &G,
-) -> Result<Ran, Fault>
+) -> Result<Vec<u8>, Fault>
     ghost at: { HeapSeen × Option ℕ × List CallLine }
     requires heap { heap.now ≡ at.0 }
     requires tag { tag ≡ at.1 }
@@ -40,7 +40,7 @@ fn lines_on<L: KeyLayout + Send + Sync, R: Threads + Wait + Sync, G: Gate + Sync
     requires shape { IsShape at.0.shape }
     requires room { HasTagRoom L.layout at.1 }
     requires passes { All (λ (l : CallLine). l.pass < at.0.shape.passes) at.2 }
-    ensures told { IfOk result (λ r. IsRan false L.layout at.0.shape at.1 at.2 asked r.output.items r.is_waiting) }
+    ensures told { IfOk result (λ output. IsHeapOutput false L.layout at.0.shape at.1 at.2 asked output.items) }
     ensures fault { IfErr result IsEndFault }
 {
     let sides = members(alloc, heap, seats)?;
@@ -57,12 +57,12 @@ fn heap_lines<L: KeyLayout + Send + Sync, R: Threads + Wait + Sync, G: Gate + Sy
     lines: &[CallLine],
     asked: bool,
     gate: &G,
-) -> Result<Ran, Fault>
+) -> Result<Vec<u8>, Fault>
     requires shape { IsShape shape }
     requires fits { Fits L.layout shape }
     requires room { HasTagRoom L.layout tag }
     requires passes { All (λ (l : CallLine). l.pass < shape.passes) lines.now }
-    ensures told { IfOk result (λ r. IsRan false L.layout shape tag lines.now asked r.output.items r.is_waiting) }
+    ensures told { IfOk result (λ output. IsHeapOutput false L.layout shape tag lines.now asked output.items) }
     ensures fault { IfErr result IsEndFault }
 {
     let (heap, seats) = opened::<L>(alloc, shape)?;
@@ -76,8 +76,8 @@ pub fn threads_output<R: Threads + Wait + Sync, G: Gate + Sync>(
     text: &[u8],
     asked: bool,
     gate: &G,
-) -> Result<Ran, Fault>
-    ensures output { IfOk result (λ r. IsHeapRun false asked text.now r.output.items r.is_waiting) }
+) -> Result<Vec<u8>, Fault>
+    ensures output { IfOk result (λ output. IsHeap false asked text.now output.items) }
     ensures fault { IfErr result (IsFaultOf Mode.Threads text.now) }
     ensures answers { IsScriptOf Mode.Threads text.now → IfErr result IsEndFault }
 {

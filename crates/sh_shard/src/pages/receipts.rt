@@ -1,12 +1,14 @@
-// Receipts of the owner of the pages.
+// Receipts of the owner of the pages, and its end in a bundle.
 ghost use Rattle.std.specs.Prelude.{◌≡◌};
+ghost use Rattle.sh_pass.specs.Bundles.{bundle_by, bundled};
 ghost use Rattle.sh_pass.specs.Receipts.{receipt_by};
 ghost use Rattle.sh_pass.specs.Remaining.{Remains};
+ghost use Rattle.sh_pass.specs.Together.{LeadsTogether};
 ghost use Rattle.sh_shard.specs.Pages.{HoldsPages, pages_heeded};
 
 use crate::pages::PagesOn;
 use sh_key::KeyLayout;
-use sh_pass::{KeepsHeap, Receipt};
+use sh_pass::{Bundle, KeepsHeap, Receipt};
 
 impl<L: KeyLayout, H: KeepsHeap<L>> PagesOn<L, H> {
     // A receipt for all that was returned to the owner.
@@ -26,5 +28,23 @@ impl<L: KeyLayout, H: KeepsHeap<L>> PagesOn<L, H> {
         ensures remains { Remains L.layout self.old.owner self.new.owner }
     {
         self.owner.heed(receipt);
+    }
+
+    // A bundle of no passes yet.
+    pub(crate) fn bundle(&mut self) -> Bundle
+        ensures same { self.new ≡ self.old }
+        ensures opens { result ≡ bundle_by self.old.owner }
+    {
+        self.owner.bundle()
+    }
+
+    // Ends the owner in the bundle.
+    pub(crate) fn bind(self, bundle: &mut Bundle)
+        requires { bundle.old.heap ≡ self.owner.heap }
+        ensures binds { bundle.new ≡ bundled bundle.old self.owner }
+        ensures leads { LeadsTogether L.layout bundle.new.view }
+    {
+        let PagesOn { owner, .. } = self;
+        owner.bind(bundle);
     }
 }

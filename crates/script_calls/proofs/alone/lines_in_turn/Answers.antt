@@ -7,7 +7,7 @@ use Rattle.std.proofs.lemmas.Option.{gets, slice_get-map}
 use Rattle.sh_script.specs.declared.calls.CallLine.{CallLine}
 use Rattle.script_output.specs.Keys.{HasTagRoom}
 use Rattle.script_calls.specs.OwnParts.{PartIsTrue}
-use Rattle.script_calls.specs.Parts.{RunTerms, SeenPass, new_passes, told_pass}
+use Rattle.script_calls.specs.Parts.{RunTerms, SeenPass, new_passes}
 use Rattle.script_calls.specs.Calls.{CallAnswers}
 use Rattle.script_output.specs.Replies.{reply_line}
 use Rattle.script_calls.specs.Runs.{number_meant, with_number}
@@ -15,8 +15,7 @@ use Rattle.script_calls.proofs.AloneLaws.{begins_ordered, ordered_more, last_of}
 use Rattle.script_calls.proofs.AloneEnds.{ordered_by}
 use Rattle.script_calls.proofs.StepLaws.{steps_in_turn}
 use Rattle.script_calls.proofs.HearLaws.{orders_only}
-use Rattle.script_calls.proofs.HeardAll.{heard_of_heap, heard_tales}
-use Rattle.script_calls.proofs.InTurn.{heap_at, map_set, all_are, all_speak, terms_at, lines_ran}
+use Rattle.script_calls.proofs.InTurn.{heap_at, map_set, all_are, terms_at, lines_ran}
 use Rattle.script_calls.proofs.alone.lines_in_turn.Goals as goal
 
 pub loop-line-init : goal.loop-line-init
@@ -84,8 +83,8 @@ loop-line-preserved g c =
     c.answered-answer.ensures.same a room (subst D bound c.answered-answer.ensures.does) stands
     c.tell.new.numbers.items _ c.tell.new.output.items c.receipt.result named put printed c.receipt.ensures.tells
 
-pub heed_in_turn-requires : goal.heed_in_turn-requires
-heed_in_turn-requires g c κs within = (
+pub met_in_turn-requires : goal.met_in_turn-requires
+met_in_turn-requires g c κs within = (
   within,
   (
     all_are g.at.0 g.at.1 c.args.tag c.args.lines.now c.loop-line.line-index c.loop-line.numbers.items
@@ -94,39 +93,22 @@ heed_in_turn-requires g c κs within = (
   ),
 )
 
-pub met-requires : goal.met-requires
-met-requires g c κs within =
-    let sides = map g.S.Side.seen c.loop-line.sides.items in
-    let ts = map g.S.Side.seen c.heed_in_turn.result.items in
-    let hear = c.heed_in_turn.ensures.hear in (
-      within,
-      (
-        heard_of_heap c.loop-line.last g.at.0 g.at.1 sides ts hear (all_are g.at.0 g.at.1 c.args.tag c.args.lines.now
-            c.loop-line.line-index c.loop-line.numbers.items sides c.loop-line.output.items
-            c.loop-line.invariant.so_far),
-        ap (map told_pass) (heard_tales c.loop-line.last sides ts hear)
-            ∙ all_speak g.at.0 g.at.1 c.args.tag c.args.lines.now c.loop-line.line-index c.loop-line.numbers.items
-            sides c.loop-line.output.items c.loop-line.invariant.so_far,
-      ),
-    )
-
 pub returns : goal.returns
 returns g c =
     let seen = g.S.Side.seen in
     let sides = map seen c.loop-line.sides.items in
-    let ts = map seen c.heed_in_turn.result.items in
-    let hear = c.heed_in_turn.ensures.hear in
+    let e = c.met_in_turn.ensures in
     let past : length c.args.lines.now ≤ c.loop-line.line-index = search rules in
     let fits : All (λ (l : CallLine). l.pass < g.at.1.shape.passes) c.args.lines.now = search rules in
     record {
-      ran = lines_ran seen true g.at.0 g.at.1 c.args.tag c.args.lines.now c.loop-line.line-index
-          c.loop-line.numbers.items sides c.loop-line.output.items c.met.result c.loop-line.last ts past fits
-          c.loop-line.invariant.so_far hear c.heed_in_turn.ensures.told
-          (λ s m e. (
+      ran = lines_ran true g.at.0 g.at.1 c.args.tag c.args.lines.now c.loop-line.line-index c.loop-line.numbers.items
+          sides c.loop-line.output.items (option_map seen c.met_in_turn.result) c.loop-line.last past fits
+          c.loop-line.invariant.so_far e
+          (λ s m alone. (
             ordered_by g.at.0 g.at.1 c.args.tag c.args.lines.now c.loop-line.line-index c.loop-line.numbers.items sides
-                c.loop-line.output.items c.loop-line.last c.loop-line.invariant past ts hear s m,
+                c.loop-line.output.items c.loop-line.last c.loop-line.invariant past e.heard e.hear s m,
             steps_in_turn g.at.0 g.at.1 c.args.tag c.args.lines.now c.loop-line.line-index c.loop-line.numbers.items
                 sides c.loop-line.output.items c.loop-line.last c.loop-line.invariant.so_far past
-                c.loop-line.invariant.heard_steps c.loop-line.invariant.last_steps ts hear s.orders m.heard,
-          )) c.met.ensures.met c.met.ensures.ended c.met.ensures.stays;
+                c.loop-line.invariant.heard_steps c.loop-line.invariant.last_steps e.heard e.hear s.orders m.heard,
+          ));
     }

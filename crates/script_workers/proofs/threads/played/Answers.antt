@@ -1,9 +1,7 @@
 use Rattle.std.proofs.Common.{◌≡◌, ◌≤◌, ◌∙◌, sym, ap, subst, ℕ, false, map, length, Option, None, arith}
 use Rattle.std.specs.Option.{option_map}
 use Rattle.script_calls.specs.Finished.{LinesRan}
-use Rattle.script_calls.specs.Parts.{told_pass}
-use Rattle.script_calls.proofs.HeardAll.{heard_of_heap, heard_tales}
-use Rattle.script_calls.proofs.InTurn.{all_are, all_speak, lines_ran}
+use Rattle.script_calls.proofs.InTurn.{all_are, lines_ran}
 use Rattle.script_calls.proofs.ListLemmas.{up_length}
 use Rattle.script_calls.proofs.Newcomers.{length_map, newcomers_length}
 use Rattle.script_workers.proofs.threads.played.Goals as goal
@@ -25,8 +23,8 @@ all_ended-requires-clause-space g c =
       omega (arith, sides, workers, long, wide, empty.rests.1, count),
     )
 
-pub heed_in_turn-requires : goal.heed_in_turn-requires
-heed_in_turn-requires g c κs within =
+pub met_in_turn-requires : goal.met_in_turn-requires
+met_in_turn-requires g c κs within =
     let room = g.B.Room in
     let lines = c.args.lines.now in
     let sides = map g.S.Side.seen c.in_ok-output.sides.items in
@@ -39,36 +37,16 @@ heed_in_turn-requires g c κs within =
       ),
     )
 
-pub met-requires : goal.met-requires
-met-requires g c κs within =
-    let room = g.B.Room in
-    let lines = c.args.lines.now in
-    let sides = map g.S.Side.seen c.in_ok-output.sides.items in
-    let ts = map g.S.Side.seen c.heed_in_turn.result.items in
-    let hear = c.heed_in_turn.ensures.hear in
-    let output = c.in_ok-output.output.items in
-    let answered = c.in_ok-output.ensures.answered in (
-      within,
-      (
-        heard_of_heap None room.heap room.terms sides ts hear
-            (all_are room.heap room.terms room.tag lines (length lines) answered.0 sides output answered.1),
-        ap (map told_pass) (heard_tales None sides ts hear)
-            ∙ all_speak room.heap room.terms room.tag lines (length lines) answered.0 sides output answered.1,
-      ),
-    )
-
 pub returns-clause-ran : goal.returns-clause-ran
 returns-clause-ran g c =
     let room = g.B.Room in
     let seen = g.S.Side.seen in
     let lines = c.args.lines.now in
     let sides = map seen c.in_ok-output.sides.items in
-    let ts = map seen c.heed_in_turn.result.items in
     let output = c.in_ok-output.output.items in
     let answered = c.in_ok-output.ensures.answered in
     let past : length lines ≤ length lines = omega arith in
-    let R : Option ℕ → Type 0 = λ tag. LinesRan false room.heap room.terms tag lines output
-    (option_map seen c.met.result) in
-    subst R (sym c.requires.tag) (lines_ran seen false room.heap room.terms room.tag lines (length lines) answered.0
-    sides output c.met.result None ts past c.requires.passes answered.1 c.heed_in_turn.ensures.hear
-    c.heed_in_turn.ensures.told (λ s m. no_bool) c.met.ensures.met c.met.ensures.ended c.met.ensures.stays)
+    let carrier = option_map seen c.met_in_turn.result in
+    let R : Option ℕ → Type 0 = λ tag. LinesRan false room.heap room.terms tag lines output carrier in
+    subst R (sym c.requires.tag) (lines_ran false room.heap room.terms room.tag lines (length lines) answered.0 sides
+    output carrier None past c.requires.passes answered.1 c.met_in_turn.ensures (λ s m. no_bool))
