@@ -99,11 +99,10 @@ static void fills_chunks(void) {
     shardheap_close(&heap);
 }
 
-/* The calls that name a shard, that are about the whole heap, or that are about receipts: they do nothing. */
+/* The calls that name a shard, or that are about the whole heap: they do nothing. */
 static void has_no_such_calls(void) {
-    shardheap heap = SHARDHEAP_INIT, deep = SHARDHEAP_INIT;
-    shardheap_pass pass = SHARDHEAP_INIT, other = SHARDHEAP_INIT;
-    shardheap_receipt receipt = SHARDHEAP_INIT;
+    shardheap heap = SHARDHEAP_INIT;
+    shardheap_pass pass = SHARDHEAP_INIT;
     shardheap_page page = {9, 9, 9, 9, 9, 9};
     shardheap_sums sums = {9, 9, 9, 9, 9, 9};
     uint64_t place = 55, key = 77;
@@ -122,18 +121,77 @@ static void has_no_such_calls(void) {
     IS(shardheap_slots_out(&pass, &key), SHARDHEAP_NO_SHARD);
     IS(shardheap_next_own_key(&pass, &place, &key), SHARDHEAP_NO_SHARD);
     TRUE(prepared == 66 && place == 55 && key == 77);
-    IS(shardheap_receipt_make(&pass, &receipt), SHARDHEAP_AWAY);
-    TRUE(!receipt.full);
-    IS(shardheap_open(&deep, SHARDHEAP_DEEP, 1, 1, 1), SHARDHEAP_OK);
-    IS(shardheap_take(&deep, &other), SHARDHEAP_OK);
-    IS(shardheap_receipt_make(&other, &receipt), SHARDHEAP_OK);
-    IS(shardheap_heed(&pass, &receipt), SHARDHEAP_AWAY);
-    TRUE(receipt.full);
-    IS(shardheap_heed(&other, &receipt), SHARDHEAP_OK);
     has(&pass, stored, 7);
     IS(shardheap_give(&pass), SHARDHEAP_OK);
-    IS(shardheap_give(&other), SHARDHEAP_OK);
     shardheap_close(&heap);
+}
+
+/* A receipt covers the chunks that its pass has used. It is heeded once, also after its pass went home. */
+static void heeds(void) {
+    shardheap heap = SHARDHEAP_INIT;
+    shardheap_pass one = SHARDHEAP_INIT, two = SHARDHEAP_INIT;
+    shardheap_receipt receipt = SHARDHEAP_INIT;
+    IS(shardheap_open_growing(&heap, 1, CHUNK, 1, 2, 3), SHARDHEAP_OK);
+    IS(shardheap_take(&heap, &one), SHARDHEAP_OK);
+    IS(shardheap_take(&heap, &two), SHARDHEAP_OK);
+    uint64_t low = fills(&one, 0, CHUNK), high = fills(&one, CHUNK, 1);
+    TRUE(low >> 56 == 0 && high >> 56 == 1);
+    IS(shardheap_heed(&two, &receipt), SHARDHEAP_EMPTY);
+    IS(shardheap_receipt_make(&one, &receipt), SHARDHEAP_OK);
+    IS(shardheap_receipt_make(&one, &receipt), SHARDHEAP_OCCUPIED);
+    IS(shardheap_heed(&two, &receipt), SHARDHEAP_OK);
+    IS(shardheap_heed(&two, &receipt), SHARDHEAP_EMPTY);
+    IS(shardheap_take_value(&two, high, room, 16, &length), SHARDHEAP_OK);
+    TRUE(length == 1 && room[0] == CHUNK);
+    /* a pass that owns shards heeds too, and stores there as before */
+    IS(shardheap_receipt_make(&two, &receipt), SHARDHEAP_OK);
+    IS(shardheap_heed(&one, &receipt), SHARDHEAP_OK);
+    IS(shardheap_load(&one, high, room, 16, &length), SHARDHEAP_GONE);
+    fills(&one, 5000, 1);
+    TRUE(shardheap_chunks(&heap) == 2);
+    IS(shardheap_receipt_make(&one, &receipt), SHARDHEAP_OK);
+    IS(shardheap_give(&one), SHARDHEAP_OK);
+    shardheap_close(&heap);
+    IS(shardheap_heed(&one, &receipt), SHARDHEAP_EMPTY);
+    IS(shardheap_heed(&two, &receipt), SHARDHEAP_OK);
+    has(&two, low, CHUNK - 1);
+    IS(shardheap_receipt_make(&two, &receipt), SHARDHEAP_OK);
+    IS(shardheap_give(&two), SHARDHEAP_OK);
+    shardheap_receipt_close(&receipt);
+    TRUE(!receipt.full && receipt.at == 0);
+}
+
+/* A receipt of another heap orders nothing and does no harm. It is refused if it covers a chunk that is not open. */
+static void heeds_no_other_heap(void) {
+    shardheap heap = SHARDHEAP_INIT, larger = SHARDHEAP_INIT, deep = SHARDHEAP_INIT;
+    shardheap_pass pass = SHARDHEAP_INIT, other = SHARDHEAP_INIT, fixed = SHARDHEAP_INIT;
+    shardheap_receipt receipt = SHARDHEAP_INIT;
+    IS(shardheap_open_growing(&heap, 1, 1, 1, 1, 3), SHARDHEAP_OK);
+    IS(shardheap_open_growing(&larger, 1, 1, 1, 1, 2), SHARDHEAP_OK);
+    IS(shardheap_open(&deep, SHARDHEAP_DEEP, 1, 1, 1), SHARDHEAP_OK);
+    IS(shardheap_take(&heap, &pass), SHARDHEAP_OK);
+    IS(shardheap_take(&larger, &other), SHARDHEAP_OK);
+    IS(shardheap_take(&deep, &fixed), SHARDHEAP_OK);
+    uint64_t key = fills(&pass, 7, 1), high = fills(&other, 0, CHUNK + 1);
+    IS(shardheap_receipt_make(&other, &receipt), SHARDHEAP_OK);
+    IS(shardheap_heed(&pass, &receipt), SHARDHEAP_TAKEN);
+    TRUE(!receipt.full && shardheap_chunks(&heap) == 1);
+    IS(shardheap_receipt_make(&fixed, &receipt), SHARDHEAP_OK);
+    IS(shardheap_heed(&pass, &receipt), SHARDHEAP_OK);
+    IS(shardheap_receipt_make(&pass, &receipt), SHARDHEAP_OK);
+    IS(shardheap_heed(&fixed, &receipt), SHARDHEAP_OK);
+    IS(shardheap_receipt_make(&pass, &receipt), SHARDHEAP_OK);
+    IS(shardheap_heed(&other, &receipt), SHARDHEAP_OK);
+    has(&pass, key, 7);
+    has(&other, high, CHUNK);
+    IS(shardheap_adopt(&fixed, 0), SHARDHEAP_OK);
+    has(&fixed, fills(&fixed, 8, 1), 8);
+    IS(shardheap_leave(&fixed), SHARDHEAP_OK);
+    IS(shardheap_give(&pass), SHARDHEAP_OK);
+    IS(shardheap_give(&other), SHARDHEAP_OK);
+    IS(shardheap_give(&fixed), SHARDHEAP_OK);
+    shardheap_close(&heap);
+    shardheap_close(&larger);
     shardheap_close(&deep);
 }
 
@@ -244,6 +302,8 @@ int main(void) {
     opens();
     fills_chunks();
     has_no_such_calls();
+    heeds();
+    heeds_no_other_heap();
     comes_home();
     uses_its_chunks_again();
     serves_threads();

@@ -105,6 +105,7 @@ static void shares(uint32_t layout) {
 static void grows(void) {
     shardheap heap = SHARDHEAP_INIT, other = SHARDHEAP_INIT;
     shardheap_pass one = SHARDHEAP_INIT, two = SHARDHEAP_INIT;
+    shardheap_receipt receipt = SHARDHEAP_INIT;
     uint64_t room[16], length;
     TRY(shardheap_open_growing(&heap, 1, 1, 16, 2, 3), !heap.full);
     TRY(shardheap_share(&heap, &other), !other.full && heap.full);
@@ -118,6 +119,8 @@ static void grows(void) {
         TRUE(length == 16 && room[2] == 3);
     }
     TRUE(shardheap_chunks(&other) == 2);
+    TRY(shardheap_receipt_make(&one, &receipt), !receipt.full);
+    IS(shardheap_heed(&two, &receipt), SHARDHEAP_OK);
     IS(shardheap_give(&one), SHARDHEAP_OK);
     IS(shardheap_pass_lose(&two), SHARDHEAP_OK);
     shardheap_close(&other);

@@ -82,25 +82,39 @@ static void *hands_over(void *arg) {
     return arg;
 }
 
-static void between_threads(void) {
-    shardheap heap = SHARDHEAP_INIT;
-    shardheap_pass owner = SHARDHEAP_INIT, pass = SHARDHEAP_INIT;
+/* This thread's end. In a growing heap it leaves the values where they are, so that further chunks open. */
+static void takes_over(shardheap_pass *owner, shardheap_pass *pass, bool grows) {
     pthread_t thread;
     void *done;
     uint64_t room[16], length;
-    IS(shardheap_open_for(&heap, SHARDHEAP_WIDE, 1, 100, 1, 2), SHARDHEAP_OK);
-    IS(shardheap_take(&heap, &owner), SHARDHEAP_OK);
-    IS(shardheap_take(&heap, &pass), SHARDHEAP_OK);
-    IS(shardheap_adopt(&owner, 0), SHARDHEAP_OK);
-    TRUE(pthread_create(&thread, NULL, hands_over, &owner) == 0);
+    TRUE(pthread_create(&thread, NULL, hands_over, owner) == 0);
     for (uint64_t n = 0; n < HANDED; n++) {
         while (!atomic_load(&full)) sched_yield();
-        IS(shardheap_heed(&pass, &handed.receipt), SHARDHEAP_OK);
-        IS(shardheap_take_value(&pass, handed.key, room, 16, &length), SHARDHEAP_OK);
+        IS(shardheap_heed(pass, &handed.receipt), SHARDHEAP_OK);
+        if (grows) {
+            IS(shardheap_load(pass, handed.key, room, 16, &length), SHARDHEAP_OK);
+        } else {
+            IS(shardheap_take_value(pass, handed.key, room, 16, &length), SHARDHEAP_OK);
+        }
         TRUE(length == 1 && room[0] == n);
         atomic_store(&full, 0);
     }
     TRUE(pthread_join(thread, &done) == 0 && done);
+}
+
+static void between_threads(bool grows) {
+    shardheap heap = SHARDHEAP_INIT;
+    shardheap_pass owner = SHARDHEAP_INIT, pass = SHARDHEAP_INIT;
+    if (grows) {
+        IS(shardheap_open_growing(&heap, 1, 100, 1, 2, 256), SHARDHEAP_OK);
+    } else {
+        IS(shardheap_open_for(&heap, SHARDHEAP_WIDE, 1, 100, 1, 2), SHARDHEAP_OK);
+    }
+    IS(shardheap_take(&heap, &owner), SHARDHEAP_OK);
+    IS(shardheap_take(&heap, &pass), SHARDHEAP_OK);
+    if (!grows) IS(shardheap_adopt(&owner, 0), SHARDHEAP_OK);
+    takes_over(&owner, &pass, grows);
+    TRUE(!grows || shardheap_chunks(&heap) > 3);
     IS(shardheap_leave(&owner), SHARDHEAP_OK);
     IS(shardheap_give(&owner), SHARDHEAP_OK);
     IS(shardheap_give(&pass), SHARDHEAP_OK);
@@ -110,7 +124,8 @@ static void between_threads(void) {
 int main(void) {
     null_and_empty();
     for (uint32_t layout = SHARDHEAP_WIDE; layout <= SHARDHEAP_TINY; layout++) heeds(layout);
-    between_threads();
+    between_threads(false);
+    between_threads(true);
     printf("receipts: %d checks passed\n", checks);
     return 0;
 }

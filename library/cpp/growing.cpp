@@ -1,4 +1,4 @@
-// Heaps that grow: values of several chunks, callers that come home, and threads.
+// Heaps that grow: values of several chunks, receipts, callers that come home, and threads.
 #include "check.hpp"
 
 #include <cstdint>
@@ -69,6 +69,36 @@ TEST(callers_leave_and_collect) {
     gearlongan::caller none;
     THROWS(none.leave(), empty);
     THROWS(none.collect(), empty);
+}
+
+TEST(callers_heed_receipts) {
+    auto heap = three_chunks(2);
+    auto caller = heap.take(), other = heap.take();
+    const auto keys = stored(caller, 0, chunk + 1);
+    gearlongan::receipt receipt = caller.receipt();
+    IS(caller.try_receipt(receipt), occupied);
+    other.heed(std::move(receipt));
+    CHECK(other.load(keys.back())->front() == chunk && !receipt); // NOLINT(bugprone-use-after-move)
+    CHECK(other.remove(keys.front()));
+    receipt = other.receipt();
+    IS(caller.try_heed(receipt), ok);
+    CHECK(!caller.load(keys.front()) && !receipt);
+    IS(caller.try_heed(receipt), empty);
+    CHECK(stored(caller, 5000, 1).size() == 1 && heap.chunks() == 2);
+}
+
+TEST(a_receipt_of_another_growing_heap_orders_nothing) {
+    auto heap = three_chunks(1), second = three_chunks(1);
+    auto caller = heap.take(), elsewhere = second.take();
+    const auto key = caller.insert({7});
+    gearlongan::receipt receipt = elsewhere.receipt();
+    IS(caller.try_heed(receipt), ok);
+    CHECK(stored(elsewhere, 0, chunk + 1).size() == chunk + 1);
+    receipt = elsewhere.receipt();
+    IS(caller.try_heed(receipt), taken);
+    CHECK(!receipt && heap.chunks() == 1);
+    THROWS(caller.heed(elsewhere.receipt()), taken);
+    CHECK(caller.load(key)->front() == 7);
 }
 
 TEST(callers_move_and_come_home) {

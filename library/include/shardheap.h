@@ -37,9 +37,10 @@
    is FULL only if all chunks are open. A pass has 16 holds in each chunk, and is NOT_HELD for each key of a chunk that
    it has not used. BAD_KEY also comes for a chunk that is not open. A key has no room for a tag: tag is BAD_KEY for one
    of a further chunk, except in checked mode, where the chunk is lost. Two calls of one pass are in their order if they
-   are in one chunk. These calls do nothing on a growing heap: adopt, prepare, pages_left, slots_out and next_own_key
-   return NO_SHARD; gather, accounts, totals, next_key, receipt_make and heed return AWAY. (TAKEN comes from a call on a
-   key and from an insert only if another handle's bytes were forged.)
+   are in one chunk. A receipt covers all chunks that its pass has used, and a pass that heeds it has used them too.
+   These calls do nothing on a growing heap: adopt, prepare, pages_left, slots_out and next_own_key return NO_SHARD;
+   gather, accounts, totals and next_key return AWAY. (TAKEN comes from a call on a key and from an insert only if
+   another handle's bytes were forged.)
 
    KEYS. A key belongs to one heap and ends with it. The first keys of two heaps are the same number. So a pass that
    removes a key of another heap may remove a value of its own heap that nobody meant.
@@ -85,7 +86,7 @@
      - BUSY: another call uses the handle at this moment;
      - OTHER_HEAP: the key or the receipt is not of the heap of this pass. Bits 56 to 63 of a key have the number of its
        heap, from 1 to 255 and then anew. A tag takes that number away, and keys of layout deep and of growing heaps
-       have none: these are not recognised. Receipts of two heaps of layout deep look alike.
+       have none: these are not recognised. Receipts of two heaps of layout deep, or of growing heaps, look alike.
    If the macro SHARDHEAP_ON_MISUSE(code) is defined, for example as abort(), it is called too, also for NO_HANDLE.
 
    MEMORY is taken by open, share, take, adopt, gather, receipt_make, and by an insert or a prepare that opens a
@@ -729,7 +730,7 @@ static inline uint32_t shardheap_take_value(shardheap_pass *pass, uint64_t key, 
 
 /* Makes a receipt into an empty handle. It covers all calls of the pass until now, and what the receipts cover that the
    pass heeded. The pass is as before. A receipt orders no threads: it goes to another thread as any handle does, by
-   what orders the two. OCCUPIED, EMPTY, MEMORY, OVERLAP; AWAY, of a pass of a growing heap.
+   what orders the two. OCCUPIED, EMPTY, MEMORY, OVERLAP.
 
        code = shardheap_receipt_make(&pass, &receipt);    after an insert: it goes with the key */
 static inline uint32_t shardheap_receipt_make(shardheap_pass *pass, shardheap_receipt *receipt) {
@@ -747,7 +748,8 @@ static inline uint32_t shardheap_receipt_make(shardheap_pass *pass, shardheap_re
 
 /* Heeds a receipt that a pass of the same heap made, and empties its handle: all that the receipt covers happens before
    the next calls of this pass. So a key whose insert it covers is Gone only if a call removed it, and a key whose
-   removal it covers is Gone. EMPTY, of either handle; OVERLAP; AWAY, with nothing done, of a pass of a growing heap.
+   removal it covers is Gone. EMPTY, of either handle; OVERLAP; TAKEN, if the receipt covers a chunk that this heap has
+   not opened, so that it is of another growing heap.
 
        code = shardheap_heed(&pass, &receipt);    in the other thread, before it loads the key */
 static inline uint32_t shardheap_heed(shardheap_pass *pass, shardheap_receipt *receipt) {

@@ -1,6 +1,5 @@
 -- What a pass's handle holds: a pass of a heap of a fixed shape, or a caller of one that grows; and what its calls do.
-use Rattle.std.specs.Prelude.{◌≡◌, ℕ, ◌<◌, Bool, true, false, List, Option, Some, None, Result, Ok, Err, IfErr, OnOk}
-use Rattle.std.specs.Prelude.{get_or, length}
+use Rattle.std.specs.Prelude.{◌≡◌, ℕ, ◌<◌, List, None, Result, Ok, Err, IfErr, OnOk, get_or, length}
 use Rattle.sh_value.specs.declared.hold.Hold.{Hold}
 use Rattle.sh_value.specs.declared.refusal.Refusal.{Refusal}
 use Rattle.sh_value.specs.declared.refusal.Refusal.TheVariants as refusal
@@ -14,14 +13,13 @@ use Rattle.sh_grown.specs.declared.caller.Caller.{Caller as SeenCaller}
 use Rattle.sh_grown.specs.Callers.{GetsIn, GrownDoes, HeldDoes, Stays}
 use Rattle.sh_grown.specs.Inserts.{Inserts, OwnsNone}
 use Rattle.sh_grown.specs.Keeping.{KeepsMembers}
+use Rattle.sh_grown.specs.Receipts.{AreReceiptsIn, CoversEach, Heeds}
+use Rattle.sh_grown.specs.declared.receipts.GrownReceipt.{GrownReceipt}
 use Rattle.c_handles.specs.declared.held_pass.HeldPass.{HeldPass}
 use Rattle.c_handles.specs.declared.held_pass.HeldPass.TheVariants as held
+use Rattle.c_handles.specs.declared.receipts.KeptReceipt.{KeptReceipt}
+use Rattle.c_handles.specs.declared.receipts.KeptReceipt.TheVariants as kept
 use Rattle.c_handles.specs.Members.{AnyDoes, AnyHeeds, side_of}
-
--- it is of a heap that grows
-abbrev pub does_grow : HeldPass → Bool
-does_grow (held.Growing c) = true
-does_grow m = false
 
 -- a call that stays with the kind: a caller does the second, and a pass of a heap of a fixed shape does the first
 abbrev pub OfKind : {A : Type 0} → (HeldPass → Result A Refusal → HeldPass → Type 0)
@@ -145,20 +143,49 @@ HeldGives p (Err q) = q ≡ p
 
 -- ---- receipts
 
--- a receipt of all results of a pass; there is none of a caller
-abbrev pub IsReceiptOf : HeldPass → Option Caller → Type 0
-IsReceiptOf (held.Growing c) (Some r) = ⊥
-IsReceiptOf (held.Growing c) None = Unit {0}
-IsReceiptOf m (Some r) = IsReceiptBy (side_of m) r
-IsReceiptOf m None = ⊥
+-- a receipt of all results of a pass; or of a caller, in each chunk that it has met
+abbrev pub IsReceiptOf : HeldPass → KeptReceipt → Type 0
+IsReceiptOf (held.Growing c) (kept.Growing r) =
+    CoversEach (length c.growing.cells.items) c.met.items r.chunks.items × AreReceiptsIn c.growing r.chunks.items
+IsReceiptOf (held.Growing c) (kept.Fixed r) = ⊥
+IsReceiptOf m (kept.Fixed r) = IsReceiptBy (side_of m) r
+IsReceiptOf m (kept.Growing r) = ⊥
 
--- the heap that a pass is of
-abbrev pub IsOfHeldHeap : HeldPass → Heap → Type 0
-IsOfHeldHeap (held.Growing c) heap = Unit {0}
-IsOfHeldHeap m heap = IsOfHeap (side_of m) heap
+-- a pass is as it was; a caller keeps its heap, and what it has in its chunks is as it was
+abbrev pub IsAsBefore : HeldPass → HeldPass → Type 0
+IsAsBefore (held.Growing c) (held.Growing d) = (d.met.items ≡ c.met.items) × Stays c d
+IsAsBefore (held.Growing c) n = ⊥
+IsAsBefore m n = n ≡ m
 
--- a pass heeded the receipt; a caller heeds none, and is as it was
-abbrev pub HeldHeeds : Caller → HeldPass → HeldPass → Type 0
-HeldHeeds receipt (held.Growing c) (held.Growing d) = d ≡ c
-HeldHeeds receipt (held.Growing c) n = ⊥
-HeldHeeds receipt m n = AnyHeeds receipt m n
+-- the heap of a fixed shape that a pass is of
+abbrev pub IsOfFixed : HeldPass → Heap → Type 0
+IsOfFixed (held.Growing c) heap = ⊥
+IsOfFixed m heap = IsOfHeap (side_of m) heap
+
+-- the receipt is of the growing heap that a caller is of
+abbrev pub IsOfGrown : HeldPass → GrownReceipt → Type 0
+IsOfGrown (held.Growing c) receipt = AreReceiptsIn c.growing receipt.chunks.items
+IsOfGrown m receipt = ⊥
+
+-- the receipt is of the heap of the pass or the caller: a pass is of no growing heap, and a caller of no other
+abbrev pub IsOfHeldHeap : HeldPass → KeptReceipt → Type 0
+IsOfHeldHeap m (kept.Fixed r) = IsOfFixed m r.heap
+IsOfHeldHeap m (kept.Growing r) = IsOfGrown m r
+
+-- a pass heeded the receipt; a caller heeds none of a pass, and is as it was
+abbrev pub HeedsFixed : Caller → HeldPass → HeldPass → Type 0
+HeedsFixed receipt (held.Growing c) (held.Growing d) = d ≡ c
+HeedsFixed receipt (held.Growing c) n = ⊥
+HeedsFixed receipt m n = AnyHeeds receipt m n
+
+-- a caller heeded the receipt, in each chunk of it; a pass heeds none of a caller, and is as it was
+abbrev pub HeedsGrown : GrownReceipt → HeldPass → Result (Unit {0}) Refusal → HeldPass → Type 0
+HeedsGrown receipt (held.Growing c) answer (held.Growing d) =
+    Heeds c.growing c.number receipt.chunks.items c.met.items answer d.met.items × Stays c d
+HeedsGrown receipt (held.Growing c) answer n = ⊥
+HeedsGrown receipt m answer n = (answer ≡ Ok tt) × (n ≡ m)
+
+-- a heed: a pass is never refused, and a caller as Taken alone
+abbrev pub HeldHeeds : KeptReceipt → HeldPass → Result (Unit {0}) Refusal → HeldPass → Type 0
+HeldHeeds (kept.Fixed r) m answer n = (answer ≡ Ok tt) × HeedsFixed r m n
+HeldHeeds (kept.Growing r) m answer n = HeedsGrown r m answer n

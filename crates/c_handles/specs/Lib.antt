@@ -13,5 +13,6 @@ pub use Rattle.sh_member.specs.Sides
 pub use Rattle.sh_nullable.specs.Owning
 pub use Rattle.sh_grown.specs.Callers
 pub use Rattle.sh_grown.specs.Chunks
+pub use Rattle.sh_grown.specs.Receipts
 pub use Rattle.sh_grown.specs.declared.growing.Growing
 pub use Rattle.sh_grown.specs.declared.chunk_member.ChunkMember

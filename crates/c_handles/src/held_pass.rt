@@ -1,7 +1,6 @@
 //! What a pass's handle holds, and how it is given back or lost.
-ghost use Rattle.std.specs.Prelude.{◌≡◌};
 ghost use Rattle.c_handles.specs.Members.{Gives};
-ghost use Rattle.c_handles.specs.HeldPasses.{HeldGives, does_grow};
+ghost use Rattle.c_handles.specs.HeldPasses.{HeldGives};
 
 use sh_grown::Caller;
 use sh_key::{Deep, KeyLayout, Tagged, Tiny, Wide};
@@ -32,13 +31,6 @@ impl Drop for HeldPass {
 }
 
 impl HeldPass {
-    /// Whether it is a caller of a growing heap.
-    pub fn grows(&self) -> bool
-        ensures { result ≡ does_grow self.now }
-    {
-        matches!(self, HeldPass::Growing(_))
-    }
-
     /// Gives its pass back, or the passes of a caller. A pass that owns a shard, or whose pool slot is not free, is
     /// returned as it was. A caller is not returned: each pass of it that owns a shard is lost.
     pub fn return_to_pool(self) -> Result<(), HeldPass>

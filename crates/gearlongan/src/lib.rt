@@ -177,7 +177,8 @@
 //!
 //! Everything that the receipt covers happens before all later replies to the pass, in each history, and the receipts
 //! that this pass makes cover it too. A receipt belongs to one heap, as a pass does, and `heed` requires that both are
-//! of the same heap. `copy` makes a second receipt for one more thread.
+//! of the same heap. `copy` makes a second receipt for one more thread. A receipt of a `Caller` is a `GrownReceipt`: it
+//! covers each chunk that the caller has met, and a caller that heeds it meets these chunks.
 //!
 //! `insert_told` and `fetch_told` do both ends, for a key and its receipt that go together;
 //! `crates/example_key_channel` sends such keys over a channel. `heard_comes_first` says what follows for keys, and
@@ -190,7 +191,9 @@ pub use sh_core::Accounts;
 pub use sh_gather::{
     PageAccounts, Totals, Whole, all_accounts, gather, join, next_key, total, whole,
 };
-pub use sh_grown::{Caller, Chunk, Growing, GrowingShare, GrownGuard, GrownTotals, NotTold};
+pub use sh_grown::{
+    Caller, Chunk, Growing, GrowingShare, GrownGuard, GrownReceipt, GrownTotals, NotTold,
+};
 pub use sh_key::{Deep, KeyLayout, Tagged, Tiny, Wide};
 pub use sh_member::{Reader, ToldKey, fetch_told, insert_told, next_own_key};
 pub use sh_pass::{Guard, Heap, NextKey, Pass, Receipt, Seats, remove_then_get};

@@ -1,8 +1,13 @@
+pub mod CallSteps
 pub mod Claims
 pub mod Full
+pub mod Heeding
 pub mod Keeping
+pub mod OfChunks
 pub mod Places
 pub mod Refusals
 pub mod Shapes
+pub mod StepSums
+pub mod Stepping
 pub mod Sums
 pub mod Wholes

@@ -3,8 +3,11 @@ pub mod ChunkShapes
 pub mod Growing
 pub mod Inserts
 pub mod Keeping
+pub mod OfChunks
+pub mod Receipts
 pub mod Refusals
 pub mod Shares
+pub mod Steps
 pub mod Sums
 pub mod Wholes
 pub use Rattle.sh_chunk.specs.Chunks

@@ -1,13 +1,18 @@
 //! Callers of a growing heap.
 ghost use Rattle.std.specs.Prelude.{◌≡◌, ℕ, ◌<◌, IfErr, IfOk, IfSome, IsSome, MatchResult, None, OnOk, get_or};
-ghost use Rattle.std.specs.Prelude.{length};
+ghost use Rattle.std.specs.Prelude.{length, slice_get};
+ghost use Rattle.std.proofs.Props.{props};
+ghost use Rattle.once_cell.specs.Once.{cell_name};
 ghost use Rattle.sh_value.specs.declared.refusal.Refusal.TheVariants.{Memory};
-ghost use Rattle.sh_grown.specs.Callers.{IsClaimed, IsNewcomer, Meets, Stays, WhyUnmet, WhyWithout};
 ghost use Rattle.sh_grown.specs.Keeping.{KeepsMembers};
+ghost use Rattle.sh_grown.specs.OfChunks.{AreOfChunks};
 
 use crate::chunk_member::{ChunkMember, meet, meet_first};
 use crate::growing::Growing;
 use crate::share::GrowingShare;
+use once_cell::race::Note;
+use sh_chunk::Chunked;
+use sh_pool::Share;
 use sh_value::Refusal;
 use std::alloc::Global;
 
@@ -28,6 +33,7 @@ pub struct Caller {
     pub(crate) next: usize,
     // Its member in each chunk that it has met.
     pub(crate) met: Vec<Option<ChunkMember>>,
+    ghost of_chunks: { AreOfChunks growing met.items } by { Prim.hlevel props },
 }
 
 // Room for a member in each of this many chunks, none of which is met yet.
@@ -47,6 +53,8 @@ fn no_members(alloc: Global, chunks: usize) -> Result<Vec<Option<ChunkMember>>, 
 }
 
 impl GrowingShare {
+    ghost use Rattle.sh_grown.specs.Callers.{IsClaimed, WhyWithout};
+
     /// A caller with the first number that is not claimed. It has the pass of that number in the first chunk, and a
     /// share of the heap.
     ///
@@ -59,7 +67,7 @@ impl GrowingShare {
     /// let key = caller.insert(alloc, &Value::from(7))?;
     /// let value = caller.fetch(key)?;
     /// ```
-    #[tactic(auto, using(crate::proofs::Claims::claimed_alike))]
+    #[tactic(auto, using(crate::proofs::Claims::claimed_alike, crate::proofs::OfChunks::claims_of))]
     pub fn claim(&self, alloc: Global) -> Result<Caller, Refusal>
         ensures growing { IfOk result (λ caller. caller.growing ≡ self.now) }
         ensures claimed { IfOk result (λ caller. IsClaimed self.now caller.number caller.met.items) }
@@ -79,6 +87,8 @@ impl GrowingShare {
 }
 
 impl Growing {
+    ghost use Rattle.sh_grown.specs.Callers.{IsClaimed, IsNewcomer, WhyWithout};
+
     // What a caller begins with: its number, and its members, of which only the one in the first chunk is there.
     #[tactic(auto, using(crate::proofs::Claims::first_goes))]
     fn first_members(&self, alloc: Global) -> Result<(usize, Vec<Option<ChunkMember>>), Refusal>
@@ -105,6 +115,8 @@ impl Growing {
 }
 
 impl Caller {
+    ghost use Rattle.sh_grown.specs.Callers.{Meets, Stays, WhyUnmet};
+
     /// Its number among the callers of its heap, from 0 to 63.
     pub fn number(&self) -> usize
         ensures { result ≡ self.now.number }
@@ -131,10 +143,34 @@ impl Caller {
         self.meet_late(chunk)
     }
 
-    // The same, apart from it, since a chunk is seldom met: what a meeting makes takes a kilobyte of stack.
+    // The same of a chunk that it has not met, apart from it, since a chunk is seldom met: what a meeting makes takes a
+    // kilobyte of stack.
     #[cold]
     #[inline(never)]
     fn meet_late(&mut self, chunk: usize) -> Result<(), Refusal>
+        requires { get_or self.old.met.items chunk None ≡ None }
+        ensures met { MatchResult result
+            (λ _. Meets self.old.growing self.old.number chunk self.old.met.items self.new.met.items)
+            (λ why. WhyUnmet why × (get_or self.old.met.items chunk None ≡ None)
+            × (self.new.met.items ≡ self.old.met.items)) }
+        ensures there { OnOk result ((chunk < length self.new.met.items)
+            × IsSome (get_or self.new.met.items chunk None)) }
+        ensures keeps { KeepsMembers self.old.met.items self.new.met.items }
+        ensures stays { Stays self.old self.new }
+    {
+        let Some(note) = self.growing.note(chunk) else {
+            return Err(Refusal::BadKey);
+        };
+        self.meet_by(chunk, note)
+    }
+
+    // The same as `meet`, by a note of the chunk's cell: if the note knows the chunk, it is found open.
+    pub(crate) fn meet_by(
+        &mut self,
+        chunk: usize,
+        mut note: Note<Share<Chunked>>,
+    ) -> Result<(), Refusal>
+        requires { IfSome (slice_get self.old.growing.cells.items chunk) (λ c. note.cell ≡ cell_name c) }
         ensures met { MatchResult result
             (λ _. Meets self.old.growing self.old.number chunk self.old.met.items self.new.met.items)
             (λ why. WhyUnmet why × (get_or self.old.met.items chunk None ≡ None)
@@ -148,9 +184,6 @@ impl Caller {
             return Err(Refusal::BadKey);
         };
         if place.is_none() {
-            let Some(mut note) = self.growing.note(chunk) else {
-                return Err(Refusal::BadKey);
-            };
             let Some(share) = self.growing.seen(chunk, &mut note) else {
                 return Err(Refusal::BadKey);
             };

@@ -6,11 +6,12 @@ ghost use Rattle.sh_chunk.specs.Chunks.{chunked, chunk_of, key_within};
 ghost use Rattle.sh_pass.specs.Passes.{IsAtRest, ReadDoes, ReadIntoDoes, RemoveDoes, ReleaseDoes};
 ghost use Rattle.sh_member.specs.Readers.{FetchDoes, FetchIntoDoes, TakeIntoDoes};
 ghost use Rattle.sh_member.specs.Sides.{SideAdopts, SideDoes, SideCollects};
-ghost use Rattle.sh_member.specs.SideBounds.{InsertTakes};
+ghost use Rattle.sh_member.specs.SideBounds.{AdoptTakes, InsertTakes};
 ghost use Rattle.sh_grown.specs.Callers.{IsPooled, MemberDoes, MemberTakes, GetsIn};
 ghost use Rattle.sh_grown.specs.Inserts.{InsertsIn, OwnsNone};
 ghost use Rattle.sh_grown.specs.Keeping.{KeepsMember};
 ghost use Rattle.sh_grown.specs.Refusals.{OwnsThere, WaitsThere, WasRefused};
+ghost use Rattle.sh_grown.specs.Steps.{LeavesThere, RestsThere, TookAt, move_most};
 
 use crate::guard::GrownGuard;
 use once_cell::race::Note;
@@ -319,6 +320,7 @@ pub(crate) fn move_to(
     ensures owns { OnOk result (OwnsThere shard place.new) }
     ensures refused { IfErr result (λ why. (why ≡ Memory)
         ⊎ ((value : List ℕ) → WasRefused value shard place.old place.new)) }
+    ensures steps { TookAt move_most place.old place.new }
     ensures keeps { KeepsMember place.old place.new }
 {
     leave_at(place)?;
@@ -332,10 +334,16 @@ fn adopt_at(alloc: Global, place: &mut Option<ChunkMember>, shard: usize) -> Res
     requires none { OwnsNone place.old }
     ensures adopts { MemberDoes (SideAdopts shard) place.old result place.new }
     ensures owns { OnOk result (OwnsThere shard place.new) }
+    ensures rests { RestsThere place.old }
+    ensures bounded { MemberTakes AdoptTakes place.old place.new }
     ensures keeps { KeepsMember place.old place.new }
 {
     match place {
-        Some(met) => met.member.adopt(alloc, shard as u64),
+        Some(met) => {
+            // Between its calls a member has the shape of its heap, by which the steps are counted.
+            let _known = met.member.shape();
+            met.member.adopt(alloc, shard as u64)
+        }
         None => unreachable!(),
     }
 }
@@ -346,11 +354,16 @@ pub(crate) fn leave_at(place: &mut Option<ChunkMember>) -> Result<(), Refusal>
     ensures err { IfErr result (λ why. why ≡ Waiting) }
     ensures waits { OnErr result (WaitsThere place.old place.new) }
     ensures there { IsSome place.old → IsSome place.new }
+    ensures unmet { IsSome place.new → IsSome place.old }
+    ensures rests { RestsThere place.old }
+    ensures bounded { LeavesThere place.old place.new }
     ensures keeps { KeepsMember place.old place.new }
 {
     let Some(met) = place else {
         return Ok(());
     };
+    // Its shard has as many pages as the shape of its heap says, by which the steps are counted.
+    let _known = met.member.shape();
     if met.member.owns_shard() {
         met.member.leave()?;
     }

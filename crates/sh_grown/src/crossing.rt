@@ -1,6 +1,7 @@
-//! Threads share a growing heap, and a caller may go from one thread to another.
+//! Threads share a growing heap, and callers and receipts may go from one thread to another.
 use crate::caller::Caller;
 use crate::growing::Growing;
+use crate::receipts::GrownReceipt;
 use crate::share::GrowingShare;
 
 fn shares<T: Send + Sync>(_shared: &T) {}
@@ -16,4 +17,9 @@ pub fn growing_heaps_are_shared(growing: &Growing, share: &GrowingShare) {
 /// A caller goes to another thread, with all that it has in its chunks.
 pub fn callers_are_sent(caller: &Caller) {
     sends(caller);
+}
+
+/// A receipt goes to another thread, with what it covers in each chunk.
+pub fn receipts_are_sent(receipt: &GrownReceipt) {
+    sends(receipt);
 }

@@ -1,12 +1,16 @@
 // How a caller inserts: over the chunks, and at last into a new one.
-ghost use Rattle.std.specs.Prelude.{◌≡◌, ℕ, ◌⊎◌, IfErr, IfOk, IfSome, List, None, OnErr, OnOk, get_or, length};
+ghost use Rattle.std.specs.Prelude.{◌≡◌, ◌≤◌, ◌-◌, ℕ, ◌⊎◌, IfErr, IfOk, IfSome, List, MatchResult, None, OnErr, OnOk};
+ghost use Rattle.std.specs.Prelude.{get_or, length};
 ghost use Rattle.sh_value.specs.declared.refusal.Refusal.TheVariants.{Memory};
 ghost use Rattle.sh_chunk.specs.Chunks.{chunk_of};
-ghost use Rattle.sh_grown.specs.Callers.{Stays, WhyWithout};
+ghost use Rattle.sh_grown.specs.Callers.{Meets, Stays, WhyWithout};
 ghost use Rattle.sh_grown.specs.Inserts.{InsertsInChunk, InsertTakesInChunk, CollectsInChunk, Inserts, TriesInsert};
 ghost use Rattle.sh_grown.specs.Inserts.{HasMet, OnNone, unless_memory};
 ghost use Rattle.sh_grown.specs.Keeping.{KeepsMembers};
 ghost use Rattle.sh_grown.specs.Refusals.{ChunkRefused, OwnsThere, RangeRefused, RefusedIn};
+ghost use Rattle.sh_grown.specs.Steps.{TakesEach, TakesIn, TakesInAll, again_most, chunk_most, collect_most};
+ghost use Rattle.sh_grown.specs.Steps.{insert_most, move_most, open_most, own_most, range_most, shard_most};
+ghost use Rattle.sh_grown.specs.Steps.{walk_most};
 
 use crate::caller::Caller;
 use crate::chunk_member::{collect_at, insert_at, meet, move_to, shards_at};
@@ -37,10 +41,14 @@ impl Caller {
     /// `Memory` if memory was refused to a shard, an adoption or a new chunk. `Taken` comes if the caller's pass is not
     /// in a chunk's pool, which no caller brings about. A refused insert adds nothing to the caller's logs, and leaves
     /// its holds as they were.
+    ///
+    /// In each chunk it takes at most the steps of three inserts and a collect there. For each shard of the chunk it
+    /// takes at most those of two leaves, two adoptions and two inserts besides.
     #[tactic(auto, using(crate::proofs::Keeping::inserts_then))]
     pub fn insert(&mut self, alloc: Global, value: &Value) -> Result<u64, Refusal>
         ensures inserts { Inserts (length self.old.growing.cells.items) value.now self.old.met.items result
             self.new.met.items }
+        ensures steps { TakesInAll (chunk_most (length value.now)) self.old self.new }
         ensures stays { Stays self.old self.new }
     {
         let found = self.try_open(alloc, value)?;
@@ -55,6 +63,7 @@ impl Caller {
     pub fn insert_in(&mut self, chunk: u8, value: &Value) -> Result<u64, Refusal>
         ensures inserts { InsertsInChunk value.now chunk self.old.met.items result self.new.met.items }
         ensures bounded { InsertTakesInChunk value.now chunk self.old.met.items self.new.met.items }
+        ensures steps { TakesIn chunk (insert_most (length value.now)) self.old self.new }
         ensures chunk { IfOk result (λ key. chunk_of key ≡ chunk) }
         ensures keeps { OnErr result (KeepsMembers self.old.met.items self.new.met.items) }
         ensures stays { Stays self.old self.new }
@@ -69,6 +78,7 @@ impl Caller {
     /// The caller's logs and holds stay as they were.
     pub fn collect_in(&mut self, chunk: u8) -> Result<(), Refusal>
         ensures collects { CollectsInChunk chunk self.old.met.items result self.new.met.items }
+        ensures steps { TakesIn chunk collect_most self.old self.new }
         ensures keeps { KeepsMembers self.old.met.items self.new.met.items }
         ensures stays { Stays self.old self.new }
     {
@@ -96,6 +106,7 @@ impl Caller {
         ensures tries { TriesInsert value.now self.old.met.items result self.new.met.items }
         ensures refused { OnNone result ((shard : ℕ) → OwnsThere shard (get_or self.old.met.items chunk None)
             → RefusedIn value.now chunk shard self.old.met.items self.new.met.items) }
+        ensures steps { TakesIn chunk (insert_most (length value.now)) self.old self.new }
         ensures stays { Stays self.old self.new }
     {
         match self.insert_in(chunk, value) {
@@ -111,6 +122,7 @@ impl Caller {
     #[tactic(auto, using(crate::proofs::Keeping::tries_then))]
     fn try_owned_shards(&mut self, value: &Value) -> Result<Option<u64>, Refusal>
         ensures tries { TriesInsert value.now self.old.met.items result self.new.met.items }
+        ensures steps { TakesEach (own_most (length value.now)) self.old self.new }
         ensures stays { Stays self.old self.new }
     {
         let front = self.try_in(self.front, value)?;
@@ -129,6 +141,7 @@ impl Caller {
     #[tactic(auto, using(crate::proofs::Keeping::tries_then))]
     fn try_collected(&mut self, value: &Value) -> Result<Option<u64>, Refusal>
         ensures tries { TriesInsert value.now self.old.met.items result self.new.met.items }
+        ensures steps { TakesEach (again_most (length value.now)) self.old self.new }
         ensures stays { Stays self.old self.new }
     {
         if self.collect_in(self.front).is_err() {
@@ -141,12 +154,12 @@ impl Caller {
     #[inline(never)]
     fn try_own(&mut self, value: &Value) -> Result<Option<u64>, Refusal>
         ensures tries { TriesInsert value.now self.old.met.items result self.new.met.items }
+        ensures steps { TakesEach (insert_most (length value.now)) self.old self.new }
         ensures stays { Stays self.old self.new }
     {
         for number in 0..self.growing.chunks_allowed() {
-            let found = self.try_in(number as u8, value)?;
-            if found.is_some() {
-                return Ok(found);
+            if let Some(found) = self.try_in(number as u8, value)? {
+                return Ok(Some(found));
             }
         }
         Ok(None)
@@ -157,6 +170,7 @@ impl Caller {
     #[tactic(auto, using(crate::proofs::Keeping::tries_then))]
     fn try_open(&mut self, alloc: Global, value: &Value) -> Result<Option<u64>, Refusal>
         ensures tries { TriesInsert value.now self.old.met.items result self.new.met.items }
+        ensures steps { TakesEach (open_most (length value.now)) self.old self.new }
         ensures stays { Stays self.old self.new }
     {
         let own = self.try_owned_shards(value)?;
@@ -173,6 +187,7 @@ impl Caller {
     #[tactic(auto, using(crate::proofs::Keeping::keeps_then, crate::proofs::Keeping::tries_then))]
     fn try_later(&mut self, alloc: Global, value: &Value) -> Result<Option<u64>, Refusal>
         ensures tries { TriesInsert value.now self.old.met.items result self.new.met.items }
+        ensures steps { TakesEach (walk_most (length value.now)) self.old self.new }
         ensures stays { Stays self.old self.new }
     {
         let walked = self.walked as usize;
@@ -181,9 +196,8 @@ impl Caller {
             let Ok(()) = self.meet(chunk as usize) else {
                 return Ok(None);
             };
-            let found = self.try_shards(alloc, chunk, value)?;
-            if found.is_some() {
-                return Ok(found);
+            if let Some(found) = self.try_shards(alloc, chunk, value)? {
+                return Ok(Some(found));
             }
         }
         Ok(None)
@@ -195,6 +209,7 @@ impl Caller {
     fn insert_in_any(&mut self, alloc: Global, value: &Value) -> Result<u64, Refusal>
         ensures inserts { Inserts (length self.old.growing.cells.items) value.now self.old.met.items result
             self.new.met.items }
+        ensures steps { TakesEach (walk_most (length value.now)) self.old self.new }
         ensures stays { Stays self.old self.new }
     {
         for number in 0..self.growing.chunks_allowed() {
@@ -219,6 +234,7 @@ impl Caller {
         requires { HasMet self.old.met.items chunk }
         ensures tries { TriesInsert value.now self.old.met.items result self.new.met.items }
         ensures refused { OnNone result (ChunkRefused value.now chunk self.old.met.items self.new.met.items) }
+        ensures steps { TakesIn chunk (walk_most (length value.now)) self.old self.new }
         ensures stays { Stays self.old self.new }
     {
         let shards = self.shards_in(chunk);
@@ -242,6 +258,7 @@ impl Caller {
         ensures tries { TriesInsert value.now self.old.met.items result self.new.met.items }
         ensures refused { OnNone result
             (RangeRefused value.now chunk from to self.old.met.items self.new.met.items) }
+        ensures steps { TakesIn chunk (range_most (length value.now) (to - from)) self.old self.new }
         ensures stays { Stays self.old self.new }
     {
         for shard in from..to {
@@ -266,6 +283,7 @@ impl Caller {
         ensures tries { TriesInsert value.now self.old.met.items result self.new.met.items }
         ensures refused { OnNone result
             (RefusedIn value.now chunk shard self.old.met.items self.new.met.items) }
+        ensures steps { TakesIn chunk (shard_most (length value.now)) self.old self.new }
         ensures stays { Stays self.old self.new }
     {
         match self.move_in(alloc, chunk, shard) {
@@ -281,6 +299,7 @@ impl Caller {
         ensures owns { OnOk result (OwnsThere shard (get_or self.new.met.items chunk None)) }
         ensures refused { IfErr result (λ why. (why ≡ Memory)
             ⊎ ((value : List ℕ) → RefusedIn value chunk shard self.old.met.items self.new.met.items)) }
+        ensures steps { TakesIn chunk move_most self.old self.new }
         ensures keeps { KeepsMembers self.old.met.items self.new.met.items }
         ensures stays { Stays self.old self.new }
     {
@@ -293,6 +312,9 @@ impl Caller {
     #[inline(never)]
     fn meet_opened(&mut self, alloc: Global, chunk: u8) -> Result<(), Refusal>
         ensures met { OnOk result (HasMet self.new.met.items chunk) }
+        ensures meets { MatchResult result
+            (λ _. Meets self.old.growing self.old.number chunk self.old.met.items self.new.met.items)
+            (λ _. self.new.met.items ≡ self.old.met.items) }
         ensures err { IfErr result WhyWithout }
         ensures keeps { KeepsMembers self.old.met.items self.new.met.items }
         ensures stays { Stays self.old self.new }
@@ -329,7 +351,9 @@ impl Caller {
 
     // Which of this many shards of a chunk it tries first. In the chunk of its last walk that is the one behind the
     // shard with room, and elsewhere that of its own number.
-    fn first_shard(&self, chunk: u8, shards: usize) -> usize {
+    fn first_shard(&self, chunk: u8, shards: usize) -> usize
+        ensures few { result ≤ shards }
+    {
         if shards == 0 {
             return 0;
         }

@@ -23,6 +23,7 @@ pub mod growing;
 pub mod guard;
 mod inserting;
 mod leaving;
+pub mod receipts;
 pub mod share;
 pub mod totals;
 
@@ -31,6 +32,7 @@ pub use chunk::Chunk;
 pub use chunk_shapes::chunk_shape;
 pub use growing::Growing;
 pub use guard::GrownGuard;
+pub use receipts::GrownReceipt;
 pub use sh_whole::NotTold;
 pub use share::GrowingShare;
 pub use totals::GrownTotals;

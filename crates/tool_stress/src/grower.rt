@@ -26,7 +26,7 @@ pub struct Grower {
 }
 
 impl User for Grower {
-    // Callers have no receipts.
+    // The rounds have no receipts of callers.
     type Receipt = ();
 
     fn get(&mut self, key: u64) -> Result<Hold, Refusal> {

@@ -11,13 +11,14 @@ namespace gearlongan {
 
 /// The pass of a growing heap: it inserts without a shard of its own, since an insert adopts one in a chunk with room,
 /// and opens a chunk if there is none. An insert is full if the heap may have no more chunks. When it is destroyed it
-/// leaves its shards and goes home, as a shard does. A function that takes a `reader &` takes it. Receipts are refused
-/// as away, since a growing heap has none.
+/// leaves its shards and goes home, as a shard does. A function that takes a `reader &` takes it. A receipt of a caller
+/// covers all chunks that it has used.
 ///
 ///     auto growing = gearlongan::growing_heap::open({1, 1000, 2, 8}, 256);
-///     gearlongan::caller caller = growing.take();
+///     gearlongan::caller caller = growing.take(), other = growing.take();
 ///     const auto first = caller.insert({7, 8});
-///     assert((*caller.load(first))[1] == 8);
+///     other.heed(caller.receipt());
+///     assert((*other.load(first))[1] == 8);
 class [[nodiscard]] caller : public detail::inserter {
 public:
     constexpr caller() noexcept {}

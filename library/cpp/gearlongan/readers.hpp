@@ -134,8 +134,9 @@ public:
     }
 
     /// Heeds a receipt that a pass of the same heap made, and empties it: all that it covers happens before the next
-    /// calls of this pass. So a key whose insert it covers is gone only if a call removed it. A refusal, which is empty
-    /// or of checked mode, leaves the receipt as it was.
+    /// calls of this pass. So a key whose insert it covers is gone only if a call removed it. empty, and a refusal of
+    /// checked mode, leave the receipt as it was. taken, if it covers a chunk that this heap has not opened, so that it
+    /// is of another growing heap: then the receipt is empty.
     ///
     ///     gearlongan::receipt receipt = shard.receipt();
     ///     assert(pass.try_heed(receipt) == gearlongan::errc::ok && !receipt);
@@ -237,7 +238,7 @@ public:
         return made;
     }
 
-    /// Heeds a receipt, and empties it. After a refusal it is as it was.
+    /// Heeds a receipt, and empties it. After a refusal, except taken, it is as it was.
     ///
     ///     pass.heed(shard.receipt());
     ///     assert(pass.load(key));

@@ -42,7 +42,7 @@ pub enum Error {
     BadShape,
     /// No pass is at home.
     NoPass,
-    /// A pass is away, so the heap cannot be counted as a whole. A growing heap has no receipts either.
+    /// A pass is away, so the heap cannot be counted as a whole.
     Away,
     /// The heap has no such page.
     NoPage,
@@ -70,7 +70,7 @@ impl fmt::Display for Error {
             Error::Waiting => "another pass has a free in the shard to end first",
             Error::BadShape => "the numbers are outside the limits of the layout",
             Error::NoPass => "no pass is at home",
-            Error::Away => "a pass of the heap is away, or the heap grows",
+            Error::Away => "a pass of the heap is away",
             Error::NoPage => "the heap has no such page",
             Error::WrongKind => "the value is no record of this kind",
             Error::OtherHeap => "the receipt is of another heap",

@@ -11,7 +11,7 @@ use std::ops::Deref;
 /// another.
 ///
 /// Callers have a share of the heap: its memory goes with the last of them, and with the `Growing`, in whatever order.
-/// It is [`Sync`], as a [`Heap`] is, and has no accounts and no receipts.
+/// It is [`Sync`], as a [`Heap`] is, and has no accounts.
 #[derive(Debug)]
 pub struct Growing {
     handle: HeapHandle,
@@ -92,7 +92,17 @@ impl Growing {
 ///
 /// It adopts shards by itself, at most one in each chunk, and leaves them when it is dropped. The drop is that of a
 /// [`Shard`](crate::Shard). It has at most 16 guards on keys of one chunk. Two of its calls are in their order if they
-/// are in one chunk. There are no receipts: [`receipt`](Pass::receipt) is refused as [`Error::Away`].
+/// are in one chunk. A [`receipt`](Pass::receipt) covers all chunks that it has used.
+///
+/// ```
+/// # use gearlongan::{Error, Heap, Room};
+/// let heap = Heap::growing(Room { owners: 1, values: 1, words: 1, passes: 2 }, 256)?;
+/// let (caller, other) = (heap.take()?, heap.take()?);
+/// let key = caller.insert(&[7])?;
+/// other.heed(caller.receipt()?)?;
+/// assert_eq!(other.load(key)?, [7]); // `Gone` only if a call removed the key
+/// # Ok::<(), Error>(())
+/// ```
 #[derive(Debug)]
 #[must_use = "a caller goes home when it is dropped"]
 pub struct Caller {

@@ -1,7 +1,8 @@
-//! Heaps that grow: values over several chunks, callers that come home, and threads.
+//! Heaps that grow: values over several chunks, receipts, callers that come home, and threads.
 //!
 //! The first chunk has a shard of one segment, and so have chunks 1 and 2: each has 384 slots for values of one word.
 use gearlongan::{Caller, Error, Growing, Heap, Key, Layout, Room, Shape};
+use std::sync::mpsc;
 use std::thread;
 
 const CHUNK: u64 = 384;
@@ -65,13 +66,50 @@ fn a_guard_keeps_a_value_of_each_chunk() {
 }
 
 #[test]
-fn there_are_no_receipts() {
+fn a_receipt_goes_with_keys_of_all_chunks() {
     let heap = opened(2, 3);
-    let caller = taken(&heap);
-    assert_eq!(caller.receipt().err(), Some(Error::Away));
+    let (caller, other) = (taken(&heap), taken(&heap));
+    let (sender, receiver) = mpsc::sync_channel(4);
+    let thread = thread::spawn(move || {
+        for (n, (key, receipt)) in receiver.into_iter().enumerate() {
+            other.heed(receipt).expect("it is of this heap");
+            assert_eq!(other.load(key).expect("it was inserted"), [n as u64]);
+        }
+        other.receipt().expect("there is memory")
+    });
+    for n in 0..3 * CHUNK {
+        let key = caller.insert(&[n]).expect("there is room");
+        sender.send((key, caller.receipt().expect("there is memory"))).expect("the thread waits for it");
+    }
+    drop(sender);
+    caller.heed(thread.join().expect("it ends well")).expect("it is of this heap");
+    assert_eq!(heap.chunks(), 3);
+}
+
+#[test]
+fn a_receipt_of_another_heap_is_refused() {
+    let (heap, second) = (opened(1, 3), opened(1, 3));
+    let (caller, other) = (taken(&heap), taken(&second));
     let fixed = Heap::open(Layout::Wide, Shape { shards: 1, segments: 1, passes: 1 }).expect("it opens");
-    let receipt = fixed.take().and_then(|pass| pass.receipt()).expect("there is memory");
-    assert_eq!(caller.heed(receipt), Err(Error::OtherHeap));
+    let pass = fixed.take().expect("a pass is at home");
+    assert_eq!(caller.heed(pass.receipt().expect("there is memory")), Err(Error::OtherHeap));
+    assert_eq!(caller.heed(other.receipt().expect("there is memory")), Err(Error::OtherHeap));
+    assert_eq!(pass.heed(caller.receipt().expect("there is memory")), Err(Error::OtherHeap));
+}
+
+#[test]
+fn a_receipt_outlives_its_caller_and_its_heap() {
+    let heap = opened(2, 3);
+    let (caller, other) = (taken(&heap), taken(&heap));
+    let keys = stored(&caller, 0, CHUNK + 1);
+    let receipt = caller.receipt().expect("there is memory");
+    drop(caller);
+    drop(heap);
+    other.heed(receipt).expect("it is of this heap");
+    assert_eq!(other.load(keys[CHUNK as usize]).expect("it was inserted"), [CHUNK]);
+    let last = other.receipt().expect("there is memory");
+    drop(other);
+    drop(last);
 }
 
 #[test]

@@ -1,10 +1,11 @@
-//! A growing heap: the calls of a pass over its chunks, and those that there are none of.
+//! A growing heap: the calls of a pass over its chunks, its receipts, and the calls that there are none of.
 //!
 //! Its first chunk has a shard of one segment, and so have chunks 1 and 2: each has 384 slots for values of one word.
 use super::codes::{
     AWAY, BAD_KEY, BAD_SHAPE, EMPTY, FULL, GONE, HOLDS_FULL, NO_PASS, NO_SHARD, NOT_HELD, OCCUPIED,
     OK, SHORT, TINY, TOO_LONG,
 };
+use super::receipts::{heeds_another, heeds_its_own, makes};
 use super::{agree, ended, given, opened, stored, taken};
 use crate::accounts::{SumsReport, shardheap_raw_gather, shardheap_raw_totals};
 use crate::calls::{
@@ -17,13 +18,12 @@ use crate::opening::{shardheap_raw_open, shardheap_raw_open_growing, shardheap_r
 use crate::passes::{
     shardheap_raw_chunks, shardheap_raw_pass_lose, shardheap_raw_passes, shardheap_raw_take,
 };
-use crate::receipts::shardheap_raw_receipt_make;
 use crate::tags::shardheap_raw_tag;
 use crate::taking::shardheap_raw_take_value;
 use crate::values::{
     shardheap_raw_insert, shardheap_raw_load, shardheap_raw_prepare, shardheap_raw_read,
 };
-use c_handles::{HeapHandle, PassHandle, ReceiptHandle};
+use c_handles::{HeapHandle, PassHandle};
 use std::alloc::Global;
 use std::process::Abort;
 
@@ -230,24 +230,34 @@ fn is_not_whole(rt: &impl Abort, alloc: Global, heap: &mut HeapHandle) {
 }
 
 #[test]
-fn a_growing_heap_has_no_shards_and_no_receipts(rt: HostRuntime) {
+fn a_growing_heap_has_no_numbered_shards(rt: HostRuntime) {
     let alloc = rt.alloc();
     let mut heap = grown(&rt, alloc, 1);
     is_not_whole(&rt, alloc, &mut heap);
     let mut pass = taken(&rt, alloc, &mut heap);
     names_no_shard(&rt, alloc, &mut pass);
-    let mut receipt = ReceiptHandle::empty(alloc);
-    agree(
-        &rt,
-        shardheap_raw_receipt_make(alloc, &mut pass, &mut receipt),
-        AWAY,
-    );
-    agree(&rt, receipt.is_full(), false);
     let key = stored(&rt, alloc, &mut pass, &[7]);
     names_no_shard(&rt, alloc, &mut pass);
     has(&rt, alloc, &mut pass, key, 7);
     given(&rt, alloc, pass);
     is_not_whole(&rt, alloc, &mut heap);
+}
+
+// A receipt covers two chunks, and its pass goes on.
+#[test]
+fn receipts_of_a_growing_heap_are_made_and_heeded(rt: HostRuntime) {
+    let alloc = rt.alloc();
+    let mut heap = grown(&rt, alloc, 2);
+    heeds_another(&rt, alloc, &mut heap);
+    let mut pass = taken(&rt, alloc, &mut heap);
+    fills(&rt, alloc, &mut pass);
+    let key = stored(&rt, alloc, &mut pass, &[7]);
+    makes(&rt, alloc, &mut pass);
+    heeds_its_own(&rt, alloc, &mut pass);
+    has(&rt, alloc, &mut pass, key, 7);
+    stored(&rt, alloc, &mut pass, &[8]);
+    chunks_are(&rt, alloc, &mut heap, 2);
+    given(&rt, alloc, pass);
 }
 
 // A pass leaves its shards by a call of its own or as it is given back, and then another pass inserts there.

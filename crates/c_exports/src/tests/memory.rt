@@ -158,6 +158,7 @@ fn refused_memory_changes_no_growing_heap(rt: HostRuntime) {
         inserts(&rt, alloc, &mut pass);
     }
     agree(&rt, shardheap_raw_chunks(alloc, &mut heap), 2);
+    makes(&rt, alloc, &mut pass);
     given(&rt, alloc, other);
     left(&rt, alloc, pass);
 }

@@ -42,7 +42,7 @@ fn is_kept(rt: &impl Abort, alloc: Global, receipt: &mut ReceiptHandle) {
 
 // A pass heeds no receipt, and one of its own once.
 #[tactic(auto, using(crate::proofs::Heeding::own_receipt))]
-fn heeds_its_own(rt: &impl Abort, alloc: Global, pass: &mut PassHandle) {
+pub(crate) fn heeds_its_own(rt: &impl Abort, alloc: Global, pass: &mut PassHandle) {
     let mut receipt = ReceiptHandle::empty(alloc);
     agree(
         rt,
@@ -56,7 +56,7 @@ fn heeds_its_own(rt: &impl Abort, alloc: Global, pass: &mut PassHandle) {
 }
 
 // A full handle keeps its receipt.
-fn makes(rt: &impl Abort, alloc: Global, pass: &mut PassHandle) {
+pub(crate) fn makes(rt: &impl Abort, alloc: Global, pass: &mut PassHandle) {
     let mut receipt = ReceiptHandle::empty(alloc);
     agree(
         rt,
@@ -86,7 +86,7 @@ fn a_receipt_is_made_and_heeded(rt: HostRuntime) {
 
 // A pass heeds the receipt of another pass of its heap, and the receipt is used up.
 #[tactic(auto, using(crate::proofs::Heeding::other_receipt))]
-fn heeds_another(rt: &impl Abort, alloc: Global, heap: &mut HeapHandle) {
+pub(crate) fn heeds_another(rt: &impl Abort, alloc: Global, heap: &mut HeapHandle) {
     let mut one = PassHandle::empty(alloc);
     let mut other = PassHandle::empty(alloc);
     let mut receipt = ReceiptHandle::empty(alloc);

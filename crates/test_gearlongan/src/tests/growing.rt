@@ -1,4 +1,6 @@
 //! Tests of a heap that grows.
+ghost use Rattle.std.specs.Prelude.{◌≡◌};
+
 use super::agree;
 use gearlongan::{Caller, GrowingShare, Refusal, Value};
 use std::alloc::Global;
@@ -52,4 +54,23 @@ fn chunks_are_opened_gathered_and_counted(rt: HostRuntime) {
     agree(&rt, growing.heap().gather_chunks(rt.alloc()), Ok(2));
     let sums = growing.heap().totals().expect(&rt, "the totals");
     agree(&rt, (sums.chunks, sums.live), (2, 1));
+}
+
+// A key goes from one caller to another one of the same heap, with a receipt of its insert.
+fn sends_key(rt: &impl Abort, alloc: Global, one: &mut Caller, other: &mut Caller, n: u64) -> u64
+    requires { other.old.growing ≡ one.old.growing }
+{
+    let key = one.insert(alloc, &Value::from(n)).expect(rt, "a key");
+    let receipt = one.receipt();
+    agree(rt, other.heed(receipt), Ok(()));
+    key
+}
+
+#[test]
+fn a_key_that_came_with_a_receipt_of_its_caller_is_found(rt: HostRuntime) {
+    let growing = GrowingShare::open(rt.alloc(), 2, 3).expect(&rt, "a heap");
+    let mut one = growing.claim(rt.alloc()).expect(&rt, "a caller");
+    let mut other = growing.claim(rt.alloc()).expect(&rt, "another caller");
+    let key = sends_key(&rt, rt.alloc(), &mut one, &mut other, 7);
+    agree(&rt, other.fetch(key), Ok(Value::from(7)));
 }

@@ -3,6 +3,7 @@ use Rattle.sh_chunk.specs.Chunks.{chunked, chunk_of}
 use Rattle.sh_grown.specs.Callers.{GetsIn}
 use Rattle.sh_member.specs.Sides.{SideDoes}
 use Rattle.sh_grown.proofs.Places.{chunk_does}
+use Rattle.sh_grown.proofs.OfChunks.{does_of}
 use Rattle.sh_grown.proofs.caller.Caller.get.Goals as goal
 
 pub returns-clause-does : goal.returns-clause-does
@@ -12,3 +13,11 @@ returns-clause-does c =
     c.args.self.now.met.items c.meet.new.self.met.items _ _ c.get_at.new.place _ c.get_at.result
     c.chunk_of-chunk.ensures.is c.in_ok-meet.ensures.there.0 c.in_ok-meet.ensures.met
     c.index_mut.ensures.value c.get_at.ensures.does refl)
+
+pub invariant_of-self : goal.invariant_of-self
+invariant_of-self c =
+    let met = c.meet.new.self in
+    record {
+      of_chunks = does_of (GetsIn c.args.key) met.growing met.met.items c.chunk_of-chunk.result c.index_mut.result.now
+          c.get_at.new.place c.get_at.result met.of_chunks c.index_mut.ensures.value c.get_at.ensures.does;
+    }

@@ -1,7 +1,8 @@
-use Rattle.std.proofs.Common.{ℕ, ◌<◌}
+use Rattle.std.proofs.Common.{ℕ, ◌<◌, length}
 use Rattle.sh_grown.specs.Callers.{Stays}
 use Rattle.sh_grown.specs.Keeping.{KeepsMembers}
 use Rattle.sh_grown.specs.Refusals.{ChunkRefused}
+use Rattle.sh_grown.specs.Steps.{TakesBelow, walk_most}
 use Rattle.sh_grown.proofs.caller.Caller.insert_in_any.Given as goal
 
 abbrev pub invariant-loop-number : goal.invariant-loop-number
@@ -10,4 +11,5 @@ invariant-loop-number l = record {
   keeps : KeepsMembers l.initial.self.met.items l.self.met.items;
   each : (chunk : ℕ) → chunk < l.number
       → ChunkRefused l.value chunk l.initial.self.met.items l.self.met.items;
+  steps : TakesBelow l.number (walk_most (length l.value)) l.initial.self l.self;
 }

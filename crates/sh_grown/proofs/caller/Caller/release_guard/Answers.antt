@@ -3,6 +3,7 @@ use Rattle.sh_pass.specs.Passes.{ReleaseDoes}
 use Rattle.sh_chunk.specs.Chunks.{chunked, chunk_of, key_within}
 use Rattle.sh_member.specs.Sides.{SideDoes}
 use Rattle.sh_grown.proofs.Places.{met_does}
+use Rattle.sh_grown.proofs.OfChunks.{does_of}
 use Rattle.sh_grown.proofs.caller.Caller.release_guard.Goals as goal
 
 pub returns-clause-does : goal.returns-clause-does
@@ -12,3 +13,12 @@ returns-clause-does c =
     c.release_guard_at.new.place _ c.release_guard_at.result
     (c.chunk_of-chunk.ensures.is ∙ ap chunk_of c.key-key.ensures)
     (search rules) c.index_mut.ensures.value c.release_guard_at.ensures refl)
+
+pub invariant_of-self : goal.invariant_of-self
+invariant_of-self c =
+    let caller = c.args.self.now in
+    record {
+      of_chunks = does_of (ReleaseDoes chunked (key_within c.args.guard.key)) caller.growing caller.met.items
+          c.chunk_of-chunk.result c.index_mut.result.now c.release_guard_at.new.place c.release_guard_at.result
+          caller.of_chunks c.index_mut.ensures.value c.release_guard_at.ensures;
+    }

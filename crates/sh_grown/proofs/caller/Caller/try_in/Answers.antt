@@ -17,3 +17,9 @@ returns-in-Err-clause-refused c =
     → RefusedIn c.args.value.now c.args.chunk shard old new) c.in-Err.why c.unless_memory.result
     c.unless_memory.ensures
     (chunk_full c.args.value.now c.args.chunk old new c.in-Err.why c.in-Err.ensures.inserts)
+
+pub returns-in-Ok-clause-steps : goal.returns-in-Ok-clause-steps
+returns-in-Ok-clause-steps c = c.insert_in.ensures.steps
+
+pub returns-in-Err-clause-steps : goal.returns-in-Err-clause-steps
+returns-in-Err-clause-steps c = c.insert_in.ensures.steps

@@ -1,6 +1,12 @@
+use Rattle.std.proofs.Common.{length}
 use Rattle.sh_grown.specs.Callers.{Stays}
 use Rattle.sh_grown.specs.Keeping.{KeepsMembers}
+use Rattle.sh_grown.specs.Steps.{TakesBelow, insert_most}
 use Rattle.sh_grown.proofs.caller.Caller.try_own.Given as goal
 
 abbrev pub invariant-loop-number : goal.invariant-loop-number
-invariant-loop-number l = Stays l.initial.self l.self × KeepsMembers l.initial.self.met.items l.self.met.items
+invariant-loop-number l = record {
+  stays : Stays l.initial.self l.self;
+  keeps : KeepsMembers l.initial.self.met.items l.self.met.items;
+  steps : TakesBelow l.number (insert_most (length l.value)) l.initial.self l.self;
+}

@@ -1,6 +1,9 @@
+use Rattle.std.proofs.Common.{◌+◌, length}
 use Rattle.sh_grown.specs.Refusals.{RefusedIn}
+use Rattle.sh_grown.specs.Steps.{insert_most, move_most, shard_most}
 use Rattle.sh_grown.proofs.Full.{owner_refused, refused_none, refused_of, refused_try}
 use Rattle.sh_grown.proofs.Keeping.{tries_then}
+use Rattle.sh_grown.proofs.Stepping.{as_many, one_within, one_then, part_of}
 use Rattle.sh_grown.proofs.caller.Caller.try_shard.Goals as goal
 
 pub returns-in-Ok-clause-tries : goal.returns-in-Ok-clause-tries
@@ -25,3 +28,16 @@ returns-in-Err-clause-refused c =
     c.in-Err.why c.unless_memory.result c.unless_memory.ensures
     (refused_of c.args.value.now c.args.chunk c.args.shard c.args.self.now.met.items c.move_in.new.self.met.items
     c.in-Err.why c.in-Err.ensures.refused)
+
+pub returns-in-Ok-clause-steps : goal.returns-in-Ok-clause-steps
+returns-in-Ok-clause-steps c =
+    let words = length c.args.value.now in
+    one_then c.args.chunk move_most (insert_most words) (shard_most words) c.args.self.now c.move_in.new.self
+    c.try_in.new.self (λ s z. as_many (move_most s z + insert_most words s z)) c.move_in.ensures.stays
+    c.move_in.ensures.steps c.try_in.ensures.steps
+
+pub returns-in-Err-clause-steps : goal.returns-in-Err-clause-steps
+returns-in-Err-clause-steps c =
+    let words = length c.args.value.now in
+    one_within c.args.chunk move_most (shard_most words) c.args.self.now c.move_in.new.self
+    (λ s z. part_of (move_most s z) (insert_most words s z)) c.move_in.ensures.steps

@@ -1,0 +1,26 @@
+use Rattle.std.proofs.Common.{length}
+use Rattle.sh_grown.specs.Steps.{insert_most}
+use Rattle.sh_grown.proofs.CallSteps.{insert_took}
+use Rattle.sh_grown.proofs.Stepping.{one_none, one_set}
+use Rattle.sh_grown.proofs.OfChunks.{inserts_of}
+use Rattle.sh_grown.proofs.caller.Caller.insert_in.Goals as goal
+
+pub returns-then-not-has_met-clause-steps : goal.returns-then-not-has_met-clause-steps
+returns-then-not-has_met-clause-steps c =
+    let was = c.args.self.now in
+    one_none was.growing was.number c.args.chunk (insert_most (length c.args.value.now)) was.met.items
+
+pub returns-clause-steps : goal.returns-clause-steps
+returns-clause-steps c =
+    let was = c.args.self.now in
+    one_set was.growing was.number (insert_most (length c.args.value.now)) was.met.items c.args.chunk
+    c.index_mut.result.now c.insert_at.new.place c.index_mut.ensures.value
+    (insert_took c.args.value.now c.index_mut.result.now c.insert_at.new.place c.insert_at.result
+    c.insert_at.ensures.inserts c.insert_at.ensures.bounded)
+
+pub invariant_of-self : goal.invariant_of-self
+invariant_of-self c = record {
+  of_chunks = inserts_of c.args.value.now c.args.self.now.growing c.args.self.now.met.items c.args.chunk
+      c.index_mut.result.now c.insert_at.new.place c.insert_at.result c.args.self.now.of_chunks
+      c.index_mut.ensures.value c.insert_at.ensures.inserts;
+}

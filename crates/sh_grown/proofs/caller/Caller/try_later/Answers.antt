@@ -1,0 +1,82 @@
+use Rattle.std.proofs.Common.{ℕ, ◌+◌, None, get_or, length, refl}
+use Rattle.sh_grown.specs.Keeping.{KeepsMembers}
+use Rattle.sh_grown.specs.Steps.{walk_most}
+use Rattle.sh_grown.proofs.Keeping.{keeps_then, place_stays, stays_then}
+use Rattle.sh_grown.proofs.Stepping.{below_each, below_met, below_none, below_one, met_each}
+use Rattle.sh_grown.proofs.caller.Caller.try_later.Goals as goal
+
+pub loop-number-init : goal.loop-number-init
+loop-number-init c =
+    let was = c.args.self.now in
+    record {
+      stays = record { growing = refl; number = refl };
+      keeps = λ chunk. place_stays (get_or was.met.items chunk None);
+      steps = below_none _ (walk_most (length c.args.value.now)) was;
+    }
+
+pub loop-number-preserved : goal.loop-number-preserved
+loop-number-preserved c =
+    let i = c.loop-number.invariant in
+    let k = c.loop-number.number in
+    let most : ℕ → ℕ → ℕ = walk_most (length c.args.value.now) in
+    let old = c.args.self.now in
+    let mid = c.loop-number.self in
+    let met = c.meet.new.self in
+    let new = c.try_shards.new.self in
+    let tried : KeepsMembers met.met.items new.met.items =
+    rw c.in_default-2.is at (c.in_ok-found.ensures.tries) in
+    let stays = stays_then old mid met i.stays c.meet.ensures.stays in
+    record {
+      stays = stays_then old met new stays c.try_shards.ensures.stays;
+      keeps = keeps_then old.met.items mid.met.items new.met.items i.keeps
+          (keeps_then mid.met.items met.met.items new.met.items c.meet.ensures.keeps tried);
+      steps = below_one k most old met new stays
+          (below_met k most old mid met i.stays i.steps (met_each k mid met c.meet.result c.meet.ensures.met))
+          c.try_shards.ensures.steps;
+    }
+
+-- the chunk is not open
+pub returns-in_default-clause-steps : goal.returns-in_default-clause-steps
+returns-in_default-clause-steps c =
+    let i = c.loop-number.invariant in
+    let k = c.loop-number.number in
+    let most : ℕ → ℕ → ℕ = walk_most (length c.args.value.now) in
+    let old = c.args.self.now in
+    let mid = c.loop-number.self in
+    let met = c.meet.new.self in
+    below_each k most old met
+    (below_met k most old mid met i.stays i.steps (met_each k mid met c.meet.result c.meet.ensures.met))
+
+-- one chunk more, which ended the walk
+pub returns-in_err-found-clause-steps : goal.returns-in_err-found-clause-steps
+returns-in_err-found-clause-steps c =
+    let i = c.loop-number.invariant in
+    let k = c.loop-number.number in
+    let most : ℕ → ℕ → ℕ = walk_most (length c.args.value.now) in
+    let old = c.args.self.now in
+    let mid = c.loop-number.self in
+    let met = c.meet.new.self in
+    let new = c.try_shards.new.self in
+    below_each (k + 1) most old new
+    (below_one k most old met new (stays_then old mid met i.stays c.meet.ensures.stays)
+    (below_met k most old mid met i.stays i.steps (met_each k mid met c.meet.result c.meet.ensures.met))
+    c.try_shards.ensures.steps)
+
+pub returns-in-Some-clause-steps : goal.returns-in-Some-clause-steps
+returns-in-Some-clause-steps c =
+    let i = c.loop-number.invariant in
+    let k = c.loop-number.number in
+    let most : ℕ → ℕ → ℕ = walk_most (length c.args.value.now) in
+    let old = c.args.self.now in
+    let mid = c.loop-number.self in
+    let met = c.meet.new.self in
+    let new = c.try_shards.new.self in
+    below_each (k + 1) most old new
+    (below_one k most old met new (stays_then old mid met i.stays c.meet.ensures.stays)
+    (below_met k most old mid met i.stays i.steps (met_each k mid met c.meet.result c.meet.ensures.met))
+    c.try_shards.ensures.steps)
+
+pub returns-clause-steps : goal.returns-clause-steps
+returns-clause-steps c =
+    below_each c.loop-number.number (walk_most (length c.args.value.now)) c.args.self.now c.loop-number.self
+    c.loop-number.invariant.steps
