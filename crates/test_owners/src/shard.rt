@@ -1,5 +1,5 @@
-//! Worked examples of calls on shards: which keys are returned in which order, what is refused, what a stopped caller
-//! leaves behind, and what holds after refused memory.
+//! Calls on shards that no script of mode heap shows: guards, pages that are prepared or collected, what a stopped
+//! caller leaves behind, and what holds after refused memory. `examples/worked` has the other calls.
 ghost use Rattle.std.specs.Prelude.{◌≡◌, ◌<◌};
 
 mod changing_hands;
@@ -8,11 +8,10 @@ mod filling;
 mod guards;
 mod largest;
 mod memory;
-mod order;
 mod records;
-mod replies;
 mod steps;
 mod stopped;
+mod store;
 mod threads;
 mod words;
 
@@ -242,20 +241,6 @@ fn put_in_pages<L: KeyLayout>(rt: &impl Abort, shard: &mut Shard<'_, L>, first: 
             put_sixteen(rt, shard, Ok(key.wrapping_add(slot)));
         }
         key = key.wrapping_add(64);
-    }
-}
-
-// The owner removes these keys, in this order.
-fn owner_removes<L: KeyLayout>(rt: &impl Abort, shard: &mut Shard<'_, L>, keys: &[u64]) {
-    for key in keys {
-        done(rt, shard.remove(*key));
-    }
-}
-
-// Another pass removes these keys, in this order.
-fn other_removes<L: KeyLayout>(rt: &impl Abort, pass: &mut Pass<'_, L>, keys: &[u64]) {
-    for key in keys {
-        done(rt, pass.remove(*key));
     }
 }
 

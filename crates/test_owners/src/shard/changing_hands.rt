@@ -5,16 +5,6 @@ use sh_key::Tiny;
 use sh_step::Action;
 
 #[test]
-fn a_shard_has_one_owner(rt: HostRuntime) {
-    let (heap, seats) = opened::<Tiny>(&rt, rt.alloc(), 1, 1, 2);
-    let (shard, other) = owner_and_other(&rt, rt.alloc(), &heap, seats);
-    let other = not_adopted(&rt, rt.alloc(), other, 0, Refusal::Taken);
-    let other = not_adopted(&rt, rt.alloc(), other, 4, Refusal::NoShard);
-    let _one = left(&rt, shard);
-    let _shard = adopted(&rt, rt.alloc(), other, 0);
-}
-
-#[test]
 fn shards_change_hands(rt: HostRuntime) {
     let (heap, seats) = opened::<Tiny>(&rt, rt.alloc(), 1, 1, 2);
     let (mut shard, other) = owner_and_other(&rt, rt.alloc(), &heap, seats);
@@ -27,27 +17,6 @@ fn shards_change_hands(rt: HostRuntime) {
     agree(&rt, prepared(&mut shard, 7), Ok(2));
     let other = left(&rt, shard);
     agree(&rt, (one.is_whole(), other.is_whole()), (false, false));
-}
-
-// The second owner holds what the first one put, and puts more; the first one removes it all.
-fn find_and_hold(rt: &impl Abort, shard: &mut Shard<'_, Tiny>, one: &mut Pass<'_, Tiny>) {
-    let hold = shard.get(4_096).expect(rt, "a hold");
-    has_words(rt, shard.read(hold), &SIXTEEN);
-    put_each(rt, shard, &[4_098, 4_097, 4_160]);
-    other_removes(rt, one, &[4_096, 4_097, 4_098, 4_160]);
-    has_words(rt, shard.read(hold), &SIXTEEN);
-    done(rt, shard.release(hold));
-}
-
-// The second owner finds what the first one left in the shard, values and free slots: the slot put last is taken first.
-#[test]
-fn values_stay_when_their_shard_changes_hands(rt: HostRuntime) {
-    let (heap, seats) = opened::<Tiny>(&rt, rt.alloc(), 1, 1, 2);
-    let (mut shard, other) = owner_and_other(&rt, rt.alloc(), &heap, seats);
-    put_sixteen(&rt, &mut shard, Ok(4_096));
-    let mut one = left(&rt, shard);
-    let mut shard = adopted(&rt, rt.alloc(), other, 0);
-    find_and_hold(&rt, &mut shard, &mut one);
 }
 
 #[test]
