@@ -80,6 +80,9 @@ class Edit:
         self.is_outside, self.is_alone = False, False
         # (the path of the function by whose goal an edit outside each function is refused, if the file says it)
         self.refused_by = None
+        # (whether the prover's searches take all their steps, and not half of them. An edit outside each function is
+        # refused by a goal of any function, so a right one must not fail for want of steps.)
+        self.searches_whole = False
         path = old = None
         texts = {}
         for line in file.read_text().split("\n"):
@@ -87,11 +90,14 @@ class Edit:
                 path = line[len("file: "):].strip()
             elif line.startswith("refused by: "):
                 self.refused_by = line[len("refused by: "):].strip()
+            elif line.strip() == "searches: whole":
+                self.searches_whole = True
             elif line.startswith("old: "):
                 old = line[len("old: "):]
             elif line.startswith("new:") and path and old:
                 self.replace(crate, texts, path, old, line[len("new:"):].removeprefix(" "))
         self.texts = texts
+        self.searches_whole |= self.is_outside
         if not self.replaced and not self.bad:
             self.bad = "it has no pair of old: and new:"
         if self.refused_by and not self.is_outside:

@@ -14,6 +14,7 @@ class Round:
 
     def __init__(self, crate, edits=()):
         self.crate, self.edits = crate, []
+        self.searches_whole = any(it.searches_whole for it in edits)
         # (of each edit in a copy, the number of the copy; of each function, how many edits are its own or a copy's)
         self.copies, self.changed = {}, {}
         for edit in edits:
@@ -27,7 +28,9 @@ class Round:
         self.edits.append(edit)
 
     def has_room(self, edit):
-        return not edit.is_alone and not any(self.clashes(edit, other) for other in self.edits)
+        if edit.is_alone or edit.searches_whole != self.searches_whole:
+            return False
+        return not any(self.clashes(edit, other) for other in self.edits)
 
     def clashes(self, edit, other):
         if other.is_alone:

@@ -115,7 +115,7 @@ HEAPS = [
         "sh_pass/src/pass.rt",
         "        self.state.release(self.heap.kept(), hold)\n",
         """        if BROKEN {
-            return if self.state.read(self.heap.kept(), hold).is_ok() { Ok(()) } else { Err(Refusal::NotHeld) };
+            return if self.read(hold).is_ok() { Ok(()) } else { Err(Refusal::NotHeld) };
         }
         self.state.release(self.heap.kept(), hold)
 """,
@@ -128,13 +128,13 @@ HEAPS = [
     ),
     Broken(
         "read_is_empty",
-        "sh_pass/src/calls.rt",
-        "    read_key(table, seat, held, hold, &mut value)?;\n    Ok(value)\n",
-        """    read_key(table, seat, held, hold, &mut value)?;
-    if BROKEN {
-        return Ok(Value::empty());
-    }
-    Ok(value)
+        "sh_pass/src/pass.rt",
+        "        self.state.read_into(self.heap.kept(), hold, &mut value)?;\n        Ok(value)\n",
+        """        self.state.read_into(self.heap.kept(), hold, &mut value)?;
+        if BROKEN {
+            return Ok(Value::empty());
+        }
+        Ok(value)
 """,
     ),
     # What a word says.
