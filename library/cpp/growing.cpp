@@ -119,6 +119,8 @@ TEST(callers_move_and_come_home) {
     CHECK(!caller);
 }
 
+// (See cpp_sanitized in tests.sh.)
+#ifndef ONE_THREAD_GROWS
 TEST(threads_fill_a_growing_heap) {
     constexpr std::uint64_t each = 2000;
     auto heap = gearlongan::growing_heap::open({1, 1, 1, 4}, 256);
@@ -136,3 +138,4 @@ TEST(threads_fill_a_growing_heap) {
             CHECK(caller.remove(keys[n][at]) && !caller.load(keys[n][at]));
         }
 }
+#endif

@@ -67,11 +67,16 @@ cpp_other_standards() {
 }
 
 # cpp_sanitized COMPILER: with its sanitizers of addresses, undefined behaviour and threads. The archive is instrumented
-# for the last if SHARDHEAP_TSAN_LIB names one that is.
+# for the last if SHARDHEAP_TSAN_LIB names one that is. In another the sanitizer does not see how a chunk is published,
+# and takes what a thread finds there for a race.
 cpp_sanitized() {
   echo "== C++ with the sanitizers of $1"
   cpp_all "$1" c++17 -O1 -DFEWER_ROUNDS -fsanitize=address,undefined -fno-sanitize-recover=all
-  local archive=${SHARDHEAP_TSAN_LIB:-$archive}
-  cpp_run "$1" c++17 tests -O1 -DFEWER_ROUNDS -fsanitize=thread
-  cpp_run "$1" c++17 tests -O1 -DFEWER_ROUNDS -fsanitize=thread -DSHARDHEAP_CHECKED
+  local archive=${SHARDHEAP_TSAN_LIB:-$archive} flags=(-O1 -DFEWER_ROUNDS -fsanitize=thread)
+  [ -n "${SHARDHEAP_TSAN_LIB:-}" ] || {
+    echo "skipped: SHARDHEAP_TSAN_LIB names no archive, so no threads fill a growing heap under the thread sanitizer"
+    flags+=(-DONE_THREAD_GROWS)
+  }
+  cpp_run "$1" c++17 tests "${flags[@]}"
+  cpp_run "$1" c++17 tests "${flags[@]}" -DSHARDHEAP_CHECKED
 }
