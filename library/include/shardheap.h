@@ -689,8 +689,9 @@ static inline uint32_t shardheap_load_bare(shardheap_pass *pass, shardheap_loade
 
 /* Loads several keys in one call, in order, and writes beside each what its load returned: the code, and with OK the
    length and the words. A load that is refused stops nothing, and leaves its length and its words as they were. The
-   holds are as before. The waits for the memory of eight keys overlap: beside a million values a batch takes less time
-   than its loads one by one, and beside a few thousand more. EMPTY, OVERLAP, with nothing done.
+   holds are as before. In a heap of a fixed shape the waits for the memory of eight keys overlap: beside a million
+   values a batch takes less time than its loads one by one, and beside a few thousand more. In a heap that grows a batch
+   is its loads, one by one. EMPTY, OVERLAP, with nothing done.
 
        shardheap_loaded batch[2] = {{key, 0, 0, {0}}, {second, 0, 0, {0}}};
        code = shardheap_load_each(&pass, batch, 2);
@@ -749,7 +750,7 @@ static inline uint32_t shardheap_receipt_make(shardheap_pass *pass, shardheap_re
 /* Heeds a receipt that a pass of the same heap made, and empties its handle: all that the receipt covers happens before
    the next calls of this pass. So a key whose insert it covers is Gone only if a call removed it, and a key whose
    removal it covers is Gone. EMPTY, of either handle; OVERLAP; TAKEN, if the receipt covers a chunk that this heap has
-   not opened, so that it is of another growing heap.
+   not opened, so that it is of another growing heap: then its handle is empty too.
 
        code = shardheap_heed(&pass, &receipt);    in the other thread, before it loads the key */
 static inline uint32_t shardheap_heed(shardheap_pass *pass, shardheap_receipt *receipt) {

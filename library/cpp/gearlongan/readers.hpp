@@ -73,8 +73,8 @@ public:
     }
 
     /// Loads each key of a batch, in order, and writes what its load returned beside it. A load that is refused stops
-    /// nothing. The waits for the memory of eight keys overlap. Whether a batch is faster than its loads one by one
-    /// depends on the processor, and on how many values there are.
+    /// nothing. In a heap of a fixed shape the waits for the memory of eight keys overlap. Whether a batch is faster
+    /// than its loads one by one depends on the processor, and on how many values there are.
     ///
     ///     std::vector<gearlongan::loaded> batch = {gearlongan::loaded(key), gearlongan::loaded()};
     ///     assert(pass.try_load_each(batch.data(), batch.size()) == gearlongan::errc::ok);

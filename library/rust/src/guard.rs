@@ -11,7 +11,7 @@ use std::ops::Deref;
 /// A hold on a key, which is released when the guard is dropped. Until then the value stays readable and unchanged.
 ///
 /// It derefs to the value's words, which it reads when it is first asked for them, and keeps. A guard that is forgotten
-/// (`std::mem::forget`) leaves its hold with the pass for good. Such a pass is closed when it is dropped, so that the
+/// (`std::mem::forget`) leaves its hold with the pass for good. Such a pass is lost when it is dropped, so that the
 /// heap has one pass less.
 ///
 /// ```

@@ -14,9 +14,9 @@
 //! A [`slab::Slab`] stores values of any type over such heaps, and a [`slab::Pool`] uses their memory again. They have
 //! the interface of the crate `sharded-slab`.
 //!
-//! No call of a pass or a shard waits or locks. Memory is taken by [`Heap::open`], [`Heap::take`], [`Heap::gather`],
-//! [`Pass::adopt`], [`Pass::receipt`], and by an insert or a prepare that opens a segment; if it is refused they
-//! answer [`Error::Memory`].
+//! No call of a pass or a shard waits or locks. Memory is taken by the calls that open a heap, by `take` of both kinds,
+//! [`Heap::gather`], [`Pass::adopt`] and `receipt`. An insert or a prepare takes it for a segment, and that of a
+//! [`Caller`] also for a shard or a chunk. If memory is refused they return [`Error::Memory`].
 //!
 //! # Threads
 //!

@@ -104,7 +104,7 @@ impl Pass {
     /// Loads several keys, in order: `results[i]` becomes what a [`load`](Pass::load) of `keys[i]` returns. A load that
     /// is refused stops nothing. If one of the slices is longer, the rest of it is left alone.
     ///
-    /// The waits for the memory of eight keys overlap. Whether a batch is faster than its loads one by one depends on the
+    /// In a heap of a fixed shape the waits for the memory of eight keys overlap. Whether a batch is faster than its loads one by one depends on the
     /// processor. Beside a few thousand values, which its caches have, a batch is slower.
     ///
     /// ```
