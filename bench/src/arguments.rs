@@ -69,7 +69,8 @@ shows whether sharded_slab and the heap use a key again, and whether two callers
 
 The variable SH_BENCH names the program of the heap, in place of crates/tool_bench/out/tool_bench, and SH_THROUGH that of
 the library, in place of bench/through/target/release/through.
-Exit status: 0 all was measured, 1 something could not be, 2 the command line is wrong.";
+Exit status: 0 all was measured, 1 something could not be, 2 the command line is wrong. Without the program of the
+library `reuse` tries sharded_slab alone, says in its last line that the heap is skipped, and ends with 0.";
 
 fn rounds(word: &str) -> Result<usize, String> {
     match word.parse() {

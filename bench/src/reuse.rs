@@ -124,12 +124,17 @@ fn ours(program: &Path) -> Result<String, String> {
     }
 }
 
+// What the heap does, in lines. Without the program it is skipped: what the peer does needs nothing of ours.
+fn ours_or_skipped(through: Result<Program, String>) -> Result<String, String> {
+    match through {
+        Ok(through) => ours(&through.path),
+        Err(why) => Ok(format!("the heap here: skipped, {why}")),
+    }
+}
+
 /// What both sides do, in lines. Without the program of the library the heap is skipped.
 pub fn text() -> Result<String, String> {
-    let heap = match Program::through() {
-        Ok(through) => ours(&through.path)?,
-        Err(why) => format!("the heap here: skipped, {why}"),
-    };
+    let heap = ours_or_skipped(Program::through())?;
     let slotmap = format!("slotmap: not tried\n  its documentation says:\n{}", quoted(SLOTMAP_SAYS));
     Ok(format!("{}\n{slotmap}\n{heap}", Peer::tried()))
 }
@@ -177,6 +182,12 @@ mod tests {
         assert!(text.contains("found another value after 8,191 inserts, each with a removal (0.34 ms)\n"), "{text}");
         assert!(text.contains("remove returned true and false\n"), "{text}");
         assert!(peer(None).contains("found nothing after 1,000,000 inserts"));
+    }
+
+    #[test]
+    fn without_its_program_the_heap_is_skipped_in_one_line() {
+        let skipped = ours_or_skipped(Err("no program /nowhere/through".to_string()));
+        assert_eq!(skipped, Ok("the heap here: skipped, no program /nowhere/through".to_string()));
     }
 
     #[test]
