@@ -41,7 +41,8 @@ impl Caller {
     ///
     /// As for each call on a key, `BadKey` comes if the heap may not have the key's chunk, or if the chunk returns it.
     /// It also comes if the load of that chunk's cell in this call finds it not open. A caller that has met the chunk
-    /// does no such load. `Taken` comes if the caller's pass is not in the chunk's pool, which no caller brings about.
+    /// does no such load. `Taken` comes if the caller's pass is not in the chunk's pool, since it was given back there
+    /// while it owned a shard.
     #[inline(never)]
     pub fn get(&mut self, key: u64) -> Result<Hold, Refusal>
         ensures does { GrownDoes (SideDoes chunked (GetsIn key))

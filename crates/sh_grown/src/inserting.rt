@@ -39,8 +39,8 @@ impl Caller {
     /// Refused as `Full` only if the heap may have no more chunks, and each shard was refused in this call. It had no
     /// room, or a step met another owner, or another caller's free kept the caller in another shard. Refused as
     /// `Memory` if memory was refused to a shard, an adoption or a new chunk. `Taken` comes if the caller's pass is not
-    /// in a chunk's pool, which no caller brings about. A refused insert adds nothing to the caller's logs, and leaves
-    /// its holds as they were.
+    /// in a chunk's pool, since it was given back there while it owned a shard. A refused insert adds nothing to the
+    /// caller's logs, and leaves its holds as they were.
     ///
     /// In each chunk it takes at most the steps of three inserts and a collect there. For each shard of the chunk it
     /// takes at most those of two leaves, two adoptions and two inserts besides.

@@ -40,7 +40,8 @@ impl Caller {
     }
 
     /// Gives its passes back, from the last chunk to the first, and drops its share of the heap. A pass that owns a
-    /// shard is lost with it, so that its number cannot be claimed again: `end` leaves the shards first.
+    /// shard is lost with it: `end` leaves the shards first. If the shard is of the first chunk, the number cannot be
+    /// claimed again. If it is of a later one, the number can, and that chunk then refuses its calls as `Taken`.
     pub fn give_back(self) {
         let Caller {
             growing: _,

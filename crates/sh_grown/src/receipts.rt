@@ -107,8 +107,8 @@ impl Caller {
     ///
     /// It meets the chunks of the receipt that it has not met, so a get of a key that came with the receipt finds the
     /// key's chunk open. In all other chunks the caller is as it was. `Taken` comes if its pass is not in the pool of a
-    /// chunk that it had not met. No caller brings that about. Then it has heeded the receipts of the chunks before
-    /// that one.
+    /// chunk that it had not met, since it was given back there while it owned a shard. Then it has heeded the receipts
+    /// of the chunks before that one.
     pub fn heed(&mut self, receipt: GrownReceipt) -> Result<(), Refusal>
         requires { AreReceiptsIn self.old.growing receipt.chunks.items }
         ensures heeds { Heeds self.old.growing self.old.number receipt.chunks.items self.old.met.items result
