@@ -162,6 +162,47 @@ fn a_value_whose_initialisation_panics_is_cleared() {
     assert!(pool.create_with(|text| assert!(text.is_empty())).is_some());
 }
 
+/// Whoever ends the value, its place has a new one afterwards.
+#[test]
+fn a_value_whose_clear_panics_is_dropped() {
+    static DROPPED: AtomicUsize = AtomicUsize::new(0);
+    #[derive(Default)]
+    struct Stubborn(usize);
+    impl Clear for Stubborn {
+        fn clear(&mut self) {
+            assert_eq!(self.0, 0, "it stays as it is");
+        }
+    }
+    impl Drop for Stubborn {
+        fn drop(&mut self) {
+            DROPPED.fetch_add(self.0, SeqCst);
+        }
+    }
+    let pool: Pool<Stubborn, Small> = Pool::<Stubborn>::new_with_config();
+    let ends_by_panic = |end: &dyn Fn()| assert!(catch_unwind(AssertUnwindSafe(end)).is_err());
+    let create = || {
+        let mut guard = pool.create().expect("there is room");
+        assert_eq!(guard.0, 0, "a new value is clear");
+        guard.0 = 1;
+        guard
+    };
+    let rounds = SMALL_ROOM;
+    for _ in 0..rounds {
+        let key = create().key();
+        ends_by_panic(&|| _ = pool.clear(key));
+        let key = create().key();
+        ends_by_panic(&|| {
+            let _last = pool.get(key).filter(|_| pool.clear(key));
+        });
+        ends_by_panic(&|| {
+            let guard = create();
+            assert!(pool.clear(guard.key()), "the panic is that of the guard");
+        });
+    }
+    assert_eq!(DROPPED.load(SeqCst), 3 * rounds);
+    assert!(pool.create_with(|value| assert_eq!(value.0, 0)).is_some());
+}
+
 /// How many values a `Small` slab has room for.
 const SMALL_ROOM: usize = 4 * 384;
 

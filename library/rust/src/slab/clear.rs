@@ -30,7 +30,7 @@ use std::sync::{Mutex, PoisonError, RwLock};
 /// assert_eq!(message.sender, None);
 /// ```
 pub trait Clear {
-    /// Clears the value, and keeps the memory that it allocated.
+    /// Clears the value, and keeps the memory that it allocated. If it panics in a pool, the value is dropped.
     fn clear(&mut self);
 }
 

@@ -14,7 +14,8 @@ use super::config::{mask, Config, DefaultConfig, Limits};
 use super::store::{Ending, Store};
 use std::fmt;
 use std::marker::PhantomData;
-use std::ptr::NonNull;
+use std::mem;
+use std::ptr::{self, NonNull};
 use std::sync::Arc;
 
 #[path = "refs.rs"]
@@ -25,7 +26,7 @@ pub use refs::{OwnedRef, OwnedRefMut, Ref, RefMut};
 /// Values of one type under keys, which threads share, and whose memory is used again.
 ///
 /// A value is made by [`Default`] for the first key of its place. When its key was removed and its last guard is
-/// dropped, it is [cleared](Clear), and a later key has it.
+/// dropped, it is [cleared](Clear), and a later key has it. If its `clear` panics it is dropped instead.
 ///
 /// The values of a pool are dropped with the pool.
 pub struct Pool<T: Clear + Default, C: Config = DefaultConfig> {
@@ -33,15 +34,27 @@ pub struct Pool<T: Clear + Default, C: Config = DefaultConfig> {
     config: PhantomData<fn() -> C>,
 }
 
-/// A value of a pool is cleared.
+/// A value of a pool is cleared, or dropped if its `clear` panics: what was left half cleared serves no other key.
 enum Clears {}
+
+// A value that may not be clear. If it is dropped, the value is.
+struct Unclear<T>(*mut T);
+
+impl<T> Drop for Unclear<T> {
+    fn drop(&mut self) {
+        // SAFETY: one is made only of a value that is there, and that is the caller's alone.
+        unsafe { ptr::drop_in_place(self.0) };
+    }
+}
 
 impl<T: Clear> Ending<T> for Clears {
     const KEEPS: bool = true;
 
     unsafe fn end(value: *mut T) {
+        let unclear = Unclear(value);
         // SAFETY: the caller says that the value is its alone.
         unsafe { (*value).clear() };
+        mem::forget(unclear);
     }
 }
 

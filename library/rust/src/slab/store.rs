@@ -23,7 +23,7 @@ pub(super) trait Ending<T> {
     ///
     /// # Safety
     ///
-    /// The value is the caller's alone. It is there afterwards exactly if it is kept.
+    /// The value is the caller's alone. It is there afterwards exactly if it is kept and the call did not panic.
     unsafe fn end(value: *mut T);
 }
 
@@ -46,13 +46,15 @@ struct Freed<'s, T, E: Ending<T>> {
     store: &'s Store<T, E>,
     node: &'s Node<T>,
     number: u64,
+    // Whether the node still has a value.
+    is_kept: bool,
 }
 
 impl<T, E: Ending<T>> Drop for Freed<'_, T, E> {
     #[inline]
     fn drop(&mut self) {
         // SAFETY: one is made only of a node that is the caller's alone, and whose value was ended.
-        unsafe { self.node.free(E::KEEPS) };
+        unsafe { self.node.free(self.is_kept) };
         self.store.members.remove(self.number);
     }
 }
@@ -134,9 +136,10 @@ impl<T, E: Ending<T>> Store<T, E> {
     // Ends the value of a node that is the caller's alone, and gives the place back.
     #[inline]
     unsafe fn finish(&self, node: &Node<T>, number: u64) {
-        let _freed = Freed { store: self, node, number };
+        let mut freed = Freed { store: self, node, number, is_kept: false };
         // SAFETY: the caller says so.
         unsafe { E::end(node.at()) };
+        freed.is_kept = E::KEEPS;
     }
 
     // The same for the end of a guard. Few guards outlast their keys: the others do not carry its code.
@@ -165,7 +168,7 @@ impl<T, E: Ending<T>> Store<T, E> {
         if !node.remove_alone(number::generation(number), thread::yield_now) {
             return None;
         }
-        let _freed = Freed { store: self, node, number };
+        let _freed = Freed { store: self, node, number, is_kept: false };
         // SAFETY: the node is this call's alone.
         Some(unsafe { ptr::read(node.at()) })
     }
