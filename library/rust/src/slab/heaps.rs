@@ -27,23 +27,22 @@ pub(super) enum Need {
 
 /// The heaps of a slab, by their numbers.
 pub(super) struct Heaps {
-    // Each box has one. (The standard library's box of a value ends the process if memory is refused.)
-    chunks: [OnceLock<Box<[Chunk]>>; MOST_HEAPS],
+    // Each vector has one. (The standard library's box of a value ends the process if memory is refused.)
+    chunks: [OnceLock<Vec<Chunk>>; MOST_HEAPS],
     // How many are open. A thread that sees one before its chunk passes over it.
     opened: AtomicUsize,
-    // Who has this lock opens the next heap.
+    // Who has this lock opens the next heap. Nothing of Rust is allocated or freed meanwhile.
     opening: Mutex<()>,
     // A thread found no shard, and waits for one that another gives back.
     asked: AtomicBool,
     limits: Limits,
 }
 
-// A vector of one value and no more room. None if memory is refused.
-fn vec_of_one<T>(value: T) -> Option<Vec<T>> {
-    let mut one = Vec::new();
-    one.try_reserve_exact(1).ok()?;
-    one.push(value);
-    Some(one)
+// A vector with room for one value. None if memory is refused.
+fn room_for_one<T>() -> Option<Vec<T>> {
+    let mut none = Vec::new();
+    none.try_reserve_exact(1).ok()?;
+    Some(none)
 }
 
 // The greatest power of two that is no greater.
@@ -67,9 +66,10 @@ impl Heaps {
     /// Opens the first heap.
     pub(super) fn open(limits: Limits) -> Result<Heaps, Error> {
         let segments = limits.first.div_ceil(SEGMENT).max(1).next_power_of_two().min(MOST_SEGMENTS);
-        let first = vec_of_one(Chunk::open(FIRST_SHARDS, segments as u32)?).ok_or(Error::Memory)?;
+        let mut first = room_for_one().ok_or(Error::Memory)?;
+        first.push(Chunk::open(FIRST_SHARDS, segments as u32)?);
         let chunks = [const { OnceLock::new() }; MOST_HEAPS];
-        _ = chunks[0].set(first.into_boxed_slice());
+        _ = chunks[0].set(first);
         Ok(Heaps {
             chunks,
             opened: AtomicUsize::new(1),
@@ -97,7 +97,9 @@ impl Heaps {
 
     /// Opens another heap, if there are no more than `seen`: whether there are more now.
     pub(super) fn grow(&self, seen: usize, need: Need) -> bool {
-        let _one = self.opening.lock().unwrap_or_else(PoisonError::into_inner);
+        // Before the lock is taken, and freed after it: an allocator of the user may call the slab from within.
+        let Some(mut next) = room_for_one() else { return false };
+        let _opening = self.opening.lock().unwrap_or_else(PoisonError::into_inner);
         let opened = self.opened();
         if opened > seen {
             return true;
@@ -111,9 +113,9 @@ impl Heaps {
             return false;
         }
         let (shards, segments) = shape(need, room / SEGMENT, shards);
-        let opens = || Some(vec_of_one(Chunk::open(shards, segments).ok()?)?.into_boxed_slice());
-        let Some(chunk) = opens() else { return false };
-        if self.chunks[opened].set(chunk).is_err() {
+        let Ok(chunk) = Chunk::open(shards, segments) else { return false };
+        next.push(chunk);
+        if self.chunks[opened].set(next).is_err() {
             unreachable!("heaps are opened one after the other");
         }
         self.opened.store(opened + 1, Relaxed);

@@ -24,8 +24,8 @@ struct Slot {
     member: UnsafeCell<Member>,
 }
 
-// SAFETY: a slot is used only by the thread that has its number, and no two threads have one at the same time: a number
-// goes from one thread to the next through a lock. What is in it may go to another thread.
+// SAFETY: a slot is used only by the thread that has its number, and no two threads have one at the same time: what a
+// thread did happens before what the next one with its number does. What is in it may go to another thread.
 unsafe impl Sync for Slot {}
 
 // No code of the user runs while the member is borrowed, so that no panic leaves it half changed.

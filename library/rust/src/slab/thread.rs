@@ -4,7 +4,9 @@
 //! ended. A slab has a table by them.
 use super::members::Members;
 use std::cell::{Cell, RefCell};
-use std::sync::{Mutex, PoisonError, Weak};
+use std::sync::atomic::AtomicU64;
+use std::sync::atomic::Ordering::{Acquire, Relaxed, Release};
+use std::sync::Weak;
 
 /// The thread has no number yet.
 const NONE: usize = usize::MAX;
@@ -18,8 +20,9 @@ thread_local! {
     static THREAD: RefCell<Thread> = const { RefCell::new(Thread { number: NONE, slabs: Vec::new(), prune_at: 8 }) };
 }
 
-/// A bit for each number that a thread has.
-static NUMBERS: Mutex<Vec<u64>> = Mutex::new(Vec::new());
+/// A bit for each number that a thread has: as many as Linux has threads at most. Memory that is not used stays zero,
+/// and takes none. (There is no lock, under which an allocator of the user could call a slab.)
+static NUMBERS: [AtomicU64; 1 << 16] = [const { AtomicU64::new(0) }; 1 << 16];
 
 /// What a thread gives back as it ends.
 struct Thread {
@@ -45,31 +48,24 @@ impl Drop for Thread {
     }
 }
 
-// The lowest number that no thread has. None if memory is refused.
+// The lowest number that no thread has. None if all are taken.
 fn lease() -> Option<usize> {
-    let mut numbers = NUMBERS.lock().unwrap_or_else(PoisonError::into_inner);
-    let at = match numbers.iter().position(|bits| *bits != u64::MAX) {
-        Some(at) => at,
-        None => {
-            numbers.try_reserve(1).ok()?;
-            numbers.push(0);
-            numbers.len() - 1
-        }
+    let lowest = |bits| (bits != u64::MAX).then(|| bits | (bits + 1));
+    let lease_of = |(at, bits): (usize, &AtomicU64)| {
+        // What the thread did that gave the number back happens before what this one does.
+        let before = bits.fetch_update(Acquire, Relaxed, lowest).ok()?;
+        Some(at * 64 + before.trailing_ones() as usize)
     };
-    let bits = numbers.get_mut(at)?;
-    let bit = bits.trailing_ones();
-    *bits |= 1 << bit;
-    Some(at * 64 + bit as usize)
+    NUMBERS.iter().enumerate().find_map(lease_of)
 }
 
 fn give_back(number: usize) {
-    let mut numbers = NUMBERS.lock().unwrap_or_else(PoisonError::into_inner);
-    if let Some(bits) = numbers.get_mut(number / 64) {
-        *bits &= !(1 << (number % 64));
+    if let Some(bits) = NUMBERS.get(number / 64) {
+        bits.fetch_and(!(1 << (number % 64)), Release);
     }
 }
 
-/// The number of this thread. None while it ends, or if memory is refused.
+/// The number of this thread. None while it ends.
 #[inline]
 pub(super) fn number() -> Option<usize> {
     let number = NUMBER.get();
@@ -116,7 +112,7 @@ pub(super) fn remember(slab: Weak<Members>) -> bool {
 mod tests {
     use super::*;
     use std::collections::HashSet;
-    use std::sync::Barrier;
+    use std::sync::{Barrier, Mutex};
     use std::thread;
 
     #[test]
