@@ -162,7 +162,7 @@ fn a_value_whose_initialisation_panics_is_cleared() {
     assert!(pool.create_with(|text| assert!(text.is_empty())).is_some());
 }
 
-/// Whoever ends the value, its place has a new one afterwards.
+/// A call, a guard that reads and one that writes end the value. Its place has a new one afterwards.
 #[test]
 fn a_value_whose_clear_panics_is_dropped() {
     static DROPPED: AtomicUsize = AtomicUsize::new(0);

@@ -72,28 +72,37 @@ fn filled(keys: &mut Vec<usize>, mut insert: impl FnMut(usize) -> Option<usize>)
     }
 }
 
-#[test]
-fn a_slab_loses_no_room() {
+/// Values of which 48 take more memory than a block of nodes has, so that each page has a block of its own.
+type Wide = [usize; 200];
+
+/// Fills a small slab, with each allocation refused in turn: how many there were.
+fn refusals_of_small<T: Copy + PartialEq + Send + Sync>(value: fn(usize) -> T) -> usize {
     let all = |number: &usize| {
         let slab = Slab::new_with_config::<Small>();
         let mut keys = Vec::with_capacity(2 * SMALL_ROOM);
-        let was_refused = refused(*number, || filled(&mut keys, |n| slab.insert(n)));
+        let was_refused = refused(*number, || filled(&mut keys, |n| slab.insert(value(n))));
         assert_eq!(keys.len(), SMALL_ROOM, "allocation {number}");
-        assert!(keys.iter().enumerate().all(|(n, key)| slab.take(*key) == Some(n)));
+        assert!(keys.iter().enumerate().all(|(n, key)| slab.take(*key) == Some(value(n))));
         was_refused
     };
-    // One for each page of 48 values, and some more.
-    assert!((0..).take_while(all).count() > SMALL_ROOM / 48);
+    (0..).take_while(all).count()
 }
 
 #[test]
-fn a_slab_grows_though_memory_was_refused() {
-    let count = 2 * SMALL_ROOM;
+fn a_slab_loses_no_room() {
+    // One for each page of 48 values, and some more.
+    assert!(refusals_of_small::<Wide>(|n| [n; 200]) > SMALL_ROOM / 48);
+    // One for each shard.
+    assert!(refusals_of_small(|n| n) > 4);
+}
+
+/// Grows a slab, with each allocation refused in turn: how many there were.
+fn refusals_of_growing<T: Copy + Send + Sync>(count: usize, value: T) -> usize {
     let all = |number: &usize| {
         let slab = Slab::new();
         let (mut keys, mut removed) = (Vec::with_capacity(count), 0);
         let act = || {
-            filled(&mut keys, |n| slab.insert(n));
+            filled(&mut keys, |_| slab.insert(value));
             removed = keys.iter().filter(|key| slab.remove(**key)).count();
         };
         let was_refused = refused(*number, act);
@@ -101,7 +110,14 @@ fn a_slab_grows_though_memory_was_refused() {
         assert!(keys.last().is_some_and(|key| key >> 52 > 0));
         was_refused
     };
-    assert!((0..).take_while(all).count() > count / 48);
+    (0..).take_while(all).count()
+}
+
+#[test]
+fn a_slab_grows_though_memory_was_refused() {
+    let count = 2 * SMALL_ROOM;
+    assert!(refusals_of_growing::<Wide>(count, [0; 200]) > count / 48);
+    assert!(refusals_of_growing(count, 0) > 8);
 }
 
 #[test]
@@ -114,5 +130,5 @@ fn a_pool_loses_no_room() {
         assert!(keys.iter().all(|key| pool.clear(*key)));
         was_refused
     };
-    assert!((0..).take_while(all).count() > SMALL_ROOM / 48);
+    assert!((0..).take_while(all).count() > 4);
 }

@@ -12,7 +12,8 @@ use std::fmt;
 /// | `MAX_PAGES`, `MAX_THREADS` | a limit of growth, below |
 /// | `RESERVED_BITS` | how many high bits of each key are the user's: 0 to 11 |
 ///
-/// A slab grows by heaps, each about as large as all before. It opens no further heap once it has room for
+/// A slab grows by heaps. Up to room for 50,000 values each is about as large as all before, later about two fifths of
+/// that. The slab opens no further heap once it has room for
 /// `INITIAL_PAGE_SIZE * (2^MAX_PAGES - 1) * MAX_THREADS` values, which by default is more than any machine has room
 /// for. A slab has at most 256 heaps, and half as many for each reserved bit after the fourth. With 256 heaps it has
 /// room for over 190 million values.

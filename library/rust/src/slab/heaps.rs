@@ -13,6 +13,9 @@ const FIRST_SHARDS: u32 = 4;
 /// The segments of a shard in layout `Tagged`, at most.
 const MOST_SEGMENTS: u64 = 32;
 
+/// The segments of a heap, at most.
+const LARGEST: u64 = number::MOST_SHARDS as u64 * MOST_SEGMENTS;
+
 /// The most values that a shard of the first heap has room for.
 pub(super) const FIRST_ROOM: u64 = MOST_SEGMENTS * SEGMENT;
 
@@ -27,8 +30,8 @@ pub(super) enum Need {
 
 /// The heaps of a slab, by their numbers.
 pub(super) struct Heaps {
-    // Each vector has one. (The standard library's box of a value ends the process if memory is refused.)
-    chunks: [OnceLock<Vec<Chunk>>; MOST_HEAPS],
+    // Each box has one. (The standard library's box of a value ends the process if memory is refused.)
+    chunks: [OnceLock<Box<[Chunk]>>; MOST_HEAPS],
     // How many are open. A thread that sees one before its chunk passes over it.
     opened: AtomicUsize,
     // Who has this lock opens the next heap. Nothing of Rust is allocated or freed meanwhile.
@@ -38,7 +41,7 @@ pub(super) struct Heaps {
     limits: Limits,
 }
 
-// A vector with room for one value. None if memory is refused.
+// A vector with room for just one value, so that it becomes a box where it is. None if memory is refused.
 fn room_for_one<T>() -> Option<Vec<T>> {
     let mut none = Vec::new();
     none.try_reserve_exact(1).ok()?;
@@ -50,15 +53,24 @@ fn power_below(number: u64) -> u64 {
     1 << number.max(1).ilog2()
 }
 
+// The greatest of 35, 50, 70, 100, 140, 200 and so on that is no greater, as shards and segments of each.
+fn step_below(segments: u64) -> (u32, u32) {
+    let each = power_below(segments / 35);
+    let shards = if segments >= 50 * each { 50 } else { 35 };
+    (shards, each as u32)
+}
+
 /// The shards and segments of a heap that is opened when those before have this many segments and shards.
+///
+/// A small slab doubles. Later each heap is less than half as large as all before, so that less memory waits for
+/// values. It is larger than the heap before, so that glibc maps its memory. A heap opens by way of a copy, whose memory
+/// goes back at once then.
 fn shape(need: Need, segments: u64, shards: u32) -> (u32, u32) {
     match need {
         Need::Shards => (if shards < 16 { 16 } else { 64 }, 1),
-        Need::Room => {
-            let shards = if segments < 512 { 16 } else { 64 };
-            let each = power_below(segments / u64::from(shards)).min(MOST_SEGMENTS);
-            (shards, each as u32)
-        }
+        Need::Room if segments < 128 => (16, power_below(segments / 16) as u32),
+        Need::Room if segments < LARGEST * 7 / 3 => step_below(segments * 3 / 7),
+        Need::Room => (64, MOST_SEGMENTS as u32),
     }
 }
 
@@ -69,7 +81,7 @@ impl Heaps {
         let mut first = room_for_one().ok_or(Error::Memory)?;
         first.push(Chunk::open(FIRST_SHARDS, segments as u32)?);
         let chunks = [const { OnceLock::new() }; MOST_HEAPS];
-        _ = chunks[0].set(first);
+        _ = chunks[0].set(first.into_boxed_slice());
         Ok(Heaps {
             chunks,
             opened: AtomicUsize::new(1),
@@ -115,7 +127,7 @@ impl Heaps {
         let (shards, segments) = shape(need, room / SEGMENT, shards);
         let Ok(chunk) = Chunk::open(shards, segments) else { return false };
         next.push(chunk);
-        if self.chunks[opened].set(next).is_err() {
+        if self.chunks[opened].set(next.into_boxed_slice()).is_err() {
             unreachable!("heaps are opened one after the other");
         }
         self.opened.store(opened + 1, Relaxed);
@@ -172,16 +184,28 @@ mod tests {
     use crate::slab::DefaultConfig;
 
     #[test]
-    fn each_heap_is_about_as_large_as_all_before() {
+    fn a_slab_doubles_at_first_and_grows_by_two_fifths_later() {
         let (mut all, mut shapes) = (4, Vec::new());
-        for _ in 0..10 {
+        for _ in 0..17 {
             let (shards, segments) = shape(Need::Room, all, 16);
             shapes.push((shards, segments));
             all += u64::from(shards * segments);
         }
-        let expected = [(16, 1), (16, 1), (16, 2), (16, 4), (16, 8), (16, 16), (64, 8), (64, 16), (64, 32), (64, 32)];
-        assert_eq!(shapes, expected);
+        let doubling = [(16, 1), (16, 1), (16, 2), (16, 4)];
+        let steps =
+            [(50, 1), (35, 2), (50, 2), (35, 4), (50, 4), (35, 8), (50, 8), (35, 16), (50, 16), (35, 32), (50, 32)];
+        assert_eq!((&shapes[..4], &shapes[4..15], &shapes[15..]), (&doubling[..], &steps[..], &[(64, 32); 2][..]));
         assert_eq!((shape(Need::Shards, 4, 4), shape(Need::Shards, 4, 16)), ((16, 1), (64, 1)));
+    }
+
+    #[test]
+    fn a_heap_is_larger_than_the_one_before_it() {
+        for before in 128..LARGEST * 7 / 3 {
+            let segments = |(shards, each): (u32, u32)| u64::from(shards * each);
+            let one = segments(shape(Need::Room, before, 16));
+            let next = segments(shape(Need::Room, before + one, 16));
+            assert!(one < before / 2 && one < next && next <= LARGEST, "{before}: {one}, {next}");
+        }
     }
 
     #[test]

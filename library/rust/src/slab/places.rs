@@ -1,19 +1,30 @@
 //! Where the nodes of a slab are: one for each slot of the heaps' pages, found by the place that a key names.
 //!
-//! The nodes of a page are allocated when its first key is issued, and stay until the slab is dropped.
+//! Nodes are allocated in blocks, each for some pages of a shard: when the first key of any of them is issued. They stay
+//! until the slab is dropped.
 use super::node::Node;
 use super::number::{self, MOST_HEAPS, MOST_SHARDS, SLOTS};
+use super::system;
 use std::alloc::{alloc_zeroed, dealloc, Layout};
+use std::mem::{size_of, size_of_val};
 use std::ptr;
 use std::slice;
-use std::sync::atomic::Ordering::{AcqRel, Acquire, Relaxed};
+use std::sync::atomic::Ordering::{AcqRel, Acquire, Relaxed, Release};
 use std::sync::atomic::{AtomicPtr, AtomicUsize};
 
 type Page<T> = [Node<T>; SLOTS];
 
+/// The bytes of a block, at most, if it has more than one page. In larger ones a slab of few values would have much that
+/// it does not use. Smaller ones would leave less whole pages of the system as they are freed.
+const BLOCK: usize = 64 << 10;
+
+/// A slab that frees as many bytes of nodes returns its memory to the system.
+const RETURNED: usize = 1 << 20;
+
 /// The pages of one heap.
 struct Pages<T> {
-    // The pages of each shard, one shard after the other. Null before the heap has a key.
+    // The pages of each shard, one shard after the other. Null before the heap has a key. The first page of a block is
+    // there as soon as the block is, any other once it has a key.
     table: AtomicPtr<AtomicPtr<Page<T>>>,
     // How many pages a shard has.
     of_shard: AtomicUsize,
@@ -41,12 +52,21 @@ impl<T> Pages<T> {
         Layout::array::<AtomicPtr<Page<T>>>(MOST_SHARDS as usize * of_shard).ok()
     }
 
-    // Runs it with the entry of a page. None if the heap has no key yet, or no such page.
+    // How many pages a block has: a power of two. (So is the number of pages that a shard has.)
+    fn of_block(of_shard: usize) -> usize {
+        let most = (BLOCK / size_of::<Page<T>>()).max(1);
+        of_shard.min(1 << most.ilog2())
+    }
+
+    fn layout_of_block(of_shard: usize) -> Option<Layout> {
+        Layout::array::<Page<T>>(Self::of_block(of_shard)).ok()
+    }
+
+    // Runs it with the entry of a page of the number's shard. None if the heap has no key yet, or no such page.
     #[inline]
-    fn entry<R>(&self, number: u64, act: impl FnOnce(&AtomicPtr<Page<T>>) -> R) -> Option<R> {
+    fn entry<R>(&self, number: u64, page: usize, act: impl FnOnce(&AtomicPtr<Page<T>>) -> R) -> Option<R> {
         let table = self.table.load(Acquire);
         let of_shard = self.of_shard.load(Relaxed);
-        let page = number::page(number);
         if table.is_null() || page >= of_shard {
             return None;
         }
@@ -69,6 +89,30 @@ impl<T> Pages<T> {
         }
         Some(())
     }
+
+    // The block that begins with this page, which it allocates if nobody has. None if memory is refused.
+    fn block(&self, number: u64, first: usize) -> Option<*mut Page<T>> {
+        let there = self.entry(number, first, |entry| entry.load(Acquire))?;
+        if !there.is_null() {
+            return Some(there);
+        }
+        // Zeroed memory is a block of nodes without values. It is not built on the stack, where large values have no
+        // room.
+        let layout = Self::layout_of_block(self.of_shard.load(Relaxed))?;
+        let new: *mut Page<T> = zeroed(layout);
+        if new.is_null() {
+            return None;
+        }
+        let publish = |entry: &AtomicPtr<Page<T>>| entry.compare_exchange(ptr::null_mut(), new, AcqRel, Acquire);
+        match self.entry(number, first, publish) {
+            Some(Ok(_)) => Some(new),
+            refused => {
+                // SAFETY: it was allocated here with this layout, and no other thread knows of it.
+                unsafe { dealloc(new.cast(), layout) };
+                refused?.err()
+            }
+        }
+    }
 }
 
 impl<T> Places<T> {
@@ -77,10 +121,11 @@ impl<T> Places<T> {
         Places { heaps: Box::new(std::array::from_fn(none)) }
     }
 
-    /// The node of a number's place. None if no key of its page was ever issued.
+    /// The node of a number's place. None if no key of its page was ever issued, except if it is the first of a block.
     #[inline]
     pub(super) fn node(&self, number: u64) -> Option<&Node<T>> {
-        let page = self.heaps.get(number::heap(number))?.entry(number, |entry| entry.load(Acquire))?;
+        let load = |entry: &AtomicPtr<Page<T>>| entry.load(Acquire);
+        let page = self.heaps.get(number::heap(number))?.entry(number, number::page(number), load)?;
         // SAFETY: a page that was published stays as long as `self`.
         unsafe { page.as_ref() }?.get(number::slot(number))
     }
@@ -89,47 +134,53 @@ impl<T> Places<T> {
     /// have `of_shard` pages, which is always the same. None if there is no such place, or memory is refused.
     pub(super) fn allocate(&self, number: u64, of_shard: usize) -> Option<&Node<T>> {
         let pages = self.heaps.get(number::heap(number))?;
-        if pages.entry(number, |_| ()).is_none() {
+        let page = number::page(number);
+        if pages.entry(number, page, |_| ()).is_none() {
             pages.prepare(of_shard)?;
         }
-        // Zeroed memory is a page of nodes without values. It is not built on the stack, where large values have no
-        // room.
-        let new: *mut Page<T> = zeroed(Layout::new::<Page<T>>());
-        if new.is_null() {
-            return None;
-        }
-        let publish = |entry: &AtomicPtr<Page<T>>| entry.compare_exchange(ptr::null_mut(), new, AcqRel, Relaxed);
-        if !matches!(pages.entry(number, publish), Some(Ok(_))) {
-            // SAFETY: it was allocated here with this layout, and no other thread knows of it.
-            unsafe { dealloc(new.cast(), Layout::new::<Page<T>>()) };
-        }
+        let at = page % Pages::<T>::of_block(of_shard);
+        // All that publish a page of the block store the same address.
+        let publish = |block: *mut Page<T>| {
+            // SAFETY: the block has as many pages.
+            pages.entry(number, page, |entry| entry.store(unsafe { block.add(at) }, Release))
+        };
+        pages.block(number, page - at).and_then(publish)?;
         self.node(number)
     }
 
-    // The pages that were allocated.
-    fn pages_mut(&mut self) -> impl Iterator<Item = *mut Page<T>> + '_ {
-        let tables = self.heaps.iter_mut().filter_map(|pages| {
-            let table = *pages.table.get_mut();
-            let length = MOST_SHARDS as usize * *pages.of_shard.get_mut();
-            // SAFETY: a table has this many entries, and `&mut self` is the only way to them.
-            (!table.is_null()).then(|| unsafe { slice::from_raw_parts_mut(table, length) })
-        });
-        tables.flatten().map(|page| *page.get_mut()).filter(|page| !page.is_null())
+    // The nodes of each block that was allocated.
+    fn blocks_mut(&mut self) -> impl Iterator<Item = &mut [Node<T>]> + '_ {
+        self.heaps.iter_mut().flat_map(|pages| {
+            let (table, of_shard) = (*pages.table.get_mut(), *pages.of_shard.get_mut());
+            let length = if table.is_null() { 0 } else { MOST_SHARDS as usize * of_shard };
+            let of_block = Pages::<T>::of_block(of_shard);
+            (0..length).step_by(of_block.max(1)).filter_map(move |first| {
+                // SAFETY: a table has this many entries, and `&mut self` is the only way to them.
+                let block = unsafe { *(*table.add(first)).get_mut() };
+                // SAFETY: a block has this many nodes and stays as long as `self`. Each is visited once.
+                (!block.is_null()).then(|| unsafe { slice::from_raw_parts_mut(block.cast(), of_block * SLOTS) })
+            })
+        })
     }
 
-    /// All nodes of pages that were allocated.
+    /// All nodes of blocks that were allocated.
     pub(super) fn nodes_mut(&mut self) -> impl Iterator<Item = &mut Node<T>> + '_ {
-        // SAFETY: a page stays as long as `self`, which the items borrow, and each is visited once.
-        self.pages_mut().flat_map(|page| unsafe { (*page).iter_mut() })
+        self.blocks_mut().flatten()
     }
 }
 
 impl<T> Drop for Places<T> {
     /// Frees the memory. Values that are still in the nodes are not dropped.
     fn drop(&mut self) {
-        for page in self.pages_mut() {
-            // SAFETY: it was allocated with this layout, and all that use it borrow the slab or have a share of it.
-            unsafe { dealloc(page.cast(), Layout::new::<Page<T>>()) };
+        let is_large = self.blocks_mut().map(|nodes| size_of_val(nodes)).sum::<usize>() >= RETURNED;
+        for nodes in self.blocks_mut() {
+            let (layout, at) = (Layout::for_value(nodes), ptr::from_mut(nodes).cast());
+            if is_large {
+                // SAFETY: all that use the block borrow the slab or have a share of it, and no value is read any more.
+                unsafe { system::forget_pages(at, layout.size()) };
+            }
+            // SAFETY: it was allocated with this layout, and nobody uses it, as above.
+            unsafe { dealloc(at, layout) };
         }
         for pages in self.heaps.iter_mut() {
             let (table, of_shard) = (*pages.table.get_mut(), *pages.of_shard.get_mut());
@@ -137,6 +188,9 @@ impl<T> Drop for Places<T> {
                 // SAFETY: as above, for a table.
                 unsafe { dealloc(table.cast(), layout) };
             }
+        }
+        if is_large {
+            system::return_free_memory();
         }
     }
 }

@@ -29,8 +29,9 @@ pub(super) trait Ending<T> {
 
 /// The values of a slab or a pool.
 pub(super) struct Store<T, E: Ending<T>> {
-    places: Places<T>,
     members: Arc<Members>,
+    // Dropped after the heaps, so that it returns their memory too.
+    places: Places<T>,
     ending: PhantomData<fn() -> E>,
 }
 
