@@ -186,7 +186,7 @@ fn a_value_whose_clear_panics_is_dropped() {
         guard.0 = 1;
         guard
     };
-    let rounds = SMALL_ROOM;
+    let rounds = SMALL_ROOM / 2;
     for _ in 0..rounds {
         let key = create().key();
         ends_by_panic(&|| _ = pool.clear(key));
