@@ -1,4 +1,4 @@
-//! How many holds keys may have had, moment by moment: a get is as early as it may be, and a release as late.
+//! When keys may have had enough holds for a refusal as crowded: a get is as early as it may be, and a release as late.
 //!
 //! This only helps to find an order, so nothing is proved of it: each order that is tried is judged.
 use crate::call::{Call, Said};
@@ -6,19 +6,26 @@ use crate::course::Courses;
 use sh_history::Entry;
 use std::alloc::{AllocError, Global};
 
-// A get or a release, and how many holds the key has with it.
+// A get or a release.
 #[derive(Clone, Copy, Debug)]
 struct Change {
     key: u64,
     moment: u64,
     is_release: bool,
-    holds: u64,
 }
 
-/// The gets and releases of all keys, key by key, in the order of their moments.
+// A time, with both its ends, in which no hold on the key is got or released, and it has enough holds.
+#[derive(Clone, Copy, Debug)]
+struct Period {
+    key: u64,
+    begin: u64,
+    end: u64,
+}
+
+/// The periods in which keys have enough holds, key by key, in the order of their moments.
 #[derive(Drop)]
 pub struct Holding {
-    changes: Vec<Change>,
+    periods: Vec<Period>,
 }
 
 fn is_crowded(call: &Call) -> bool {
@@ -35,7 +42,6 @@ fn change_of(courses: &Courses, call: &Call) -> Option<Change> {
             key,
             moment: call.times.nearest(inserted),
             is_release: false,
-            holds: 0,
         });
     }
     if call.said.releases(key) {
@@ -43,66 +49,80 @@ fn change_of(courses: &Courses, call: &Call) -> Option<Change> {
             key,
             moment: end,
             is_release: true,
-            holds: 0,
         });
     }
     None
 }
 
-// Counts the holds of each key.
-fn count(changes: &mut [Change]) {
-    let mut key = None;
-    let mut holds: u64 = 0;
-    for change in changes {
-        if key != Some(change.key) {
-            key = Some(change.key);
-            holds = 0;
+// The gets and releases of all keys, key by key, in the order of their moments. If no key was crowded, none are noted.
+fn changes_by(alloc: Global, calls: &[Call], courses: &Courses) -> Result<Vec<Change>, AllocError> {
+    let mut changes = Vec::new(alloc);
+    if calls.iter().any(is_crowded) {
+        for call in calls {
+            if let Some(change) = change_of(courses, call) {
+                changes.push(change)?;
+            }
         }
-        holds = if change.is_release {
-            holds.saturating_sub(1)
-        } else {
-            holds.saturating_add(1)
-        };
-        change.holds = holds;
+    }
+    changes.sort_by_key(|change| (change.key, change.moment, change.is_release))?;
+    Ok(changes)
+}
+
+// When the change after that of this place comes, if it is on the same key.
+fn next_moment(changes: &[Change], place: usize) -> Option<u64> {
+    let change = changes.get(place)?;
+    let next = changes.get(place.checked_add(1)?)?;
+    if next.key == change.key {
+        Some(next.moment)
+    } else {
+        None
     }
 }
 
 impl Holding {
-    /// The holds by these calls. If no key was crowded, none are noted. Refused if memory is.
-    pub fn new(alloc: Global, calls: &[Call], courses: &Courses) -> Result<Holding, AllocError> {
-        let mut changes = Vec::new(alloc);
-        if calls.iter().any(is_crowded) {
-            for call in calls {
-                if let Some(change) = change_of(courses, call) {
-                    changes.push(change)?;
-                }
+    /// The periods by these calls in which keys have at least `enough` holds. If no key was crowded, none are noted.
+    /// Refused if memory is.
+    pub fn new(
+        alloc: Global,
+        calls: &[Call],
+        courses: &Courses,
+        enough: u64,
+    ) -> Result<Holding, AllocError> {
+        let changes = changes_by(alloc, calls, courses)?;
+        let mut periods = Vec::new(alloc);
+        let mut key = None;
+        let mut holds: u64 = 0;
+        for (place, change) in changes.iter().enumerate() {
+            if key != Some(change.key) {
+                key = Some(change.key);
+                holds = 0;
+            }
+            holds = if change.is_release {
+                holds.saturating_sub(1)
+            } else {
+                holds.saturating_add(1)
+            };
+            if holds >= enough {
+                periods.push(Period {
+                    key: change.key,
+                    begin: change.moment,
+                    end: next_moment(changes.as_slice(), place).unwrap_or(u64::MAX),
+                })?;
             }
         }
-        changes.sort_by_key(|change| (change.key, change.moment, change.is_release))?;
-        count(changes.as_mut_slice());
-        Ok(Holding { changes })
+        Ok(Holding { periods })
     }
 
-    // How many changes come before this moment, or are of keys before this one.
-    fn before(&self, key: u64, moment: u64) -> usize {
-        self.changes
-            .partition_point(|change| (change.key, change.moment) < (key, moment))
-    }
-
-    /// The first moment from this one on at which the key has at least this number of holds, if there is one.
-    pub fn first_with(&self, key: u64, from: u64, holds: u64) -> Option<u64> {
-        let at = self.before(key, from);
-        if let Some(last) = at.checked_sub(1).and_then(|place| self.changes.get(place))
-            && last.key == key
-            && last.holds >= holds
-        {
-            return Some(from);
+    /// The first moment from this one on at which the key has enough holds, if there is one.
+    pub fn first_from(&self, key: u64, from: u64) -> Option<u64> {
+        let place = self
+            .periods
+            .partition_point(|period| (period.key, period.end) < (key, from));
+        let period = self.periods.get(place)?;
+        if period.key == key {
+            Some(period.begin.max(from))
+        } else {
+            None
         }
-        self.changes
-            .iter()
-            .skip(at)
-            .take_while(|change| change.key == key)
-            .find(|change| change.holds >= holds)
-            .map(|change| change.moment)
     }
 }

@@ -45,39 +45,36 @@ fn gone(course: &Course, begin: u64) -> (u64, Rank) {
 }
 
 // The wish of a refusal as crowded: the first moment in its times at which the key has enough holds, or its first one.
-fn crowded(course: &Course, holding: &Holding, enough: u64, call: &Call) -> u64 {
+fn crowded(course: &Course, holding: &Holding, call: &Call) -> u64 {
     let begun = call.times.begin().max(course.inserted().unwrap_or(0));
-    match holding.first_with(call.said.key(), begun, enough) {
+    match holding.first_from(call.said.key(), begun) {
         Some(moment) if moment == call.times.nearest(moment) => moment,
         _ => begun,
     }
 }
 
 // The moment that a call would have, if its times did not count, and its rank.
-fn wish(course: &Course, holding: &Holding, enough: u64, call: &Call) -> (u64, Rank) {
+fn wish(course: &Course, holding: &Holding, call: &Call) -> (u64, Rank) {
     let inserted = course.inserted().unwrap_or(0);
     match &call.said {
         Said::Known(Entry::Insert(_, _, _)) => (inserted, Rank::Insert),
         Said::Known(Entry::Got(_, _, _)) | Said::Unread(_, _) => (inserted, Rank::Get),
-        Said::Known(Entry::Crowded(_, _)) => {
-            (crowded(course, holding, enough, call), Rank::Crowded)
-        }
+        Said::Known(Entry::Crowded(_, _)) => (crowded(course, holding, call), Rank::Crowded),
         Said::Known(Entry::Gone(_, _)) => gone(course, call.times.begin()),
         Said::Known(Entry::Removed(_, _)) => (course.removed().unwrap_or(0), Rank::Remove),
         Said::Known(Entry::Released(_, _)) => (u64::MAX, Rank::Release),
     }
 }
 
-/// The point of a call in its times, or `None` if it never ended and is best left out. A key may be crowded if it has
-/// `enough` holds.
-pub fn point_of(course: &Course, holding: &Holding, enough: u64, call: &Call) -> Option<Point>
+/// The point of a call in its times, or `None` if it never ended and is best left out.
+pub fn point_of(course: &Course, holding: &Holding, call: &Call) -> Option<Point>
     ensures { MatchOption result (is_ended call.now.times ≡ false)
         (λ point. IsWithin call.now.times point.moment) }
 {
     if !call.times.is_ended() && !course.is_change(call.line) {
         return None;
     }
-    let (moment, rank) = wish(course, holding, enough, call);
+    let (moment, rank) = wish(course, holding, call);
     Some(Point {
         moment: call.times.nearest(moment),
         rank,

@@ -28,11 +28,11 @@ pub fn in_order<'a>(
     ensures { IfOk result (λ placed. IsOrder calls.now (map call_of placed.items)) }
 {
     let courses = Courses::new(alloc, calls)?;
-    let holding = Holding::new(alloc, calls, &courses)?;
+    let holding = Holding::new(alloc, calls, &courses, enough)?;
     let mut all = Vec::new(alloc);
     for call in calls {
         let course = courses.of(call.said.key());
-        if let Some(point) = point_of(&course, &holding, enough, call) {
+        if let Some(point) = point_of(&course, &holding, call) {
             all.push(Placed { point, call })?;
         }
     }
