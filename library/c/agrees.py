@@ -4,8 +4,9 @@
 usage: library/c/agrees.py [ARCHIVE]
 
 It compares each export of crates/c_exports with its declaration in the header, parameter by parameter; the records that
-the library writes; each code with its number; and the version of the header with that of the Rust crate. With an
-archive it also looks whether the archive exports what the header declares, and nothing beside it.
+the library writes; each code with its number; and the version of the Rust crate with that of the header, of each
+program, of the packages that documents name, and of the newest entry of CHANGELOG.md. With an archive it also looks
+whether the archive exports what the header declares, and nothing beside it.
 """
 import pathlib
 import re
@@ -31,6 +32,14 @@ TYPES = {
 
 # The fields of the records that the library writes.
 FIELDS = {'u32': '32 bits', 'u64': '64 bits', '[u64; WORDS_MAX]': '64 bits, 16 times'}
+
+# Where the version is, by how it is written there.
+VERSIONED = {
+    r'\.version\("(.*)"\)': ['crates/*/src/**/*.rt'],
+    r'\b(?:gearlongan|\w*shardheap[\w-]*)[-_](\d+\.\d+\.\d+)': ['README.md', 'library/README.md'],
+    r'(?s)\A.*?^## ([\d.]+)': ['CHANGELOG.md'],
+    r'^version = "(.*)"$': ['bench/Cargo.toml', 'bench/*/Cargo.toml'],
+}
 
 
 def exported():
@@ -73,6 +82,15 @@ def numbered():
     return codes
 
 
+def versions():
+    """The places that have the version, and what is there. The header has its first two numbers alone."""
+    yield 'the header', '.'.join(re.findall(r'^#define SHARDHEAP_VERSION_M\w+ (\d+)$', HEADER, re.M)) + '.0'
+    for pattern, files in VERSIONED.items():
+        for file in sorted(it for glob in files for it in TOP.glob(glob)):
+            for found in re.findall(pattern, file.read_text(encoding='utf-8'), re.M):
+                yield str(file.relative_to(TOP)), found
+
+
 def differences():
     library, header = exported(), declared()
     for name in sorted(library.keys() | header.keys()):
@@ -85,10 +103,10 @@ def differences():
     for name, number in numbered().items():
         if of_header.get(name) != number:
             yield f'{name} is {number} in the library and {of_header.get(name)} in the header'
-    numbers = re.findall(r'^#define SHARDHEAP_VERSION_M\w+ (\d+)$', HEADER, re.M)
-    crate = re.search(r'^version = "(\d+)\.(\d+)\.\d+"$', (TOP / 'library/rust/Cargo.toml').read_text(), re.M)
-    if len(numbers) != 2 or not crate or list(crate.groups()) != numbers:
-        yield f'the version is {numbers} in the header and {crate and crate[0]} in the Rust crate'
+    crate = re.search(r'^version = "(.*)"$', (TOP / 'library/rust/Cargo.toml').read_text(), re.M)[1]
+    for place, version in versions():
+        if version != (crate if place != 'the header' else crate.rpartition('.')[0] + '.0'):
+            yield f'the version is {version} in {place} and {crate} in the Rust crate'
 
 
 def archived(archive):

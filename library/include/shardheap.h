@@ -102,7 +102,7 @@
 #include <string.h>
 
 #define SHARDHEAP_VERSION_MAJOR 0
-#define SHARDHEAP_VERSION_MINOR 1
+#define SHARDHEAP_VERSION_MINOR 2
 
 #if defined(SHARDHEAP_CHECKED) && !defined(__GNUC__)
 #error "SHARDHEAP_CHECKED needs gcc or clang"

@@ -39,6 +39,7 @@ END
 
 SESSION = "$PREFIX/share/cargo/registry/gearlongan-*/examples/session.rs"
 BY_PATH = 'gearlongan = { path = "$PREFIX/share/shardheap/rust/gearlongan" }'
+REQUIRED = 'gearlongan = "0.2"'
 BOTH = f'{BY_PATH}\nsharded-slab = "0.1.4"'
 PATCH = '[patch.crates-io]\nsharded-slab = { path = "$PREFIX/share/shardheap/rust/sharded-slab" }'
 # The tarball as a prefix, with nothing installed; and lines that change a file in it.
@@ -125,11 +126,11 @@ not cmake -S $CLIENT -B other -DWANTED=0.0 > said 2>&1
 grep -q 'compatible with requested version' said""",
         "echo 'set(PACKAGE_VERSION_COMPATIBLE TRUE)' >> $LIB/cmake/shardheap/shardheap-config-version.cmake",
         ("cmake", "c++")),
-    Row("Rust, static, from the registry", rust(SESSION, 'gearlongan = "0.1"') + """
+    Row("Rust, static, from the registry", rust(SESSION, REQUIRED) + """
 cargo build --offline --quiet --release
 cp target/release/client a
 ./a\n""" + STATIC_ONE, "rm $PREFIX/share/cargo/registry/gearlongan-*/.cargo-checksum.json", ("cargo", "pkg-config")),
-    Row("Rust, shared", rust(SESSION, 'gearlongan = "0.1"') + """
+    Row("Rust, shared", rust(SESSION, REQUIRED) + """
 SHARDHEAP_SHARED=1 cargo build --offline --quiet
 cp target/debug/client a
 ./a\n""" + SHARED_ONE, "rm $LIB/libshardheap.so*", ("cargo", "pkg-config")),
@@ -181,7 +182,7 @@ export CMAKE_PREFIX_PATH=$PREFIX LD_LIBRARY_PATH=$LIB
 """ + f"{C} {FLAGS} -lpthread -o a\n./a\nldd a | grep $LIB/libshardheap.so.0\n{C} {STATIC} -o a\n./a" + """
 cmake -S $CLIENT -B made > said 2>&1 && cmake --build made > said 2>&1 || { cat said; exit 1; }
 made/c_shared
-""" + rust(SESSION, 'gearlongan = "0.1"') + "cargo run --offline --quiet",
+""" + rust(SESSION, REQUIRED) + "cargo run --offline --quiet",
         f"""{REPACKED} 's|^prefix=.*|prefix=/usr/nowhere|' */lib/pkgconfig/shardheap.pc
 {PACKED}""", ("cc", "cmake", "cargo", "pkg-config")),
 ]

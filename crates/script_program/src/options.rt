@@ -82,7 +82,7 @@ fn program<'a>(alloc: Global) -> Command<'a>
 {
     Command::new(alloc, "shardheap")
         .about("Runs a script of the sharded heap from the standard input")
-        .version("0.1.0")
+        .version("0.2.0")
         .after_help(AFTER_HELP)
 }
 

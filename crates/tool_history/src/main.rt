@@ -33,7 +33,7 @@ fn options(alloc: Global, words: &[&str]) -> Result<(), Error> {
         .about(
             "Judges a recorded history of a map whose keys are never used again, from the standard input",
         )
-        .version("0.1.0")
+        .version("0.2.0")
         .after_help(AFTER_HELP);
     let _matches = command.try_get_matches_from(words)?;
     Ok(())

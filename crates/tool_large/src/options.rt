@@ -56,7 +56,7 @@ fn values_option<'a>(alloc: Global) -> Arg<'a> {
 fn command<'a>(alloc: Global, layouts: &'a [&'a str]) -> Result<Command<'a>, AllocError> {
     Command::new(alloc, "tool_large")
         .about("Fills a large heap from four threads, reads it, empties it and fills it again")
-        .version("0.1.0")
+        .version("0.2.0")
         .after_help(AFTER_HELP)
         .arg(layout_argument(alloc, layouts))?
         .arg(values_option(alloc))

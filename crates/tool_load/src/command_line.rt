@@ -125,7 +125,7 @@ fn program<'a>(alloc: Global) -> Command<'a>
 {
     Command::new(alloc, "tool_bench")
         .about("Measures calls of the sharded heap")
-        .version("0.1.0")
+        .version("0.2.0")
         .after_help(AFTER_HELP)
 }
 

@@ -67,7 +67,7 @@ fn command<'a>(alloc: Global) -> Result<Command<'a>, AllocError> {
         .about(
             "Does a script of steps from the standard input in every order, and prints each outcome",
         )
-        .version("0.1.0")
+        .version("0.2.0")
         .after_help(AFTER_HELP)
         .arg(accounts_flag(alloc))?
         .arg(limit_option(alloc))?

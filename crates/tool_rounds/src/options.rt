@@ -108,7 +108,7 @@ fn number_option<'a>(alloc: Global, number: Number) -> Arg<'a> {
 fn program<'a>(alloc: Global) -> Command<'a> {
     Command::new(alloc, "tool_stress")
         .about("Works on heaps of the library in many threads, and judges what they answered")
-        .version("0.1.0")
+        .version("0.2.0")
         .after_help(AFTER_HELP)
 }
 

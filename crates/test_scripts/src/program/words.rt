@@ -124,5 +124,5 @@ fn help_and_the_version_are_output(rt: HostRuntime) {
     let run = run_with(&rt, rt.alloc(), &["shardheap", "--help"], &mut Broken);
     wrote_help(&rt, &run);
     let run = run_with(&rt, rt.alloc(), &["shardheap", "--version"], &mut Broken);
-    wrote(&rt, &run, 0, "shardheap 0.1.0\n", "");
+    wrote(&rt, &run, 0, "shardheap 0.2.0\n", "");
 }
