@@ -86,7 +86,7 @@ def crates(prefix):
 
     sharded-slab has the name and version of the original. So it is not in the registry, where that may be."""
     name = f"gearlongan-{version()}"
-    crate(TOP / "library/rust", prefix / REGISTRY / name, ["src", "examples", "Cargo.toml", "build.rs"])
+    crate(TOP / "library/rust", prefix / REGISTRY / name, ["src", "examples", "Cargo.toml", "README.md", "build.rs"])
     (prefix / REGISTRY / name / ".cargo-checksum.json").write_text(json.dumps({"files": {}}) + "\n")
     by_path = prefix / BY_PATH
     crate(TOP / "library/sharded-slab", by_path / "sharded-slab", ["src", "Cargo.toml"])

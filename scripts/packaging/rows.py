@@ -146,6 +146,11 @@ not cargo check --offline > said 2>&1
 grep -q 'which SHARDHEAP_LIB_DIR names' said""",
         "sed -i 's/starts_with(minor)/contains(\"\")/' $PREFIX/share/cargo/registry/gearlongan-*/build.rs",
         ("cargo", "pkg-config")),
+    Row("Rust, the crate's own tests", """cp -r $PREFIX/share/cargo/registry/gearlongan-* crate
+cd crate
+cargo test --offline --quiet""",
+        "sed -i 's|\\.\\./README.md|../../../README.md|' $PREFIX/share/cargo/registry/gearlongan-*/src/lib.rs",
+        ("cargo", "pkg-config")),
     Row("Rust, in place of sharded-slab", rust("$CLIENT/slab.rs", BOTH, PATCH) + """
 cargo run --offline --quiet""", "rm $PREFIX/share/shardheap/rust/gearlongan", ("cargo", "pkg-config")),
     Row("the lines of README.md and library/README.md", """version=$(pkg-config --modversion shardheap)

@@ -112,9 +112,9 @@ mod words;
 #[cfg(not(feature = "record"))]
 use unrecorded as history;
 
-// The examples of README.md in Rust are run with those of the documentation.
+// The example of the crate's README.md is run with those of the documentation.
 #[cfg(doctest)]
-#[doc = include_str!("../../../README.md")]
+#[doc = include_str!("../README.md")]
 mod readme {}
 
 pub use accounts::{PageAccounts, Totals};
