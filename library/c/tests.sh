@@ -146,7 +146,7 @@ texts() {
 # unpacked FOLDER: makes the packages of the archive, and unpacks the tarball there.
 unpacked() {
   # shellcheck disable=SC2154
-  python3 scripts/package "$out/packages" --archive "$archive" > "$out/package.txt"
+  scripts/package "$out/packages" --archive "$archive" > "$out/package.txt"
   mkdir "$1"
   tar -xzf "$out"/packages/shardheap-*.tar.gz -C "$1" --strip-components=1
 }

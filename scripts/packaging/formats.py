@@ -32,8 +32,8 @@ def name_of(values, mark):
 
 
 def settle(folder):
-    """Gives each file and folder the same rights, and the same time."""
-    for path in sorted(folder.rglob("*")):
+    """Gives the folder, and each file and folder in it, the same rights and the same time, whatever the umask is."""
+    for path in [folder, *sorted(folder.rglob("*"))]:
         if not path.is_symlink():
             path.chmod(0o755 if path.is_dir() else 0o644)
         os.utime(path, (moment(), moment()), follow_symlinks=False)
