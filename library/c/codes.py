@@ -34,11 +34,9 @@ def codes(header):
 
 def told(header, names):
     """The codes that the header says each call may return."""
-    calls = re.findall(r'/\* ((?:(?!\*/).)*?) ?\*/\nstatic inline uint32_t shardheap_(\w+)\(([^)]*)\)', header, re.S)
+    calls = re.findall(r'/\* ((?:(?!\*/).)*?) ?\*/\nSHARDHEAP_API uint32_t shardheap_(\w+)\(([^)]*)\)', header, re.S)
     wanted = set()
     for comment, call, parameters in calls:
-        if call in ('fill', 'know', 'load_bare'):
-            continue
         prose = re.sub(r'(?m)^ {7}.*$', '', comment)
         wanted |= {(call, name) for name in names if re.search(rf'\b{name}\b', prose)} | {(call, 'NULL')}
         if parameters.startswith(('shardheap *', 'shardheap_pass *')):

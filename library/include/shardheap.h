@@ -87,7 +87,14 @@
      - OTHER_HEAP: the key or the receipt is not of the heap of this pass. Bits 56 to 63 of a key have the number of its
        heap, from 1 to 255 and then anew. A tag takes that number away, and keys of layout deep and of growing heaps
        have none: these are not recognised. Receipts of two heaps of layout deep, or of growing heaps, look alike.
-   If the macro SHARDHEAP_ON_MISUSE(code) is defined, for example as abort(), it is called too, also for NO_HANDLE.
+   The macro SHARDHEAP_ON_MISUSE(code) is called too, also for NO_HANDLE. It does nothing unless the program defines it
+   before it includes this header, for example as __builtin_trap().
+
+   OTHER LANGUAGES. The functions of this header are inline. The static and the shared library of a package have them
+   too, under the same names, for languages that call functions and compile no C. Those do what these do outside checked
+   mode, and a handle is used either by those or in checked mode. The numbers of codes and layouts, and the sizes and
+   offsets that this header asserts, are the same in all versions of libshardheap.so.0: a handle has 32 bytes, begins as
+   zeroed bytes, and is aligned to 8.
 
    MEMORY is taken by open, share, take, adopt, gather, receipt_make, and by an insert or a prepare that opens a
    segment. An insert into a growing heap takes it for an adoption and a chunk too. Nothing else returns
@@ -95,6 +102,10 @@
    26 GB, and twice that while it opens. */
 #ifndef SHARDHEAP_H
 #define SHARDHEAP_H
+
+#if !defined(__x86_64__) || defined(__ILP32__) || !defined(__linux__)
+#error "shardheap supports x86-64 Linux alone"
+#endif
 
 #include <stdbool.h>
 #include <stddef.h>
@@ -106,6 +117,10 @@
 
 #if defined(SHARDHEAP_CHECKED) && !defined(__GNUC__)
 #error "SHARDHEAP_CHECKED needs gcc or clang"
+#endif
+/* library/src/checked_calls.c leaves this empty, and so compiles the calls into the library. */
+#ifndef SHARDHEAP_API
+#define SHARDHEAP_API static inline
 #endif
 #ifndef SHARDHEAP_ON_MISUSE
 #define SHARDHEAP_ON_MISUSE(code) ((void)(code))
@@ -119,7 +134,7 @@ extern "C" {
 #endif
 
 /* The version of this header: 1000 for each major version, and 1 for each minor one. */
-static inline uint32_t shardheap_version(void) {
+SHARDHEAP_API uint32_t shardheap_version(void) {
     return SHARDHEAP_VERSION_MAJOR * UINT32_C(1000) + SHARDHEAP_VERSION_MINOR;
 }
 
@@ -156,7 +171,7 @@ typedef enum shardheap_code {
 } shardheap_code;
 
 /* The name of a code, and "unknown" for other numbers. */
-static inline const char *shardheap_name(uint32_t code) {
+SHARDHEAP_API const char *shardheap_name(uint32_t code) {
     static const char *const names[] = {
         "Ok",     "BadKey", "Gone",    "Crowded", "HoldsFull", "NotHeld", "TooLong",
         "Full",   "Memory", "Taken",   "NoShard", "Waiting",   "BadShape", "unknown",
@@ -410,7 +425,7 @@ static inline uint32_t shardheap_settle_opened(shardheap *heap, uint32_t layout,
    is at least one of each, and no more than the layout has. OCCUPIED, BAD_LAYOUT, BAD_SHAPE, MEMORY.
 
        code = shardheap_open(&heap, SHARDHEAP_WIDE, 4, 2, 8);    4 shards of 16 pages, and 8 passes */
-static inline uint32_t shardheap_open(shardheap *heap, uint32_t layout, uint32_t shards, uint32_t segments,
+SHARDHEAP_API uint32_t shardheap_open(shardheap *heap, uint32_t layout, uint32_t shards, uint32_t segments,
                                       uint32_t passes) {
     uint32_t code = shardheap_begin_heap(heap);
     if (code != SHARDHEAP_OK) return code;
@@ -422,7 +437,7 @@ static inline uint32_t shardheap_open(shardheap *heap, uint32_t layout, uint32_t
    room.
 
        code = shardheap_open_for(&heap, SHARDHEAP_WIDE, 4, 20000, 2, 8);    20,000 values of 2 words for each of 4 */
-static inline uint32_t shardheap_open_for(shardheap *heap, uint32_t layout, uint32_t owners, uint64_t values,
+SHARDHEAP_API uint32_t shardheap_open_for(shardheap *heap, uint32_t layout, uint32_t owners, uint64_t values,
                                           uint32_t words, uint32_t passes) {
     uint32_t code = shardheap_begin_heap(heap);
     if (code != SHARDHEAP_OK) return code;
@@ -435,7 +450,7 @@ static inline uint32_t shardheap_open_for(shardheap *heap, uint32_t layout, uint
    number is outside its limits or no chunk has the room.
 
        code = shardheap_open_growing(&heap, 4, 10000, 1, 8, 256);    room for 10,000 values for each of 4 at first */
-static inline uint32_t shardheap_open_growing(shardheap *heap, uint32_t owners, uint64_t values, uint32_t words,
+SHARDHEAP_API uint32_t shardheap_open_growing(shardheap *heap, uint32_t owners, uint64_t values, uint32_t words,
                                               uint32_t passes, uint32_t chunks) {
     uint32_t code = shardheap_begin_heap(heap);
     if (code != SHARDHEAP_OK) return code;
@@ -448,7 +463,7 @@ static inline uint32_t shardheap_open_growing(shardheap *heap, uint32_t owners, 
    thread may open one meanwhile.
 
        count = shardheap_chunks(&heap);    1, until an insert finds no room */
-static inline uint64_t shardheap_chunks(shardheap *heap) {
+SHARDHEAP_API uint64_t shardheap_chunks(shardheap *heap) {
     if (shardheap_begin_heap(heap) != SHARDHEAP_OK) return 0;
     uint64_t chunks = shardheap_raw_chunks(heap);
     shardheap_end(&heap->seal, SHARDHEAP_OK);
@@ -458,7 +473,7 @@ static inline uint64_t shardheap_chunks(shardheap *heap) {
 /* How many passes the heap has, at home or away: 0 of an empty handle, and of what is no handle.
 
        count = shardheap_passes(&heap);    8, of the heaps above */
-static inline uint64_t shardheap_passes(shardheap *heap) {
+SHARDHEAP_API uint64_t shardheap_passes(shardheap *heap) {
     if (shardheap_begin_heap(heap) != SHARDHEAP_OK) return 0;
     uint64_t passes = shardheap_raw_passes(heap);
     shardheap_end(&heap->seal, SHARDHEAP_OK);
@@ -468,7 +483,7 @@ static inline uint64_t shardheap_passes(shardheap *heap) {
 /* Takes a pass that is at home into an empty handle. OCCUPIED, EMPTY, NO_PASS, MEMORY, OVERLAP.
 
        code = shardheap_take(&heap, &pass); */
-static inline uint32_t shardheap_take(shardheap *heap, shardheap_pass *pass) {
+SHARDHEAP_API uint32_t shardheap_take(shardheap *heap, shardheap_pass *pass) {
     if (!heap || !pass) return SHARDHEAP_NULL;
     if (shardheap_overlap(heap, sizeof *heap, pass, sizeof *pass)) return SHARDHEAP_OVERLAP;
     uint32_t code = shardheap_begin_heap(heap);
@@ -486,7 +501,7 @@ static inline uint32_t shardheap_take(shardheap *heap, shardheap_pass *pass) {
 
        shardheap other = SHARDHEAP_INIT;
        code = shardheap_share(&heap, &other);    from now on another thread uses it, and closes it */
-static inline uint32_t shardheap_share(shardheap *heap, shardheap *other) {
+SHARDHEAP_API uint32_t shardheap_share(shardheap *heap, shardheap *other) {
     if (!heap || !other) return SHARDHEAP_NULL;
     if (shardheap_overlap(heap, sizeof *heap, other, sizeof *other)) return SHARDHEAP_OVERLAP;
     uint32_t code = shardheap_begin_heap(heap);
@@ -502,7 +517,7 @@ static inline uint32_t shardheap_share(shardheap *heap, shardheap *other) {
 /* Empties the handle. The heap goes with the last of its handles.
 
        shardheap_close(&heap);    its passes serve on */
-static inline void shardheap_close(shardheap *heap) {
+SHARDHEAP_API void shardheap_close(shardheap *heap) {
     if (shardheap_begin_heap(heap) != SHARDHEAP_OK) return;
     shardheap_raw_close(heap);
     shardheap_settle_heap(heap, SHARDHEAP_OK);
@@ -518,14 +533,14 @@ static inline void shardheap_close(shardheap *heap) {
    AWAY, with each pass at home that was, where one is not, or was lost: nothing is joined then. AWAY, always, of a heap
    that grows; so are the three calls below.
    EMPTY, MEMORY. */
-static inline uint32_t shardheap_gather(shardheap *heap) {
+SHARDHEAP_API uint32_t shardheap_gather(shardheap *heap) {
     uint32_t code = shardheap_begin_heap(heap);
     return code == SHARDHEAP_OK ? shardheap_end(&heap->seal, shardheap_raw_gather(heap)) : code;
 }
 
 /* Counts the slots of a page, which is given by the number of its shard and its number there, both from 0. AWAY if the
    pass that gather left is not at home (a heap of one pass needs no gather), NO_PAGE, EMPTY, OVERLAP. */
-static inline uint32_t shardheap_accounts(shardheap *heap, uint32_t shard, uint32_t page, shardheap_page *told) {
+SHARDHEAP_API uint32_t shardheap_accounts(shardheap *heap, uint32_t shard, uint32_t page, shardheap_page *told) {
     if (!heap || !told) return SHARDHEAP_NULL;
     if (shardheap_overlap(told, sizeof *told, heap, sizeof *heap)) return SHARDHEAP_OVERLAP;
     uint32_t code = shardheap_begin_heap(heap);
@@ -533,7 +548,7 @@ static inline uint32_t shardheap_accounts(shardheap *heap, uint32_t shard, uint3
 }
 
 /* Counts the slots of all pages. AWAY, as above; EMPTY, OVERLAP. */
-static inline uint32_t shardheap_totals(shardheap *heap, shardheap_sums *told) {
+SHARDHEAP_API uint32_t shardheap_totals(shardheap *heap, shardheap_sums *told) {
     if (!heap || !told) return SHARDHEAP_NULL;
     if (shardheap_overlap(told, sizeof *told, heap, sizeof *heap)) return SHARDHEAP_OVERLAP;
     uint32_t code = shardheap_begin_heap(heap);
@@ -547,7 +562,7 @@ static inline uint32_t shardheap_totals(shardheap *heap, shardheap_sums *told) {
 
        uint64_t place = 0;
        while (shardheap_next_key(&heap, &place, &key) == SHARDHEAP_OK) count++; */
-static inline uint32_t shardheap_next_key(shardheap *heap, uint64_t *place, uint64_t *key) {
+SHARDHEAP_API uint32_t shardheap_next_key(shardheap *heap, uint64_t *place, uint64_t *key) {
     if (!heap || !place || !key) return SHARDHEAP_NULL;
     if (shardheap_walk_overlaps(heap, sizeof *heap, place, key)) return SHARDHEAP_OVERLAP;
     uint32_t code = shardheap_begin_heap(heap);
@@ -563,12 +578,12 @@ static inline uint32_t shardheap_next_key(shardheap *heap, uint64_t *place, uint
 
 /* Puts a tag, 0 to 255, at bits 56 to 63 of a key below 2^52. A tagged number is no key: untag it for the calls below.
    BAD_KEY if either is out of its range. */
-static inline uint32_t shardheap_tag(uint64_t key, uint32_t tag, uint64_t *number) {
+SHARDHEAP_API uint32_t shardheap_tag(uint64_t key, uint32_t tag, uint64_t *number) {
     return number ? shardheap_raw_tag(shardheap_bare(key), tag, number) : (uint32_t)SHARDHEAP_NULL;
 }
 
 /* Takes the key and the tag out of a number. BAD_KEY if its bits 52 to 55 are not all zero; OVERLAP. */
-static inline uint32_t shardheap_untag(uint64_t number, uint64_t *key, uint32_t *tag) {
+SHARDHEAP_API uint32_t shardheap_untag(uint64_t number, uint64_t *key, uint32_t *tag) {
     if (!key || !tag) return SHARDHEAP_NULL;
     if (shardheap_overlap(key, sizeof *key, tag, sizeof *tag)) return SHARDHEAP_OVERLAP;
     return shardheap_raw_untag(number, key, tag);
@@ -586,7 +601,7 @@ static inline uint32_t shardheap_untag(uint64_t number, uint64_t *key, uint32_t 
 
        code = shardheap_give(&pass);
        if (code == SHARDHEAP_OWNS) code = shardheap_leave(&pass);    then it may be given */
-static inline uint32_t shardheap_give(shardheap_pass *pass) {
+SHARDHEAP_API uint32_t shardheap_give(shardheap_pass *pass) {
     uint32_t code = shardheap_begin_pass(pass);
     return code == SHARDHEAP_OK ? shardheap_settle_pass(pass, shardheap_raw_give(pass)) : code;
 }
@@ -595,7 +610,7 @@ static inline uint32_t shardheap_give(shardheap_pass *pass) {
    done. EMPTY, OWNS.
 
        code = shardheap_pass_close(&pass); */
-static inline uint32_t shardheap_pass_close(shardheap_pass *pass) {
+SHARDHEAP_API uint32_t shardheap_pass_close(shardheap_pass *pass) {
     uint32_t code = shardheap_begin_pass(pass);
     return code == SHARDHEAP_OK ? shardheap_settle_pass(pass, shardheap_raw_pass_close(pass)) : code;
 }
@@ -604,7 +619,7 @@ static inline uint32_t shardheap_pass_close(shardheap_pass *pass) {
    has no other owner again. No other call loses a pass. EMPTY.
 
        code = shardheap_pass_lose(&pass);    only where it cannot leave its shard */
-static inline uint32_t shardheap_pass_lose(shardheap_pass *pass) {
+SHARDHEAP_API uint32_t shardheap_pass_lose(shardheap_pass *pass) {
     uint32_t code = shardheap_begin_pass(pass);
     return code == SHARDHEAP_OK ? shardheap_settle_pass(pass, shardheap_raw_pass_lose(pass)) : code;
 }
@@ -613,7 +628,7 @@ static inline uint32_t shardheap_pass_lose(shardheap_pass *pass) {
    BAD_KEY, HOLDS_FULL, GONE, CROWDED, EMPTY.
 
        if (shardheap_get(&pass, key) == SHARDHEAP_OK) code = shardheap_release(&pass, key); */
-static inline uint32_t shardheap_get(shardheap_pass *pass, uint64_t key) {
+SHARDHEAP_API uint32_t shardheap_get(shardheap_pass *pass, uint64_t key) {
     uint32_t code = shardheap_begin_key(pass, &key);
     return code == SHARDHEAP_OK ? shardheap_end(&pass->seal, shardheap_raw_get(pass, key)) : code;
 }
@@ -638,7 +653,7 @@ static inline uint32_t shardheap_fill(
    `length`. NOT_HELD, EMPTY, OVERLAP; SHORT, with only the length read. A room of 16 is always enough.
 
        code = shardheap_read(&pass, key, room, 16, &length);    room[0] to room[length - 1] are the value */
-static inline uint32_t shardheap_read(shardheap_pass *pass, uint64_t key, uint64_t *words, size_t room,
+SHARDHEAP_API uint32_t shardheap_read(shardheap_pass *pass, uint64_t key, uint64_t *words, size_t room,
                                       uint64_t *length) {
     return shardheap_fill(shardheap_raw_read, pass, key, words, room, length);
 }
@@ -646,7 +661,7 @@ static inline uint32_t shardheap_read(shardheap_pass *pass, uint64_t key, uint64
 /* Gives one hold on a key back. NOT_HELD, EMPTY.
 
        code = shardheap_release(&pass, key); */
-static inline uint32_t shardheap_release(shardheap_pass *pass, uint64_t key) {
+SHARDHEAP_API uint32_t shardheap_release(shardheap_pass *pass, uint64_t key) {
     uint32_t code = shardheap_begin_key(pass, &key);
     return code == SHARDHEAP_OK ? shardheap_end(&pass->seal, shardheap_raw_release(pass, key)) : code;
 }
@@ -656,7 +671,7 @@ static inline uint32_t shardheap_release(shardheap_pass *pass, uint64_t key) {
 
        code = shardheap_load(&pass, key, room, 16, &length);
        if (code == SHARDHEAP_GONE) length = 0;    another pass removed it */
-static inline uint32_t shardheap_load(shardheap_pass *pass, uint64_t key, uint64_t *words, size_t room,
+SHARDHEAP_API uint32_t shardheap_load(shardheap_pass *pass, uint64_t key, uint64_t *words, size_t room,
                                       uint64_t *length) {
     return shardheap_fill(shardheap_raw_load, pass, key, words, room, length);
 }
@@ -690,13 +705,13 @@ static inline uint32_t shardheap_load_bare(shardheap_pass *pass, shardheap_loade
 /* Loads several keys in one call, in order, and writes beside each what its load returned: the code, and with OK the
    length and the words. A load that is refused stops nothing, and leaves its length and its words as they were. The
    holds are as before. In a heap of a fixed shape the waits for the memory of eight keys overlap: beside a million
-   values a batch takes less time than its loads one by one, and beside a few thousand more. In a heap that grows a batch
-   is its loads, one by one. EMPTY, OVERLAP, with nothing done.
+   values a batch takes less time than its loads one by one, and beside a few thousand more. In a heap that grows a
+   batch is its loads, one by one. EMPTY, OVERLAP, with nothing done.
 
        shardheap_loaded batch[2] = {{key, 0, 0, {0}}, {second, 0, 0, {0}}};
        code = shardheap_load_each(&pass, batch, 2);
        if (code == SHARDHEAP_OK && batch[1].code == SHARDHEAP_OK) length = batch[1].length; */
-static inline uint32_t shardheap_load_each(shardheap_pass *pass, shardheap_loaded *loads, size_t count) {
+SHARDHEAP_API uint32_t shardheap_load_each(shardheap_pass *pass, shardheap_loaded *loads, size_t count) {
     shardheap_loaded none = {0, 0, 0, {0}};
     if (!pass || (!loads && count)) return SHARDHEAP_NULL;
     if (shardheap_overlap(loads, count * sizeof *loads, pass, sizeof *pass)) return SHARDHEAP_OVERLAP;
@@ -708,7 +723,7 @@ static inline uint32_t shardheap_load_each(shardheap_pass *pass, shardheap_loade
 /* Removes a key: no later get finds it, and its value stays until the last hold goes. BAD_KEY, GONE, EMPTY.
 
        code = shardheap_remove(&pass, key); */
-static inline uint32_t shardheap_remove(shardheap_pass *pass, uint64_t key) {
+SHARDHEAP_API uint32_t shardheap_remove(shardheap_pass *pass, uint64_t key) {
     uint32_t code = shardheap_begin_key(pass, &key);
     return code == SHARDHEAP_OK ? shardheap_end(&pass->seal, shardheap_raw_remove(pass, key)) : code;
 }
@@ -719,7 +734,7 @@ static inline uint32_t shardheap_remove(shardheap_pass *pass, uint64_t key) {
 
        code = shardheap_take_value(&pass, key, room, 16, &length);
        if (code == SHARDHEAP_GONE) length = 0;    another pass has the value, or removed it */
-static inline uint32_t shardheap_take_value(shardheap_pass *pass, uint64_t key, uint64_t *words, size_t room,
+SHARDHEAP_API uint32_t shardheap_take_value(shardheap_pass *pass, uint64_t key, uint64_t *words, size_t room,
                                             uint64_t *length) {
     return shardheap_fill(shardheap_raw_take_value, pass, key, words, room, length);
 }
@@ -734,7 +749,7 @@ static inline uint32_t shardheap_take_value(shardheap_pass *pass, uint64_t key, 
    what orders the two. OCCUPIED, EMPTY, MEMORY, OVERLAP.
 
        code = shardheap_receipt_make(&pass, &receipt);    after an insert: it goes with the key */
-static inline uint32_t shardheap_receipt_make(shardheap_pass *pass, shardheap_receipt *receipt) {
+SHARDHEAP_API uint32_t shardheap_receipt_make(shardheap_pass *pass, shardheap_receipt *receipt) {
     if (!pass || !receipt) return SHARDHEAP_NULL;
     if (shardheap_overlap(pass, sizeof *pass, receipt, sizeof *receipt)) return SHARDHEAP_OVERLAP;
     uint32_t code = shardheap_begin_pass(pass);
@@ -753,7 +768,7 @@ static inline uint32_t shardheap_receipt_make(shardheap_pass *pass, shardheap_re
    not opened, so that it is of another growing heap: then its handle is empty too.
 
        code = shardheap_heed(&pass, &receipt);    in the other thread, before it loads the key */
-static inline uint32_t shardheap_heed(shardheap_pass *pass, shardheap_receipt *receipt) {
+SHARDHEAP_API uint32_t shardheap_heed(shardheap_pass *pass, shardheap_receipt *receipt) {
     if (!pass || !receipt) return SHARDHEAP_NULL;
     if (shardheap_overlap(pass, sizeof *pass, receipt, sizeof *receipt)) return SHARDHEAP_OVERLAP;
     uint32_t code = shardheap_begin_pass(pass);
@@ -769,7 +784,7 @@ static inline uint32_t shardheap_heed(shardheap_pass *pass, shardheap_receipt *r
 /* Empties the handle of a receipt that nobody heeds.
 
        shardheap_receipt_close(&receipt); */
-static inline void shardheap_receipt_close(shardheap_receipt *receipt) {
+SHARDHEAP_API void shardheap_receipt_close(shardheap_receipt *receipt) {
     if (shardheap_begin_receipt(receipt) != SHARDHEAP_OK) return;
     shardheap_raw_receipt_close(receipt);
     shardheap_settle_receipt(receipt, SHARDHEAP_OK);
@@ -785,7 +800,7 @@ static inline void shardheap_receipt_close(shardheap_receipt *receipt) {
    has a number, so NO_SHARD always comes there.
 
        code = shardheap_adopt(&pass, 3);    TAKEN, until its owner leaves */
-static inline uint32_t shardheap_adopt(shardheap_pass *pass, uint64_t shard) {
+SHARDHEAP_API uint32_t shardheap_adopt(shardheap_pass *pass, uint64_t shard) {
     uint32_t code = shardheap_begin_pass(pass);
     return code == SHARDHEAP_OK ? shardheap_end(&pass->seal, shardheap_raw_adopt(pass, shard)) : code;
 }
@@ -795,7 +810,7 @@ static inline uint32_t shardheap_adopt(shardheap_pass *pass, uint64_t shard) {
 
        do code = shardheap_leave(&pass);
        while (code == SHARDHEAP_WAITING);    with a pause between, such as sched_yield() */
-static inline uint32_t shardheap_leave(shardheap_pass *pass) {
+SHARDHEAP_API uint32_t shardheap_leave(shardheap_pass *pass) {
     uint32_t code = shardheap_begin_pass(pass);
     return code == SHARDHEAP_OK ? shardheap_end(&pass->seal, shardheap_raw_leave(pass)) : code;
 }
@@ -804,7 +819,7 @@ static inline uint32_t shardheap_leave(shardheap_pass *pass) {
    another length. NO_SHARD, EMPTY.
 
        code = shardheap_collect(&pass); */
-static inline uint32_t shardheap_collect(shardheap_pass *pass) {
+SHARDHEAP_API uint32_t shardheap_collect(shardheap_pass *pass) {
     uint32_t code = shardheap_begin_pass(pass);
     return code == SHARDHEAP_OK ? shardheap_end(&pass->seal, shardheap_raw_collect(pass)) : code;
 }
@@ -822,7 +837,7 @@ static inline uint32_t shardheap_know(uint32_t (*raw)(shardheap_pass *pass, uint
    takes no atomic step. NO_SHARD, EMPTY, OVERLAP.
 
        code = shardheap_pages_left(&pass, &count); */
-static inline uint32_t shardheap_pages_left(shardheap_pass *pass, uint64_t *pages) {
+SHARDHEAP_API uint32_t shardheap_pages_left(shardheap_pass *pass, uint64_t *pages) {
     return shardheap_know(shardheap_raw_pages_left, pass, pages);
 }
 
@@ -831,7 +846,7 @@ static inline uint32_t shardheap_pages_left(shardheap_pass *pass, uint64_t *page
    many values. It takes no atomic step. NO_SHARD, EMPTY, OVERLAP.
 
        code = shardheap_slots_out(&pass, &count); */
-static inline uint32_t shardheap_slots_out(shardheap_pass *pass, uint64_t *slots) {
+SHARDHEAP_API uint32_t shardheap_slots_out(shardheap_pass *pass, uint64_t *slots) {
     return shardheap_know(shardheap_raw_slots_out, pass, slots);
 }
 
@@ -845,7 +860,7 @@ static inline uint32_t shardheap_slots_out(shardheap_pass *pass, uint64_t *slots
 
        uint64_t next = 0;
        while (shardheap_next_own_key(&pass, &next, &key) == SHARDHEAP_OK) count++; */
-static inline uint32_t shardheap_next_own_key(shardheap_pass *pass, uint64_t *place, uint64_t *key) {
+SHARDHEAP_API uint32_t shardheap_next_own_key(shardheap_pass *pass, uint64_t *place, uint64_t *key) {
     if (!pass || !place || !key) return SHARDHEAP_NULL;
     if (shardheap_walk_overlaps(pass, sizeof *pass, place, key)) return SHARDHEAP_OVERLAP;
     uint32_t code = shardheap_begin_pass(pass);
@@ -859,7 +874,7 @@ static inline uint32_t shardheap_next_own_key(shardheap_pass *pass, uint64_t *pl
    FULL, MEMORY, EMPTY, OVERLAP.
 
        code = shardheap_prepare(&pass, 2, &page);    the next inserts of 2 words need not look for a page */
-static inline uint32_t shardheap_prepare(shardheap_pass *pass, uint32_t words, uint32_t *page) {
+SHARDHEAP_API uint32_t shardheap_prepare(shardheap_pass *pass, uint32_t words, uint32_t *page) {
     if (!pass || !page) return SHARDHEAP_NULL;
     if (shardheap_overlap(page, sizeof *page, pass, sizeof *pass)) return SHARDHEAP_OVERLAP;
     uint32_t code = shardheap_begin_pass(pass);
@@ -872,7 +887,7 @@ static inline uint32_t shardheap_prepare(shardheap_pass *pass, uint32_t words, u
 
        code = shardheap_insert_once(&pass, words, 2, &key);
        if (code == SHARDHEAP_FULL) code = shardheap_collect(&pass);    then try again, or not */
-static inline uint32_t shardheap_insert_once(shardheap_pass *pass, const uint64_t *words, size_t count, uint64_t *key) {
+SHARDHEAP_API uint32_t shardheap_insert_once(shardheap_pass *pass, const uint64_t *words, size_t count, uint64_t *key) {
     uint64_t none = 0;
     if (!pass || !key || (!words && count)) return SHARDHEAP_NULL;
     if (shardheap_overlap(words, count * sizeof *words, key, sizeof *key) ||
@@ -890,7 +905,7 @@ static inline uint32_t shardheap_insert_once(shardheap_pass *pass, const uint64_
    OVERLAP.
 
        code = shardheap_insert(&pass, words, 2, &key);    the value is words[0] and words[1] */
-static inline uint32_t shardheap_insert(shardheap_pass *pass, const uint64_t *words, size_t count, uint64_t *key) {
+SHARDHEAP_API uint32_t shardheap_insert(shardheap_pass *pass, const uint64_t *words, size_t count, uint64_t *key) {
     uint32_t code = shardheap_insert_once(pass, words, count, key);
     if (code != SHARDHEAP_FULL || shardheap_collect(pass) != SHARDHEAP_OK) return code;
     return shardheap_insert_once(pass, words, count, key);

@@ -7,8 +7,8 @@
 #include <stddef.h>
 #include <stdlib.h>
 
-/* What a request returns: whether there is memory, and its address. A refused one returns a pointer that is not null, to
-   memory that nobody reads or writes. */
+/* What a request returns: whether there is memory, and its address. A refused one returns a pointer that is not null,
+   to memory that nobody reads or writes. */
 struct shardheap_tried {
     bool ok;
     void *at;

@@ -1,12 +1,15 @@
 """The two forms of the library that a package has, of one archive: libshardheap.a and libshardheap.so.
 
-Both have the memory functions of library/src/memory.c inside. Both show the calls shardheap_raw_.. that the header
-declares and nothing else, so that no name of theirs meets one of the program.
+Both have the memory functions of library/src/memory.c inside, and the header's calls by library/src/checked_calls.c.
+Both show these calls and those named shardheap_raw_.. and nothing else, so that no name of theirs meets one of the
+program.
 """
 import pathlib
 import re
 import subprocess
 import sys
+
+import abi
 
 TOP = pathlib.Path(__file__).resolve().parent.parent.parent
 MAP = TOP / "library/shardheap.map"
@@ -20,9 +23,8 @@ def ran(*words):
 
 
 def declared():
-    """The calls that the header declares."""
-    header = (TOP / "library/include/shardheap.h").read_text()
-    return set(re.findall(r"^\w+ (shardheap_raw_\w+)\(", header, re.M))
+    """The calls that the header declares, and those that it has with checks."""
+    return {abi.name_of(it) for it in abi.calls(TOP / "library/include/shardheap.h")}
 
 
 def shown(file, *words):
@@ -45,13 +47,15 @@ def take_nothing_else(compiled):
 
 
 def static(archive, made, room):
-    """Makes libshardheap.a: one relocatable object of the archive and the memory functions."""
-    memory, whole, compiled, names = (room / it for it in ("memory.o", "whole.o", "shardheap.o", "names"))
-    how = ["-std=c11", *WARNINGS, "-O2", "-march=x86-64", "-fPIC"]
-    ran("gcc", *how, "-c", TOP / "library/src/memory.c", "-o", memory)
-    ran("ld", "-r", "--whole-archive", archive, "--no-whole-archive", memory, "-o", whole)
+    """Makes libshardheap.a: one relocatable object of the archive, the memory functions and the checked calls."""
+    whole, compiled, names = (room / it for it in ("whole.o", "shardheap.o", "names"))
+    how = ["-std=c11", *WARNINGS, "-O2", "-march=x86-64", "-fPIC", "-I", TOP / "library/include"]
+    ours = {TOP / f"library/src/{it}.c": room / f"{it}.o" for it in ("memory", "checked_calls")}
+    for source, made_of_it in ours.items():
+        ran("gcc", *how, "-c", source, "-o", made_of_it)
+    ran("ld", "-r", "--whole-archive", archive, "--no-whole-archive", *ours.values(), "-o", whole)
     names.write_text("\n".join(sorted(declared())))
-    ran("objcopy", f"--keep-global-symbols={names}", "--strip-debug", whole, compiled)
+    ran("objcopy", f"--keep-global-symbols={names}", "--strip-debug", "--remove-section=.comment", whole, compiled)
     take_nothing_else(compiled)
     made.unlink(missing_ok=True)
     ran("ar", "rcsD", made, compiled)
@@ -63,7 +67,7 @@ def shared(archive, made, name):
     how = [f"-Wl,-soname,{name}", f"-Wl,--version-script={MAP}", "-Wl,--no-undefined", "-Wl,--build-id=sha1"]
     how += ["-Wl,-z,relro", "-Wl,-z,now", "-Wl,-z,noexecstack"]
     ran("gcc", "-shared", *how, "-Wl,--whole-archive", archive, "-Wl,--no-whole-archive", "-o", made)
-    ran("strip", "--strip-unneeded", made)
+    ran("strip", "--strip-unneeded", "--remove-section=.comment", made)
     made.chmod(0o644)
     compare(made, shown(made, "-D"), declared())
 

@@ -1,0 +1,71 @@
+"""What programs that were linked with the library rely on: as the header has it, and as library/abi.txt stores it."""
+import pathlib
+import re
+import subprocess
+import tempfile
+
+TOP = pathlib.Path(__file__).resolve().parent.parent.parent
+STORED = TOP / "library/abi.txt"
+STRUCT = re.compile(r"^typedef struct (\w+) \{\n(.*?)^\} \1;", re.M | re.S)
+FIELD = re.compile(r"^ +(?:const )?\w+ \*?(\w+)(?:\[\d+\])?;", re.M)
+NUMBER = re.compile(r"^ +(SHARDHEAP_\w+) = \d+", re.M)
+CALL = re.compile(r"^(?:SHARDHEAP_API )?((?:const char \*|\w+ )shardheap_\w+\([^)]*\))(?:;| \{$)", re.M)
+
+
+def version():
+    """The version of the Rust crate, which is that of all."""
+    return re.search(r'(?m)^version = "(.*)"$', (TOP / "library/rust/Cargo.toml").read_text())[1]
+
+
+def calls(header):
+    """The calls that the library exports, each in one line with the types of what it returns and takes."""
+    found = [" ".join(it.split()) for it in CALL.findall(header.read_text())]
+    return [re.sub(r" ?\b\w+(?=[,)])", "", it) if not it.endswith("(void)") else it for it in found]
+
+
+def name_of(call):
+    return re.search(r"(shardheap_\w+)\(", call)[1]
+
+
+def asked(header):
+    """A program that prints the sizes, offsets and numbers."""
+    text, prints = header.read_text(), []
+    for struct, body in STRUCT.findall(text):
+        prints.append(f'printf("size {struct} %zu, aligned to %zu\\n", sizeof({struct}), _Alignof({struct}));')
+        for field in FIELD.findall(body):
+            prints.append(f'printf("offset {struct}.{field} %zu, size %zu\\n", offsetof({struct}, {field}), '
+                          f"sizeof((({struct} *)0)->{field}));")
+    prints += [f'printf("number {it} %d\\n", (int){it});' for it in NUMBER.findall(text)]
+    return "\n".join([f'#include "{header}"', "#include <stdio.h>", "int main(void) {", *prints, "}\n"])
+
+
+def measured(header):
+    """The lines of the header, in its order. A call has no version."""
+    with tempfile.TemporaryDirectory(prefix="abi-") as room:
+        program = pathlib.Path(room) / "asked"
+        subprocess.run(["gcc", "-std=c11", "-w", "-x", "c", "-", "-o", program], input=asked(header), text=True,
+                       check=True)
+        printed = subprocess.run([program], check=True, capture_output=True, text=True).stdout
+    return printed.splitlines() + [f"call {it}" for it in calls(header)]
+
+
+def lines():
+    """The lines that are stored, without comments."""
+    return [it for it in STORED.read_text().splitlines() if it and not it.startswith("#")] if STORED.exists() else []
+
+
+def stored():
+    """The lines that are stored, as `measured` has them: without versions."""
+    return [re.sub(r"^call (.*), since [\d.]+$", r"call \1", it) for it in lines()]
+
+
+def since():
+    """The exported names, each with its first version."""
+    found = [re.match(r"call (.*), since ([\d.]+)$", it) for it in lines()]
+    return {name_of(it[1]): it[2] for it in found if it}
+
+
+def add(new):
+    """Adds lines that the header has."""
+    with open(STORED, "a", encoding="utf-8") as file:
+        file.writelines(f"{it}, since {version()}\n" if it.startswith("call ") else f"{it}\n" for it in new)
