@@ -52,6 +52,13 @@
 #ifndef SHARDHEAP_HPP
 #define SHARDHEAP_HPP
 
+#if !defined(__x86_64__) || defined(__ILP32__) || !defined(__linux__)
+#error "shardheap supports x86-64 Linux alone"
+#endif
+#if __cplusplus < 201703L
+#error "shardheap.hpp needs C++17"
+#endif
+
 #include "gearlongan/errors.hpp"
 #include "gearlongan/growing.hpp"
 #include "gearlongan/guards.hpp"

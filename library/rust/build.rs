@@ -4,10 +4,11 @@
 //!    names. A folder without any of them is an error.
 //! 2. `crates/c_exports/out/libc_exports.a` of the repository that this crate is in.
 //! 3. The installed library that pkg-config finds under the name `shardheap`, in the minor version of this crate.
+//! 4. `lib/libshardheap.a` of this crate, which a packaged one has.
 //!
 //! The static library is linked, or the shared one if `SHARDHEAP_SHARED` is set. If nothing is found, the build goes on
 //! with a warning: `cargo check` and `cargo doc` need no library. The linker then searches its own folders for
-//! `-lshardheap`, and refuses a program if it is not there.
+//! `-lshardheap`, and refuses a program if it is not there. Another target than x86-64 Linux is an error.
 use std::env;
 use std::path::{Path, PathBuf};
 use std::process::Command;
@@ -71,7 +72,18 @@ fn installed() -> Option<PathBuf> {
     answer("--variable=libdir").map(PathBuf::from)
 }
 
+/// Stops for a target that the library is not made for.
+fn refuse_other_targets() {
+    let [arch, os, width] = ["ARCH", "OS", "POINTER_WIDTH"]
+        .map(|name| env::var(format!("CARGO_CFG_TARGET_{name}")).expect("cargo sets it"));
+    assert!(
+        arch == "x86_64" && os == "linux" && width == "64",
+        "gearlongan supports x86-64 Linux alone, and this target is {arch} {os} with pointers of {width} bits"
+    );
+}
+
 fn main() {
+    refuse_other_targets();
     for name in ["SHARDHEAP_LIB_DIR", "SHARDHEAP_SHARED", "PKG_CONFIG", "PKG_CONFIG_PATH"] {
         println!("cargo:rerun-if-env-changed={name}");
     }
@@ -84,8 +96,10 @@ fn main() {
         );
         return;
     }
-    let found = link_from(&own.join("../../crates/c_exports/out"), &own);
-    if !found && !installed().is_some_and(|folder| link_from(&folder, &own)) {
+    let found = link_from(&own.join("../../crates/c_exports/out"), &own)
+        || installed().is_some_and(|folder| link_from(&folder, &own))
+        || link_from(&own.join("lib"), &own);
+    if !found {
         println!("cargo:warning=there is no libshardheap: install it, or name its folder in SHARDHEAP_LIB_DIR");
         println!("cargo:rustc-link-lib=dylib=shardheap");
     }

@@ -33,8 +33,8 @@
 //! # Linking
 //!
 //! The crate needs Rust 1.79, x86-64 Linux, and the library `libshardheap`. The build script takes the library from the
-//! folder that `SHARDHEAP_LIB_DIR` names, from the repository of this crate, or from where pkg-config finds it. With
-//! `SHARDHEAP_SHARED` set it links the shared library.
+//! folder that `SHARDHEAP_LIB_DIR` names, from the repository of this crate, or from where pkg-config finds it. A crate
+//! that was packaged has one inside, which comes last. With `SHARDHEAP_SHARED` set the shared library is linked.
 //!
 //! # Recording
 //!
@@ -87,6 +87,9 @@
 //! ```
 #![forbid(unsafe_op_in_unsafe_fn)]
 #![deny(missing_docs)]
+
+#[cfg(not(all(target_arch = "x86_64", target_os = "linux", target_pointer_width = "64")))]
+compile_error!("gearlongan supports x86-64 Linux alone");
 
 mod accounts;
 mod error;

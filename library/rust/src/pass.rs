@@ -104,8 +104,9 @@ impl Pass {
     /// Loads several keys, in order: `results[i]` becomes what a [`load`](Pass::load) of `keys[i]` returns. A load that
     /// is refused stops nothing. If one of the slices is longer, the rest of it is left alone.
     ///
-    /// In a heap of a fixed shape the waits for the memory of eight keys overlap. Whether a batch is faster than its loads one by one depends on the
-    /// processor. Beside a few thousand values, which its caches have, a batch is slower.
+    /// In a heap of a fixed shape the waits for the memory of eight keys overlap. Whether a batch is faster than its
+    /// loads one by one depends on the processor. Beside a few thousand values, which its caches have, a batch is
+    /// slower.
     ///
     /// ```
     /// # use gearlongan::{Error, Heap, Layout, Shape, Value};
