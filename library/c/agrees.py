@@ -4,9 +4,9 @@
 usage: library/c/agrees.py [ARCHIVE]
 
 It compares each export of crates/c_exports with its declaration in the header, parameter by parameter; the records that
-the library writes; each code with its number; and the version of the Rust crate with that of the header, of each
-program, of the packages that documents name, and of the newest entry of CHANGELOG.md. With an archive it also looks
-whether the archive exports what the header declares, and nothing beside it.
+the library writes; each code with its number, in the module of Python too; and the version of the Rust crate with that
+of the header, of each program, of the packages that documents name, and of the newest entry of CHANGELOG.md. With an
+archive it also looks whether the archive exports what the header declares, and nothing beside it.
 """
 import pathlib
 import re
@@ -16,6 +16,7 @@ import sys
 TOP = pathlib.Path(__file__).resolve().parent.parent.parent
 HEADER = (TOP / 'library/include/shardheap.h').read_text(encoding='utf-8')
 SOURCES = '\n'.join(it.read_text(encoding='utf-8') for it in sorted((TOP / 'crates/c_exports/src').glob('*.rt')))
+PYTHON = (TOP / 'library/python/shardheap.py').read_text(encoding='utf-8')
 REFUSALS = (TOP / 'crates/sh_value/src/refusal.rt').read_text(encoding='utf-8')
 
 # What C has for a parameter of the library. The allocator has no size, so that C passes none.
@@ -36,7 +37,7 @@ FIELDS = {'u32': '32 bits', 'u64': '64 bits', '[u64; WORDS_MAX]': '64 bits, 16 t
 # Where the version is, by how it is written there.
 VERSIONED = {
     r'\.version\("(.*)"\)': ['crates/*/src/**/*.rt'],
-    r'\b(?:gearlongan|\w*shardheap[\w-]*)[-_](\d+\.\d+\.\d+)': ['README.md', 'library/README.md'],
+    r'\b(?:gearlongan|\w*shardheap[\w*-]*)[-_](\d+\.\d+\.\d+)': ['README.md', 'library/README.md'],
     r'(?s)\A.*?^## ([\d.]+)': ['CHANGELOG.md'],
     r'^version = "(.*)"$': ['bench/Cargo.toml', 'bench/*/Cargo.toml'],
 }
@@ -103,6 +104,9 @@ def differences():
     for name, number in numbered().items():
         if of_header.get(name) != number:
             yield f'{name} is {number} in the library and {of_header.get(name)} in the header'
+    of_python = {name: int(number) for name, number in re.findall(r'^    ([A-Z_]+) = (\d+)$', PYTHON, re.M)}
+    for name in sorted({name for name, _ in of_header.items() ^ of_python.items()}):
+        yield f'{name} is {of_header.get(name)} in the header and {of_python.get(name)} in Python'
     crate = re.search(r'^version = "(.*)"$', (TOP / 'library/rust/Cargo.toml').read_text(), re.M)[1]
     for place, version in versions():
         if version != (crate if place != 'the header' else crate.rpartition('.')[0] + '.0'):

@@ -138,9 +138,11 @@ readme() {
 
 # Whether some test wants each code of each call, and whether the header agrees with the library.
 texts() {
-  echo "== the header's codes, and whether it agrees with the library"
+  echo "== the header's codes, and whether it agrees with the library and with what programs were linked with"
   python3 library/c/codes.py
   python3 library/c/agrees.py "$archive"
+  scripts/abi-checks --self-test
+  scripts/abi-checks
 }
 
 # unpacked FOLDER: makes the packages of the archive, and unpacks the tarball there.
@@ -151,8 +153,16 @@ unpacked() {
   tar -xzf "$out"/packages/shardheap-*.tar.gz -C "$1" --strip-components=1
 }
 
+# in_python FOLDER: the tests of the module of Python, and the example of library/README.md, over the shared library in
+# the folder.
+in_python() {
+  local python=(env "LD_LIBRARY_PATH=$1" PYTHONPATH=library/python timeout "$limit" python3 -B)
+  "${python[@]}" -m unittest -q test_shardheap
+  sed -n '/^```python$/,/^```$/{/^```/!p}' library/README.md | "${python[@]}" -
+}
+
 # The package: it is made, which fails if a library shows another call than the header declares, and a program runs with
-# each of its libraries.
+# each of its libraries, and the module of Python with the shared one.
 packaged() {
   echo "== the package"
   unpacked "$out/prefix"
@@ -163,4 +173,5 @@ packaged() {
   under=(env "LD_LIBRARY_PATH=$out/prefix/lib")
   run shared
   under=()
+  in_python "$out/prefix/lib"
 }
