@@ -1,7 +1,8 @@
 """The licences of a package: ours, and those of the toolchain's crates that the archive is built over.
 
 A crate counts if a crate below c_exports names it in crates.txt, or another such crate of the toolchain uses it. What
-of it is in the machine code cannot be seen, since functions are merged into their callers. So all of them are named.
+of it is in the machine code cannot be seen, since functions are merged into their callers. So all of them are named,
+and `compare` looks whether the archive shows a function of another one.
 """
 import pathlib
 import re
@@ -9,7 +10,11 @@ import shutil
 import subprocess
 import sys
 
+import record
+
 TOP = pathlib.Path(__file__).resolve().parent.parent.parent
+# What a machine has of its own in Debian, so that packages need not repeat it.
+COMMON = "/usr/share/common-licenses/Apache-2.0"
 
 
 def toolchain():
@@ -39,14 +44,57 @@ def used(kit):
     return sorted(found - ours.keys())
 
 
-def copy(folder):
-    """Copies the licences into the folder. Returns the toolchain's crates that have one, and those without."""
-    kit = toolchain()
-    for file in sorted(TOP.glob("LICENSE-*")):
-        shutil.copy(file, folder)
-    crates = {name: sorted((kit / "rattle" / name).glob("LICENSE*")) for name in used(kit)}
-    for name, files in crates.items():
-        for file in files:
-            (folder / "toolchain" / name).mkdir(parents=True, exist_ok=True)
-            shutil.copy(file, folder / "toolchain" / name)
-    return [it for it in crates if crates[it]], [it for it in crates if not crates[it]]
+def shown(archive):
+    """The crates whose functions an archive shows: those of its symbols, and those that its record has of the module
+    that it was compiled from."""
+    symbols = subprocess.run(["nm", archive], capture_output=True, text=True, check=True).stdout
+    of_module = record.read(archive).get("crates", "").split()
+    return {*re.findall(r"(?m)^\w+ \w (\w+)::", symbols), *re.findall(r"::(\w+)\+\+", symbols), *of_module}
+
+
+def compare(archive):
+    """Stops if the archive has code of a crate that the copyright would not name."""
+    more = shown(archive) - set(used(toolchain())) - listed().keys()
+    if more:
+        sys.exit(f"package: the archive has code of {', '.join(sorted(more))}, which its copyright would not name")
+
+
+def paragraph(text):
+    """A text as debian/copyright has one: each line behind a blank, and an empty one as a dot."""
+    return "".join(f" {it.rstrip() or '.'}\n" for it in text.strip("\n").splitlines())
+
+
+def holders(text):
+    found = re.findall(r"(?m)^\s*Copyright (?:\(c\) )?(?!\[)(.*\d{4}.*?)\s*$", text)
+    return "; ".join(found) or "its authors, whom its licence does not name"
+
+
+def short_name(file):
+    """A name for a licence text: that of its kind."""
+    text = file.read_text()
+    return "Apache-2.0" if "Apache License" in text[:400] else f"MIT-{file.parent.name}"
+
+
+def of_crate(name, kit, texts):
+    """The paragraph of a toolchain's crate with licences, whose texts are added to `texts`."""
+    files = sorted((kit / "rattle" / name).glob("LICENSE*"))
+    mine = {short_name(it): it.read_text() for it in files}
+    texts |= {it: text for it, text in mine.items() if it not in texts}
+    whose = holders("\n".join(text for it, text in mine.items() if it != "Apache-2.0"))
+    return f"Files: toolchain/{name}/*\nCopyright: {whose}\nLicense: {' or '.join(sorted(mine))}\n"
+
+
+def copyright(debian):
+    """The file copyright: our licences, and the crates of the toolchain with the licence that each comes with. In
+    Debian a text that every machine has is named alone."""
+    kit, template = toolchain(), (TOP / "scripts/packaging/copyright.in").read_text()
+    licensed = [it for it in used(kit) if list((kit / "rattle" / it).glob("LICENSE*"))]
+    without = [it for it in used(kit) if it not in licensed]
+    texts = {"MIT": (TOP / "LICENSE-MIT").read_text(), "Apache-2.0": (TOP / "LICENSE-APACHE").read_text()}
+    crates = "\n".join(of_crate(it, kit, texts) for it in licensed)
+    if debian:
+        texts["Apache-2.0"] = f"The text is in {COMMON}."
+    bodies = "\n".join(f"License: {it}\n{paragraph(text)}" for it, text in texts.items())
+    values = {"KIT": record.said("rt", "version").split()[0], "CRATES": crates.strip("\n"), "TEXTS": bodies.strip("\n")}
+    values |= {"WITHOUT": "\n ".join(f"toolchain/{it}/*" for it in without)}
+    return re.sub(r"@([A-Z]+)@", lambda it: values[it[1]], template)

@@ -1,39 +1,16 @@
 """Lays a package out below a prefix: the header, both libraries, what finds them, the Rust crates and the documents."""
-import json
-import pathlib
-import re
 import shutil
 
 import binary
+import crates
 import licences
 import record
+from common import SONAME, TEMPLATES, TOP, filled, version
 
-TOP = pathlib.Path(__file__).resolve().parent.parent.parent
-TEMPLATES = TOP / "scripts/packaging"
-SONAME = "libshardheap.so.0"
 DOCUMENTS = "share/doc/libshardheap-dev"
 # The programs in C that a user may copy. Those in Rust are in the crate.
 EXAMPLES = ["session.c", "growing_table.c"]
-REGISTRY = "share/cargo/registry"
-BY_PATH = "share/shardheap/rust"
-
-
-def version():
-    """The version of the Rust crate, which library/c/agrees.py compares with the header's."""
-    return re.search(r'(?m)^version = "(.*)"$', (TOP / "library/rust/Cargo.toml").read_text())[1]
-
-
-def status(made):
-    """One sentence on what is proved."""
-    if made["proved"] == "yes":
-        return "The exported calls of this build are proved."
-    return "This build is NOT PROVED: it is for trials alone."
-
-
-def filled(template, values):
-    """The text of a template with each @NAME@ replaced."""
-    text = re.sub(r"@([A-Z]+)@", lambda it: values[it[1]], template.read_text())
-    return re.sub(r"(?m)[ ]+$", "", text)
+PYTHON = "share/shardheap/python"
 
 
 def libraries(archive, folder, room):
@@ -50,14 +27,11 @@ def libraries(archive, folder, room):
 
 
 def headers(folder):
-    """The header, and that of C++ with the headers that it includes, if it is there."""
+    """The header, and that of C++ with the headers that it includes."""
     folder.mkdir()
     for file in (TOP / "library/include/shardheap.h", TOP / "library/cpp/shardheap.hpp"):
-        if file.is_file():
-            shutil.copy(file, folder)
-    parts = TOP / "library/cpp/gearlongan"
-    if parts.is_dir():
-        shutil.copytree(parts, folder / "gearlongan")
+        shutil.copy(file, folder)
+    shutil.copytree(TOP / "library/cpp/gearlongan", folder / "gearlongan")
 
 
 def finders(prefix, lib, values, at):
@@ -72,66 +46,38 @@ def finders(prefix, lib, values, at):
         (cmake / name).write_text(filled(TEMPLATES / f"{name}.in", values))
 
 
-def crate(source, folder, parts):
-    folder.mkdir(parents=True)
-    for part in parts:
-        copy = shutil.copytree if (source / part).is_dir() else shutil.copy
-        copy(source / part, folder / part)
-    for file in TOP.glob("LICENSE-*"):
-        shutil.copy(file, folder)
-
-
-def crates(prefix):
-    """The crate gearlongan in the registry, and both crates by path.
-
-    sharded-slab has the name and version of the original. So it is not in the registry, where that may be."""
-    name = f"gearlongan-{version()}"
-    crate(TOP / "library/rust", prefix / REGISTRY / name, ["src", "examples", "Cargo.toml", "README.md", "build.rs"])
-    (prefix / REGISTRY / name / ".cargo-checksum.json").write_text(json.dumps({"files": {}}) + "\n")
-    by_path = prefix / BY_PATH
-    crate(TOP / "library/sharded-slab", by_path / "sharded-slab", ["src", "Cargo.toml"])
-    (by_path / "gearlongan").symlink_to(f"../../cargo/registry/{name}")
-    manifest = by_path / "sharded-slab/Cargo.toml"
-    text = manifest.read_text()
-    assert 'path = "../rust"' in text
-    manifest.write_text(text.replace('path = "../rust"', 'path = "../gearlongan"'))
-
-
-def build(archive, made, prefix, lib):
-    """How the package was made: the archive, its record, and the sums of what is in the package."""
+def build(archive, built):
+    """How the package was made: the archive, its record, and the sums of both libraries."""
+    made = record.read(archive)
     lines = {"version": version(), **made, "sha256 of libc_exports.a": made["sha256"], "package": record.commit(".")}
-    lines.pop("sha256")
+    del lines["sha256"]
     lines.setdefault("tests", "none is recorded")
-    lines["compiler of the memory functions"] = record.said("gcc", "--version").splitlines()[0]
+    lines["compiler of memory.c and checked_calls.c"] = record.said("gcc", "--version").splitlines()[0]
     for name in ("libshardheap.a", "libshardheap.so"):
-        lines[f"sha256 of {name}"] = record.sha256(prefix / lib / name)
+        lines[f"sha256 of {name}"] = record.sha256(built / name)
     return record.written(lines)
 
 
-def documents(archive, made, prefix, lib, values):
+def documents(archive, prefix, lib, values, debian):
     folder = prefix / DOCUMENTS
     folder.mkdir(parents=True)
-    licensed, without = licences.copy(folder)
-    values = {**values, "KIT": record.said("rt", "version").split()[0]}
-    values |= {"WITH": ", ".join(licensed), "WITHOUT": ", ".join(without)}
-    shutil.copy(TOP / "CHANGELOG.md", folder)
+    for file in [*TOP.glob("LICENSE-*"), TOP / "CHANGELOG.md"]:
+        shutil.copy(file, folder)
     (folder / "examples").mkdir()
     for name in EXAMPLES:
         shutil.copy(TOP / "library/c" / name, folder / "examples")
-    (folder / "copyright").write_text(filled(TEMPLATES / "copyright.in", values))
+    (folder / "copyright").write_text(licences.copyright(debian))
     (folder / "README").write_text(filled(TEMPLATES / "README.in", values))
-    (folder / "BUILD").write_text(build(archive, made, prefix, lib))
+    (folder / "BUILD").write_text(build(archive, prefix / lib))
 
 
-def fill(archive, prefix, lib, room, at=""):
+def fill(archive, prefix, lib, room, values, at=""):
     """Fills an empty prefix, whose libraries are in the folder lib below it. `at` is where it is installed, or nothing
     if it may be moved."""
-    made = record.read(archive)
-    values = {"VERSION": version(), "MINOR": version().rpartition(".")[0], "SHARED": f"libshardheap.so.{version()}"}
-    values |= {"SONAME": SONAME, "PROVED": made["proved"], "STATUS": status(made)}
     libraries(archive, prefix / lib, room)
     headers(prefix / "include")
     finders(prefix, lib, values, at)
-    crates(prefix)
-    documents(archive, made, prefix, lib, values)
-    return values
+    crates.below(prefix)
+    (prefix / PYTHON).mkdir(parents=True)
+    shutil.copy(TOP / "library/python/shardheap.py", prefix / PYTHON)
+    documents(archive, prefix, lib, values, debian=bool(at))

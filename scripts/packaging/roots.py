@@ -11,8 +11,11 @@ import tarfile
 
 SUITE, MIRROR = "bookworm", "http://deb.debian.org/debian"
 # rustc-web is the newer of the two compilers of Debian 12: the crate asks for more than rustc 1.63.
-WANTED = ["gcc", "g++", "make", "cmake", "pkg-config", "cargo-web", "rustc-web"]
-NAME = "libshardheap-dev"
+# lintian needs perl-openssl-defaults, under a name that debootstrap does not know.
+WANTED = ["gcc", "g++", "make", "cmake", "meson", "pkg-config", "python3", "cargo-web", "rustc-web", "lintian",
+          "perl-openssl-defaults"]
+# In the order in which they are installed.
+NAMES = ["libshardheap0", "libshardheap-dev", "librust-gearlongan-dev"]
 
 
 def missing():
@@ -56,7 +59,7 @@ class Root:
 
 
 class Debian(Root):
-    """A bare root of Debian, in which the .deb is installed."""
+    """A bare root of Debian, in which each .deb is installed."""
 
     is_debian = True
 
@@ -81,8 +84,10 @@ class Debian(Root):
 
     def install(self):
         # A fault may have left a file that dpkg does not know.
-        clean = f"dpkg --purge {NAME} > /dev/null 2>&1 || true\nrm -rf /usr/share/doc/{NAME}"
-        found, said = self.run(f"{clean}\ndpkg -i $PACKAGES/*.deb")
+        documents = " ".join(f"/usr/share/doc/{it}" for it in NAMES)
+        clean = f"dpkg --purge {' '.join(reversed(NAMES))} > /dev/null 2>&1 || true\nrm -rf {documents}"
+        installs = "\n".join(f"dpkg -i $PACKAGES/{it}_*.deb" for it in NAMES)
+        found, said = self.run(f"{clean}\n{installs}")
         if not found:
             raise SystemExit(f"package-checks: the package cannot be installed\n{said}")
 
