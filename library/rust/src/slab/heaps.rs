@@ -63,8 +63,8 @@ fn step_below(segments: u64) -> (u32, u32) {
 /// The shards and segments of a heap that is opened when those before have this many segments and shards.
 ///
 /// A small slab doubles. Later each heap is less than half as large as all before, so that less memory waits for
-/// values. It is larger than the heap before, so that glibc maps its memory. A heap opens by way of a copy, whose memory
-/// goes back at once then.
+/// values. It is larger than the heap before, so that glibc maps its memory. A heap opens by way of a copy, whose
+/// memory goes back at once then.
 fn shape(need: Need, segments: u64, shards: u32) -> (u32, u32) {
     match need {
         Need::Shards => (if shards < 16 { 16 } else { 64 }, 1),

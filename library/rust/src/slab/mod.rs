@@ -31,8 +31,8 @@
 //! # Memory
 //!
 //! A new slab takes less than 128 KiB, and it grows without a fixed capacity. Its heaps and nodes stay until it is
-//! dropped. Then they are freed, also if threads that used the slab go on. With glibc on Linux the memory also goes back
-//! to the system if the nodes had a mebibyte or more: by `malloc_trim`, which returns what else is free too.
+//! dropped. Then they are freed, also if threads that used the slab go on. With glibc on Linux the memory also goes
+//! back to the system if the nodes had a mebibyte or more: by `malloc_trim`, which returns what else is free too.
 mod chunk;
 mod clear;
 mod config;

@@ -1,7 +1,7 @@
 //! Where the nodes of a slab are: one for each slot of the heaps' pages, found by the place that a key names.
 //!
-//! Nodes are allocated in blocks, each for some pages of a shard: when the first key of any of them is issued. They stay
-//! until the slab is dropped.
+//! Nodes are allocated in blocks, each for some pages of a shard: when the first key of any of them is issued. They
+//! stay until the slab is dropped.
 use super::node::Node;
 use super::number::{self, MOST_HEAPS, MOST_SHARDS, SLOTS};
 use super::system;
@@ -14,8 +14,8 @@ use std::sync::atomic::{AtomicPtr, AtomicUsize};
 
 type Page<T> = [Node<T>; SLOTS];
 
-/// The bytes of a block, at most, if it has more than one page. In larger ones a slab of few values would have much that
-/// it does not use. Smaller ones would leave less whole pages of the system as they are freed.
+/// The bytes of a block, at most, if it has more than one page. In larger ones a slab of few values would have much
+/// that it does not use. Smaller ones would leave fewer whole pages of the system as they are freed.
 const BLOCK: usize = 64 << 10;
 
 /// A slab that frees as many bytes of nodes returns its memory to the system.
