@@ -238,6 +238,53 @@ static void uses_its_chunks_again(void) {
     shardheap_close(&heap);
 }
 
+/* A collect reaches each chunk in which the pass owns a shard: where others freed all, values of another length fit. */
+static void collects_in_each_chunk(void) {
+    static uint64_t keys[3 * CHUNK];
+    shardheap heap = SHARDHEAP_INIT;
+    shardheap_pass one = SHARDHEAP_INIT, two = SHARDHEAP_INIT;
+    uint64_t key = 0;
+    IS(shardheap_open_growing(&heap, 1, CHUNK, 1, 2, 3), SHARDHEAP_OK);
+    IS(shardheap_take(&heap, &one), SHARDHEAP_OK);
+    IS(shardheap_take(&heap, &two), SHARDHEAP_OK);
+    for (uint64_t n = 0; n < 3 * CHUNK; n++) keys[n] = fills(&one, n, 1);
+    for (uint64_t n = 0; n < 2 * CHUNK; n++) IS(shardheap_remove(&two, keys[n]), SHARDHEAP_OK);
+    IS(shardheap_collect(&one), SHARDHEAP_OK);
+    /* chunks 0 and 1 have 8 pages of 3 slots each */
+    for (uint64_t n = 0; n < 48; n++) {
+        IS(shardheap_insert_once(&one, words, 16, &key), SHARDHEAP_OK);
+        TRUE(key >> 56 == n / 24);
+    }
+    IS(shardheap_give(&one), SHARDHEAP_OK);
+    IS(shardheap_give(&two), SHARDHEAP_OK);
+    shardheap_close(&heap);
+}
+
+/* Values of 16 words open twelve chunks, each only when it is needed. A pass that stores nothing finds the first key of
+   each, and the other leaves its shards in all of them. */
+static void goes_over_twelve_chunks(void) {
+    shardheap heap = SHARDHEAP_INIT;
+    shardheap_pass one = SHARDHEAP_INIT, two = SHARDHEAP_INIT;
+    uint64_t first[12], key = 0, chunks = 0;
+    IS(shardheap_open_growing(&heap, 1, 1, 16, 2, 256), SHARDHEAP_OK);
+    IS(shardheap_take(&heap, &one), SHARDHEAP_OK);
+    IS(shardheap_take(&heap, &two), SHARDHEAP_OK);
+    while (chunks < 12) {
+        IS(shardheap_insert(&one, words, 16, &key), SHARDHEAP_OK);
+        TRUE(key >> 56 <= chunks);
+        if (key >> 56 == chunks) first[chunks++] = key;
+        TRUE(shardheap_chunks(&heap) == chunks);
+    }
+    for (int n = 0; n < 12; n++) {
+        IS(shardheap_load(&two, first[n], room, 16, &length), SHARDHEAP_OK);
+        TRUE(length == 16 && room[2] == 9);
+    }
+    IS(shardheap_leave(&one), SHARDHEAP_OK);
+    IS(shardheap_give(&one), SHARDHEAP_OK);
+    IS(shardheap_give(&two), SHARDHEAP_OK);
+    shardheap_close(&heap);
+}
+
 typedef struct {
     shardheap_pass pass;
     uint64_t from, *keys;
@@ -306,6 +353,8 @@ int main(void) {
     heeds_no_other_heap();
     comes_home();
     uses_its_chunks_again();
+    collects_in_each_chunk();
+    goes_over_twelve_chunks();
     serves_threads();
     printf("growing: %d checks passed\n", checks);
     return 0;

@@ -232,6 +232,25 @@ static void shared_and_lost(uint32_t layout) {
     shardheap_close(&other);
 }
 
+/* A pass that owns nothing does not come home either once it is lost, and its hold stays. */
+static void lost_with_its_hold(uint32_t layout) {
+    shardheap heap = SHARDHEAP_INIT;
+    shardheap_pass owner = SHARDHEAP_INIT, lost = SHARDHEAP_INIT;
+    uint64_t key;
+    IS(shardheap_open(&heap, layout, 1, 1, 2), SHARDHEAP_OK);
+    IS(shardheap_take(&heap, &owner), SHARDHEAP_OK);
+    IS(shardheap_take(&heap, &lost), SHARDHEAP_OK);
+    IS(shardheap_adopt(&owner, 0), SHARDHEAP_OK);
+    IS(shardheap_insert(&owner, words, 1, &key), SHARDHEAP_OK);
+    IS(shardheap_get(&lost, key), SHARDHEAP_OK);
+    IS(shardheap_pass_lose(&lost), SHARDHEAP_OK);
+    IS(shardheap_take(&heap, &lost), SHARDHEAP_NO_PASS);
+    IS(shardheap_leave(&owner), SHARDHEAP_OK);
+    IS(shardheap_give(&owner), SHARDHEAP_OK);
+    IS(shardheap_gather(&heap), SHARDHEAP_AWAY);
+    shardheap_close(&heap);
+}
+
 static void calls_of(uint32_t layout) {
     shardheap heap = SHARDHEAP_INIT;
     shardheap_pass one = SHARDHEAP_INIT, two = SHARDHEAP_INIT, three = SHARDHEAP_INIT;
@@ -281,6 +300,7 @@ int main(void) {
     for (uint32_t layout = 0; layout < 4; layout++) {
         calls_of(layout);
         shared_and_lost(layout);
+        lost_with_its_hold(layout);
     }
     two_heaps();
     TRUE(strcmp(shardheap_name(SHARDHEAP_GONE), "Gone") == 0);
