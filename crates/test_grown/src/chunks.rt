@@ -80,3 +80,16 @@ fn totals_are_summed_over_the_chunks(rt: HostRuntime) {
     agree(&rt, (sums.chunks, sums.live, sums.marked), (2, 769, 0));
     agree(&rt, (sums.used_pages, sums.blank_pages), (17, 7));
 }
+
+// Chunks of 2, 1, 1, 2, 2, 4, 4, 8, 8, 16, 16 and 32 segments, which are 96 of 8 pages. Nothing is stored in them.
+#[test]
+fn twelve_chunks_are_gathered_and_counted(rt: HostRuntime) {
+    let growing = GrowingShare::open(rt.alloc(), 1, 12).expect(&rt, "a heap");
+    for _ in 1..12 {
+        agree(&rt, growing.heap().open_ahead(rt.alloc()).is_ok(), true);
+    }
+    agree(&rt, growing.heap().chunks(), 12);
+    agree(&rt, growing.heap().gather_chunks(rt.alloc()), Ok(12));
+    let sums = growing.heap().totals().expect(&rt, "the totals");
+    agree(&rt, (sums.chunks, sums.blank_pages), (12, 768));
+}

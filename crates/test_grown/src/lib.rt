@@ -8,6 +8,8 @@ mod chunks;
 #[cfg(test)]
 mod growing;
 #[cfg(test)]
+mod memory;
+#[cfg(test)]
 mod receipts;
 #[cfg(test)]
 mod shapes;
