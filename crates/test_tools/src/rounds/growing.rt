@@ -12,6 +12,19 @@ use tool_judge::dice::Dice;
 use tool_judge::fault::{Fault, Wrong};
 use tool_rounds::plan::{Layout, Plan};
 
+// The plan of a round with this number of threads, of callers of each and of turns of each.
+fn plan(threads: u32, passes: u32, steps: u64) -> Plan {
+    Plan {
+        layout: Layout::Growing,
+        threads,
+        passes,
+        shards: 1,
+        segments: 1,
+        chunks: 2,
+        steps,
+    }
+}
+
 // The counts of a round of one thread with three callers, on a heap whose second chunk has this defect, or the fault
 // that it finds.
 fn counts_of<R: Threads + Wait + Sync>(
@@ -19,16 +32,20 @@ fn counts_of<R: Threads + Wait + Sync>(
     alloc: Global,
     defect: Defect,
 ) -> Result<Counts, Fault> {
-    let plan = Plan {
-        layout: Layout::Growing,
-        threads: 1,
-        passes: 3,
-        shards: 1,
-        segments: 1,
-        chunks: 2,
-        steps: 1_500,
+    grown(rt, alloc, &plan(1, 3, 1_500), defect, &mut Dice::new(3)).counts
+}
+
+// Of 16 threads that take one turn each some adopt, and others do not. With the same dice all would, or none. (A caller
+// is never refused, and one may adopt once more as the round ends.)
+#[test]
+fn each_thread_has_dice_of_its_own(rt: HostRuntime) -> Result<(), Fail> {
+    let plan = plan(16, 1, 1);
+    let Ok(counts) = grown(&rt, rt.alloc(), &plan, Defect::Sound, &mut Dice::new(8)).counts else {
+        return Err(Fail::from("a fault"));
     };
-    grown(rt, alloc, &plan, defect, &mut Dice::new(3)).counts
+    let adoptions = counts.of(Count::Adoptions);
+    holds(&rt, 1 < adoptions && adoptions < 16);
+    Ok(())
 }
 
 // The pages of both chunks are summed: 8 each. No call is made by hand. (A slot of the model has the same key in both

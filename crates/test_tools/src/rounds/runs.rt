@@ -86,7 +86,8 @@ fn a_run_with_a_fault_leaves_the_history_of_its_key(rt: HostRuntime) {
     holds(&rt, matches!(said, Ok(Verdict::Broken(_, _))));
 }
 
-// The history of a round is legal for another judge too, and has each answer that was judged.
+// The history of a round is legal for another judge too, and has each answer that was judged. Its header has two numbers
+// for each of the three passes, and the holds that a key of the layout may have.
 #[test]
 fn the_history_of_a_round_is_legal(rt: HostRuntime) -> Result<(), Fail> {
     let Outcome { counts, history } = round_of(&rt, rt.alloc(), Defect::Sound, 3);
@@ -95,6 +96,7 @@ fn the_history_of_a_round_is_legal(rt: HostRuntime) -> Result<(), Fail> {
     };
     let mut text = Vec::new(rt.alloc());
     history.in_order(rt.alloc())?.write(None, &mut text)?;
+    holds(&rt, text.as_slice().starts_with("history 6 4\n".as_bytes()));
     let said = verdict(rt.alloc(), text.as_slice());
     let Ok(Verdict::Legal(entries, _)) = said else {
         return Err(Fail::from("the history is not legal"));
