@@ -242,6 +242,13 @@ fn room_that_is_found_by_an_adoption_alone_is_found(rt: HostRuntime) {
 }
 
 #[test]
+fn a_refused_receipt_is_found(rt: HostRuntime) {
+    let fault = found(&rt, rt.alloc(), Defect::Unheeded);
+    let is_wanted = matches!(fault, Some(Fault::Wrong(Wrong::Refused(_, Call::Heed, _))));
+    holds(&rt, is_wanted);
+}
+
+#[test]
 fn passes_that_do_not_meet_are_found(rt: HostRuntime) {
     let fault = found(&rt, rt.alloc(), Defect::Apart);
     agree(&rt, fault, Some(Fault::Wrong(Wrong::Apart)));

@@ -21,6 +21,8 @@ pub enum Call {
     Insert,
     /// The end of owning a shard.
     Leave,
+    /// What a receipt covers.
+    Heed,
 }
 
 /// Something that no heap may do.

@@ -1,9 +1,11 @@
 //! What threads share: recent keys with receipts of their inserts, a clock, and whether to stop.
 use crate::moments::Moments;
 use crate::user::User;
+use crate::using;
 use std::alloc::{AllocError, Global};
 use std::sync::atomic::{AtomicBool, Ordering};
 use std::sync::{Mutex, Wait};
+use tool_judge::record::Record;
 
 // The number of places on a board, each for one key.
 const PLACES: u64 = 16;
@@ -53,10 +55,15 @@ impl<'r, R: Wait, C: Drop> Board<'r, R, C> {
 
     /// The user heeds the receipt at a place, and gets the key there. It replaces the receipt by one of its own, which
     /// covers all that the former one covers.
-    pub fn look<U: User<Receipt = C>>(&self, user: &mut U, number: u64) -> Option<u64> {
+    pub fn look<U: User<Receipt = C>>(
+        &self,
+        user: &mut U,
+        record: &mut Record,
+        number: u64,
+    ) -> Option<u64> {
         let mut place = self.place(number)?.lock(self.rt);
         let Letter { key, told } = place.take()?;
-        user.heed(told);
+        using::heed(user, record, told);
         *place = Some(Letter {
             key,
             told: user.receipt(),

@@ -19,7 +19,7 @@ pub fn begin<R: Wait, C: Drop, P: LonePass<Receipt = C>>(
     board: &Board<'_, R, C>,
     dice: &mut Dice,
 ) -> Actor<P> {
-    let key = board.look(&mut lone, dice.word());
+    let key = board.look(&mut lone, record, dice.word());
     let stopped = match lone.begin() {
         Ok(stopped) => stopped,
         Err(lone) => return Actor::Lone(lone),

@@ -98,7 +98,7 @@ pub fn insert<R: Wait, C: Drop, P: LonePass<Receipt = C>>(
         told: owner.receipt(),
     };
     if let Some(old) = board.leave(dice.word(), letter) {
-        owner.heed(old.told);
+        using::heed(owner, record, old.told);
         using::remove(owner, record, &board.moments, old.key);
     }
 }

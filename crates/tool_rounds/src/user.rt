@@ -33,6 +33,6 @@ pub trait User {
     /// A receipt of all that its calls returned, and of all receipts that it heeded.
     fn receipt(&mut self) -> Self::Receipt;
 
-    /// Everything that the receipt covers happens before each later reply to this pass.
-    fn heed(&mut self, told: Self::Receipt);
+    /// Everything that the receipt covers happens before each later reply to this pass. No refusal is right.
+    fn heed(&mut self, told: Self::Receipt) -> Result<(), Refusal>;
 }

@@ -7,6 +7,13 @@ use tool_judge::fault::Call;
 use tool_judge::line::{Span, Told};
 use tool_judge::record::Record;
 
+/// Heeds a receipt.
+pub fn heed<U: User>(user: &mut U, record: &mut Record, told: U::Receipt) {
+    if let Err(refusal) = user.heed(told) {
+        record.refused(Call::Heed, refusal);
+    }
+}
+
 /// Takes a hold on a key. A guessed number may be no key.
 pub fn get<U: User>(user: &mut U, record: &mut Record, moments: &Moments, key: u64, guessed: bool) {
     let begin = moments.next();

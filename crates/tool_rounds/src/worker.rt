@@ -62,8 +62,8 @@ impl<C: Drop, P: LonePass<Receipt = C>> Worker<P> {
             }
             Turn::Begin => by_hand::begin(lone, &mut self.record, board, dice),
             turn => {
-                let key = board.look(&mut lone, dice.word());
                 let record = &mut self.record;
+                let key = board.look(&mut lone, record, dice.word());
                 keys::take_turn::<P, _>(&mut lone, record, &board.moments, dice, turn, key);
                 Actor::Lone(lone)
             }
@@ -92,8 +92,8 @@ impl<C: Drop, P: LonePass<Receipt = C>> Worker<P> {
                 Actor::Owner(owner)
             }
             turn => {
-                let key = board.look(&mut owner, dice.word());
                 let record = &mut self.record;
+                let key = board.look(&mut owner, record, dice.word());
                 keys::take_turn::<P, _>(&mut owner, record, &board.moments, dice, turn, key);
                 Actor::Owner(owner)
             }

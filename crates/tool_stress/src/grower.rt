@@ -1,4 +1,7 @@
 //! Heaps that grow: the callers of one, and a round on a new one.
+ghost use Rattle.std.specs.Prelude.{◌≡◌, Some};
+
+use crate::home::{GrownHomeReceipt, Home};
 use crate::opened::unopened;
 use sh_chunk::Chunked;
 use sh_core::Accounts;
@@ -7,6 +10,7 @@ use sh_shape::{SEGMENT_PAGES, SLOT_PLACES, Shape};
 use sh_step::Action;
 use sh_value::{Hold, Refusal, Value, WORDS_MAX};
 use std::alloc::Global;
+use std::marker::{Brand, PhantomData};
 use std::sync::Wait;
 use std::thread::Threads;
 use tool_judge::dice::Dice;
@@ -17,17 +21,18 @@ use tool_rounds::round;
 use tool_rounds::round::Outcome;
 use tool_rounds::user::User;
 
-/// A caller of a growing heap, whether it owns shards or not.
+/// A caller of the growing heap that `H` names, whether it owns shards or not.
 #[derive(Drop)]
-pub struct Grower {
+pub struct Grower<H: Home> {
     caller: Caller,
     growing: GrowingShare,
     alloc: Global,
+    home: PhantomData<H>,
+    ghost at_home: { H.growing ≡ Some caller.growing },
 }
 
-impl User for Grower {
-    // The rounds have no receipts of callers.
-    type Receipt = ();
+impl<H: Home + Send> User for Grower<H> {
+    type Receipt = GrownHomeReceipt<H>;
 
     fn get(&mut self, key: u64) -> Result<Hold, Refusal> {
         self.caller.get(key)
@@ -68,18 +73,22 @@ impl User for Grower {
         self.caller.release(hold)
     }
 
-    fn receipt(&mut self) {}
+    fn receipt(&mut self) -> GrownHomeReceipt<H> {
+        GrownHomeReceipt::new(self.caller.receipt())
+    }
 
-    fn heed(&mut self, _told: ()) {}
+    fn heed(&mut self, told: GrownHomeReceipt<H>) -> Result<(), Refusal> {
+        self.caller.heed(told.into_receipt())
+    }
 }
 
-impl LonePass for Grower {
+impl<H: Home + Send> LonePass for Grower<H> {
     type Layout = Chunked;
 
-    type Owner = Grower;
+    type Owner = Self;
 
     // No call of a caller is made by hand.
-    type Stopped = Grower;
+    type Stopped = Self;
 
     type Whole = GrowingShare;
 
@@ -89,23 +98,23 @@ impl LonePass for Grower {
     }
 
     // It adopts shards as it inserts.
-    fn adopt(self, _alloc: Global, _shard: u64) -> Result<Grower, (Self, Refusal)> {
+    fn adopt(self, _alloc: Global, _shard: u64) -> Result<Self, (Self, Refusal)> {
         Ok(self)
     }
 
-    fn insert(owner: &mut Grower, value: &Value) -> Result<u64, Refusal> {
+    fn insert(owner: &mut Self, value: &Value) -> Result<u64, Refusal> {
         owner.caller.insert(owner.alloc, value)
     }
 
-    fn collect(owner: &mut Grower) {
+    fn collect(owner: &mut Self) {
         owner.caller.collect();
     }
 
-    fn prepare(_owner: &mut Grower, _class: u32) -> Result<(), Refusal> {
+    fn prepare(_owner: &mut Self, _class: u32) -> Result<(), Refusal> {
         Ok(())
     }
 
-    fn leave(owner: Grower) -> Result<Self, (Grower, Refusal)> {
+    fn leave(owner: Self) -> Result<Self, (Self, Refusal)> {
         let mut grower = owner;
         match grower.caller.leave() {
             Ok(()) => Ok(grower),
@@ -136,6 +145,7 @@ impl LonePass for Grower {
             caller,
             growing,
             alloc,
+            home: _,
         } = self;
         caller.give_back();
         match growing.heap().gather(alloc) {
@@ -170,25 +180,50 @@ fn shapes(alloc: Global, plan: &Plan, growing: &Growing) -> Result<Vec<Shape>, R
     Ok(shapes)
 }
 
-// All callers of a growing heap.
-fn callers(alloc: Global, growing: &GrowingShare) -> Result<Vec<Grower>, Refusal> {
+// All callers of the growing heap that `H` names.
+fn callers<H: Home>(alloc: Global, growing: &GrowingShare) -> Result<Vec<Grower<H>>, Refusal>
+    requires { H.growing ≡ Some growing.now }
+{
     let mut growers = Vec::new(alloc);
     for _ in 0..growing.heap().passes() {
         growers.push(Grower {
             caller: growing.claim(alloc)?,
             growing: growing.share()?,
             alloc,
+            home: PhantomData,
         })?;
     }
     Ok(growers)
 }
 
-// A new heap that grows: the shapes of its chunks, and its callers.
-fn begun(alloc: Global, plan: &Plan) -> Result<(Vec<Shape>, Vec<Grower>), Refusal> {
-    let growing = opened(alloc, plan)?;
+// The shapes of all chunks of the growing heap that `H` names, and its callers.
+fn begun<H: Home>(
+    alloc: Global,
+    plan: &Plan,
+    growing: &GrowingShare,
+) -> Result<(Vec<Shape>, Vec<Grower<H>>), Refusal>
+    requires { H.growing ≡ Some growing.now }
+{
     let shapes = shapes(alloc, plan, growing.heap())?;
-    let growers = callers(alloc, &growing)?;
+    let growers = callers(alloc, growing)?;
     Ok((shapes, growers))
+}
+
+// A round on the growing heap that `H` names.
+fn worked<H: Home + Send, R: Threads + Wait + Sync>(
+    rt: &R,
+    alloc: Global,
+    plan: &Plan,
+    growing: &GrowingShare,
+    dice: &mut Dice,
+) -> Outcome
+    requires { H.growing ≡ Some growing.now }
+{
+    let begun: Result<(Vec<Shape>, Vec<Grower<H>>), Refusal> = begun(alloc, plan, growing);
+    match begun {
+        Ok((shapes, growers)) => round::play(rt, alloc, plan, shapes.as_slice(), growers, dice),
+        Err(refusal) => Outcome::unbegun(alloc, unopened(refusal)),
+    }
 }
 
 /// Plays a round on a new heap that grows.
@@ -198,8 +233,8 @@ pub fn play<R: Threads + Wait + Sync>(
     plan: &Plan,
     dice: &mut Dice,
 ) -> Outcome {
-    match begun(alloc, plan) {
-        Ok((shapes, growers)) => round::play(rt, alloc, plan, shapes.as_slice(), growers, dice),
+    match opened(alloc, plan) {
+        Ok(growing) => worked::<Brand, R>(rt, alloc, plan, &growing, dice),
         Err(refusal) => Outcome::unbegun(alloc, unopened(refusal)),
     }
 }

@@ -87,8 +87,9 @@ impl<L: KeyLayout, H: Home + Send> User for Lone<'_, L, H> {
         HomeReceipt::new(self.pass.receipt())
     }
 
-    fn heed(&mut self, told: HomeReceipt<H>) {
+    fn heed(&mut self, told: HomeReceipt<H>) -> Result<(), Refusal> {
         self.pass.heed(told.into_receipt());
+        Ok(())
     }
 }
 

@@ -98,7 +98,8 @@ impl<L: KeyLayout, H: Home + Send> User for Owner<'_, L, H> {
         HomeReceipt::new(self.shard.receipt())
     }
 
-    fn heed(&mut self, told: HomeReceipt<H>) {
+    fn heed(&mut self, told: HomeReceipt<H>) -> Result<(), Refusal> {
         self.shard.heed(told.into_receipt());
+        Ok(())
     }
 }

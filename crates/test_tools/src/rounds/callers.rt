@@ -159,7 +159,9 @@ impl<R: Wait> User for ModelCaller<'_, R> {
         0
     }
 
-    fn heed(&mut self, _told: u64) {}
+    fn heed(&mut self, _told: u64) -> Result<(), Refusal> {
+        Ok(())
+    }
 }
 
 impl<'a, R: Wait + Sync> LonePass for ModelCaller<'a, R> {

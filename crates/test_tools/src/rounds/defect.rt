@@ -43,6 +43,8 @@ pub enum Defect {
     LostRing,
     /// The passes cannot be joined.
     Apart,
+    /// A receipt is refused.
+    Unheeded,
     /// A heap that grows returns keys of its second chunk without the chunk's number.
     KeyOfNoChunk,
 }

@@ -144,7 +144,12 @@ impl<R: Wait> User for ModelPass<'_, R> {
         0
     }
 
-    fn heed(&mut self, _told: u64) {}
+    fn heed(&mut self, _told: u64) -> Result<(), Refusal> {
+        if self.defect == Defect::Unheeded {
+            return Err(Refusal::Taken);
+        }
+        Ok(())
+    }
 }
 
 impl<'a, R: Wait + Sync> LonePass for ModelPass<'a, R> {
