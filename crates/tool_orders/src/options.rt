@@ -28,7 +28,8 @@ Example, of files in the folder examples/orders/:
 Exit status:
   0  the outcomes were printed, and are those that are expected; or help or the version was asked for
   1  they are not those that are expected: the first difference is named
-  2  the command line or the script is wrong, there is no such outcome, or there are too many states
+  2  the command line, the script or the file of outcomes is wrong, there is no such outcome, or there are too many
+     states
   3  memory was refused, or a read or a write failed";
 
 fn accounts_flag<'a>(alloc: Global) -> Arg<'a> {
