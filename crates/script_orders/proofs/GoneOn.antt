@@ -11,14 +11,16 @@ use Rattle.sh_key.specs.Layout.{Layout}
 use Rattle.sh_step.specs.declared.action.Event.{Event}
 use Rattle.sh_step.specs.Plans.{Plan}
 use Rattle.sh_core.specs.declared.outcome.Outcome.{Outcome}
-use Rattle.sh_core.specs.Kept.{HoldsWords}
 use Rattle.sh_core.specs.Outcomes.{outcome_of}
 use Rattle.sh_core.specs.Worlds.{World, step, run, run_from, open_world}
 use Rattle.sh_core.proofs.Words.Steps.{run_snoc}
+use Rattle.script_orders.specs.declared.changes.Change.{Change}
 use Rattle.script_orders.specs.declared.found.Program.{Program}
+use Rattle.script_orders.specs.Changes.{HasChanges}
 use Rattle.script_orders.specs.Lanes.{Did, and_then}
 use Rattle.script_orders.specs.Orders.{is_of, lines_within, IsOfSome, events_of, reply_line, replies_from}
-use Rattle.script_orders.specs.Reached.{plan_in, done_by, world_by, replies_by, IsNext, HasDone, LeadsTo}
+use Rattle.script_orders.specs.Reached.{plan_in, world_before, done_by, world_by, replies_by, IsNext, HasDone}
+use Rattle.script_orders.specs.Reached.{LeadsTo}
 use Rattle.script_orders.specs.Seen.{Sees}
 use Rattle.script_orders.proofs.ListSteps.{get_set_same, get_set_other}
 use Rattle.script_orders.proofs.Parts.{step_other, left_by, step_own, does_step}
@@ -100,8 +102,8 @@ module _ (plan : Plan) (w : World) (lines : List Event) (pass behind n : ℕ) (e
 
 -- ---- the order with the next line
 
-module _ (layout : Layout) (p : Program) (order words : List ℕ) (lanes : List Did)
-    (leads : LeadsTo layout p order words lanes) (pass n seen : ℕ) (d : Did) (at : slice_get lanes pass ≡ Some d)
+module _ (layout : Layout) (p : Program) (order : List ℕ) (changes : List Change) (lanes : List Did)
+    (leads : LeadsTo layout p order changes lanes) (pass n seen : ℕ) (d : Did) (at : slice_get lanes pass ≡ Some d)
     (next : IsNext (plan_in layout p) (world_by layout p order).parts p.lines.now pass d.behind n) (e : Event)
     (there : slice_get p.lines.now n ≡ Some e) (o : Outcome)
     (came : o ≡ outcome_of (plan_in layout p) (world_by layout p order) e)
@@ -198,12 +200,15 @@ module _ (layout : Layout) (p : Program) (order words : List ℕ) (lanes : List 
     | inr ne ↦ done_other a d' ne (sym (get_set_other lanes pass a new ne) ∙ is)
   ]
 
-  pub goes_on : (words' : List ℕ) → HoldsWords p.shape words' (step plan w e).words → pass < p.shape.passes
-      → LeadsTo layout p (order ++ more) words' (slice_set lanes pass new)
-  goes_on words' holds less = record {
+  pub goes_on : (changes' : List Change)
+      → HasChanges p.shape changes' (world_before layout p).words (step plan w e).words → pass < p.shape.passes
+      → LeadsTo layout p (order ++ more) changes' (slice_set lanes pass new)
+  goes_on changes' changed less = record {
     only = All-append (IsOfSome lines p.shape.passes) order more leads.only
         (lines_are_of lines p.shape.passes pass d.behind (n + 1) less);
-    holds = subst (λ (v : World). HoldsWords p.shape words' v.words) (sym world_is) holds;
+    changed =
+        subst (λ (v : World). HasChanges p.shape changes' (world_before layout p).words v.words) (sym world_is)
+        changed;
     count = length-set lanes pass new ∙ leads.count;
     each = done_each;
   }

@@ -1,4 +1,6 @@
 mod ListSteps
+mod Changing
+mod Listed
 mod LaneTests
 mod LineOptions
 mod LineLists

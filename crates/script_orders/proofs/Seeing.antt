@@ -8,15 +8,17 @@ use Rattle.sh_step.specs.declared.body.Body.{Body}
 use Rattle.sh_step.specs.declared.moves.Move.{Move}
 use Rattle.sh_step.specs.declared.step.Step.{Step}
 use Rattle.sh_step.specs.Moves.{row, row_of, move_of, step_at}
-use Rattle.sh_step.specs.Operations.{StoresWord}
+use Rattle.sh_step.specs.Operations.{StoresWord, operate}
 use Rattle.sh_step.specs.Plans.{Plan, plan_of}
 use Rattle.sh_step.proofs.StepLaws.{steps_same}
 use Rattle.sh_core.specs.Kept.{KeptWorld, Represents, FromEvents, IsReady}
 use Rattle.sh_core.specs.Outcomes.{row_of_event}
 use Rattle.sh_core.specs.Words.{read}
-use Rattle.sh_core.specs.Worlds.{World}
+use Rattle.sh_core.specs.Worlds.{World, step, apply}
+use Rattle.sh_core.proofs.Sums.Writes.{read_other}
 use Rattle.sh_core.proofs.Words.Ready.{ready}
-use Rattle.sh_core.proofs.Words.Steps.{row_of_at}
+use Rattle.sh_core.proofs.Words.Steps.{row_of_at, step_moves}
+use Rattle.script_orders.specs.Changes.{Touches}
 use Rattle.script_orders.specs.Seen.{seen_in, Sees}
 
 module _ (layout : Layout) (k : KeptWorld) (e : Event) (part : Body) (m : Move) (from : FromEvents layout k)
@@ -49,6 +51,22 @@ module _ (layout : Layout) (k : KeptWorld) (e : Event) (part : Body) (m : Move) 
         is = is;
         seen_is = is_seen ∙ ap (seen_in kept_plan m) word;
       }
+
+  -- and changes no other word
+  pub touches : (touched : ℕ) → touched ≡ number k.shape (step_at kept_plan m).place → (w : World) → Represents k w
+      → Touches k.shape kept_plan w e touched
+  unfolding row apply
+  touches touched is_number w stands place other =
+      let made = row_of kept_plan part m in
+      let here : slice_get w.parts e.pass ≡ Some part =
+      subst (λ (bs : List Body). slice_get bs e.pass ≡ Some part) stands.parts at in
+      let done : step kept_plan w e ≡ apply w e.pass made =
+      step_moves kept_plan w e part made here (ap (option_map (row_of kept_plan part)) is) in
+      let same : touched ≡ number k.shape made.place =
+      is_number ∙ ap (λ (s : Step). number k.shape s.place) (sym (steps_same kept_plan part m)) in
+      ap (λ (v : World). read v.words place) done
+      ∙ read_other w.words made.place place (operate made.operation (read w.words made.place))
+      (λ (h : place ≡ made.place). other (ap (number k.shape) h ∙ sym same))
 
 -- no move of the pass's part, or no part
 pub no_move_no_row : (layout : Layout) (k : KeptWorld) (e : Event) (part : Body) → slice_get k.parts e.pass ≡ Some part

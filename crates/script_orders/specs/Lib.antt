@@ -1,9 +1,11 @@
 pub mod Orders
 pub mod Lanes
 pub mod Seen
+pub mod Changes
 pub mod Reached
 pub mod States
 pub mod Marks
+pub mod Filed
 pub mod Counts
 pub mod Walks
 pub mod Printed

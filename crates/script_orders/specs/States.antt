@@ -2,24 +2,25 @@
 use Rattle.std.specs.Prelude.{ℕ, ◌≡◌, ◌+◌, ◌-◌, ◌^◌, min, ◌++◌, List, [], ◌∷◌, Some, None, length, slice_get, slice_set}
 use Rattle.std.specs.List.{flat_map, range_with_len}
 use Rattle.sh_step.specs.declared.action.Event.{Event}
+use Rattle.script_orders.specs.declared.changes.Change.{Change}
 use Rattle.script_orders.specs.declared.state.State.{State}
 use Rattle.script_orders.specs.Lanes.{Did}
 use Rattle.script_orders.specs.Orders.{lines_within}
 use Rattle.script_orders.specs.Reached.{lanes_of}
 
--- each pass did the same, found the same and was replied the same, and the words are the same
+-- each pass did the same, found the same and was replied the same, and the same words changed
 pub record AreAlike (s t : State) : Type 0 where
   pub lanes : lanes_of s ≡ lanes_of t
-  pub words : s.words.items ≡ t.words.items
+  pub changes : s.changes.items ≡ t.changes.items
 
--- The pass did one more line, and so has done this; the lines before it that were not done are skipped. The words are
+-- The pass did one more line, and so has done this; the lines before it that were not done are skipped. The changes are
 -- those that it left
-pub record Follows (lines : List Event) (pass : ℕ) (new : Did) (words : List ℕ) (s t : State) : Type 0 where
+pub record Follows (lines : List Event) (pass : ℕ) (new : Did) (changes : List Change) (s t : State) : Type 0 where
   pub order : (old : Did) → slice_get (lanes_of s) pass ≡ Some old
       → t.order.items ≡ s.order.items ++ lines_within lines pass old.behind new.behind
   pub passes : t.passes.items ≡ s.passes.items ++ pass ∷ []
   pub lanes : lanes_of t ≡ slice_set (lanes_of s) pass new
-  pub words_are : t.words.items ≡ words
+  pub changes_are : t.changes.items ≡ changes
   pub orders : t.orders ≡ s.orders
 
 -- the lines that a pass has left
@@ -45,7 +46,7 @@ pub record WithOrders (s t u : State) : Type 0 where
   pub order : u.order ≡ s.order
   pub passes : u.passes ≡ s.passes
   pub lanes : u.lanes ≡ s.lanes
-  pub words : u.words ≡ s.words
+  pub changes : u.changes ≡ s.changes
   pub orders : u.orders.count ≡ min (s.orders.count + t.orders.count) (2 ^ 128 - 1)
 
 -- a state is added to others: its orders to those of a state that is alike, or else, if none is, the state itself

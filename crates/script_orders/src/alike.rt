@@ -46,5 +46,5 @@ pub fn mark_of(state: &State) -> u64
 pub fn are_alike(state: &State, other: &State) -> bool
     ensures { IsTrue result ↔ AreAlike state.now other.now }
 {
-    state.lanes == other.lanes && state.words == other.words
+    state.lanes == other.lanes && state.changes == other.changes
 }

@@ -1,10 +1,10 @@
 //! Doing lines on a heap.
-ghost use Rattle.std.specs.Prelude.{◌≡◌, None, MatchOption, IfOk, OnErr, Ok};
+ghost use Rattle.std.specs.Prelude.{◌≡◌, ◌<◌, None, MatchOption, IfSome, IfOk, OnErr, Ok, length};
 ghost use Rattle.sh_step.specs.Plans.{plan_of};
 ghost use Rattle.sh_core.specs.Kept.{Represents, StepsWorld, RunsWorld};
 ghost use Rattle.sh_core.specs.Outcomes.{row_of_event};
 ghost use Rattle.sh_core.specs.Worlds.{World as Core};
-ghost use Rattle.script_orders.specs.Reached.{done_by};
+ghost use Rattle.script_orders.specs.Changes.{Touches};
 ghost use Rattle.script_orders.specs.Seen.{Sees};
 
 use crate::found::Program;
@@ -35,33 +35,31 @@ pub fn opened<L: KeyLayout>(alloc: Global, program: &Program<'_>) -> Result<Worl
     }
 }
 
-/// The heap after what is done first and these lines.
-pub fn played<L: KeyLayout>(
-    alloc: Global,
-    program: &Program<'_>,
-    order: &[usize],
-) -> Result<World<L>, AllocError>
-    ensures { IfOk result (λ world. RunsWorld L.layout program.now.shape (done_by program.now order.now) (Ok world)) }
-{
-    let mut world = opened::<L>(alloc, program)?;
-    for number in order {
-        if let Some(event) = program.lines.get(*number) {
-            step(&mut world, event)?;
-        }
-    }
-    Ok(world)
+/// What an event's step finds.
+#[derive(Clone, Copy, Debug, PartialEq, Eq)]
+pub struct Sight {
+    /// The word that it finds, as far as it matters to its pass.
+    pub seen: u64,
+    /// The number of the word.
+    pub number: usize,
 }
 
-/// What the event's step finds, as far as it matters to its pass; none if its condition does not hold.
-pub fn seen_by<L: KeyLayout>(world: &World<L>, event: &Event) -> Option<u64>
-    ensures { MatchOption result
+/// What the event's step finds; none if its condition does not hold.
+pub fn sight_of<L: KeyLayout>(world: &World<L>, event: &Event) -> Option<Sight>
+    ensures is { MatchOption result
         ((w : Core) → Represents world.now w → row_of_event (plan_of L.layout world.now.shape) w event.now ≡ None)
-        (λ seen. (w : Core) → Represents world.now w → Sees (plan_of L.layout world.now.shape) w event.now seen) }
+        (λ sight. (w : Core) → Represents world.now w
+        → Sees (plan_of L.layout world.now.shape) w event.now sight.seen) }
+    ensures touches { IfSome result (λ sight. (w : Core) → Represents world.now w
+        → Touches world.now.shape (plan_of L.layout world.now.shape) w event.now sight.number) }
+    ensures within { IfSome result (λ sight. sight.number < length world.now.words) }
 {
     let shape = world.shape();
     let part = world.parts().get(event.pass as usize)?;
     let the_move = Move::of::<L>(&shape, part, &event.action)?;
     let place = the_move.step::<L>(&shape).place;
-    let found = world.words()[shape.index(place)];
-    Some(seen::<L>(&the_move, found))
+    let number = shape.index(place);
+    let found = world.words()[number];
+    let seen = seen::<L>(&the_move, found);
+    Some(Sight { seen, number })
 }

@@ -12,10 +12,11 @@ use script_output::ends::{read_text, write_text};
 use script_start::{show, with_words};
 use sh_script::Fault;
 use std::alloc::Global;
+use std::fs::File;
+use std::io::Read;
 use std::process::ExitCode;
-use std::{fs, io};
 
-// The most bytes of a file of outcomes that are read.
+// The most bytes that a file of outcomes may have.
 const OUTCOMES_MAX: u64 = 16_777_216;
 
 // The exit status of a fault: 2 if the script is at fault, and 3 otherwise.
@@ -42,19 +43,30 @@ fn write_printed(rt: &HostRuntime, printed: &Printed) -> u8 {
     printed.status
 }
 
+// A file of outcomes. Of a longer one than may be, one byte more than that is read, and the rest is left unread.
+fn read_outcomes(rt: &HostRuntime, alloc: Global, path: &str) -> Result<Vec<u8>, Fault> {
+    let Ok(file) = File::open(rt, path) else {
+        return Err(Fault::Io);
+    };
+    let mut bytes = Vec::new(alloc);
+    match file.take(OUTCOMES_MAX + 1).read_to_end(&mut bytes) {
+        Ok(_) => Ok(bytes),
+        Err(_) => Err(Fault::Io),
+    }
+}
+
 fn run_with(rt: &HostRuntime, alloc: Global, options: &Options<'_>) -> Result<u8, Fault> {
     let text = read_text(alloc, &mut rt.stdin())?;
     let printed = match options.expect {
         Some(path) => {
-            let Ok(expected) = fs::read_to_string(rt, path) else {
-                return Err(Fault::Io);
-            };
-            run_script(
-                alloc,
-                options,
-                text.as_slice(),
-                Some(expected.as_str().as_bytes()),
-            )?
+            let expected = read_outcomes(rt, alloc, path)?;
+            if expected.len() as u64 > OUTCOMES_MAX {
+                let _ = eprintln!(rt;
+                    "tool_orders: a file of outcomes has at most {OUTCOMES_MAX} bytes"
+                );
+                return Ok(2);
+            }
+            run_script(alloc, options, text.as_slice(), Some(expected.as_slice()))?
         }
         None => run_script(alloc, options, text.as_slice(), None)?,
     };

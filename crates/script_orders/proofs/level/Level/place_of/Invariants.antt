@@ -4,5 +4,5 @@ use Rattle.script_orders.specs.States.{AreAlike}
 use Rattle.script_orders.proofs.level.Level.place_of.Given as goal
 
 abbrev pub invariant-loop-place : goal.invariant-loop-place
-invariant-loop-place l = (k : ℕ) (u : State) → k < l.place → slice_get l.self.states.items k ≡ Some u
-    → ¬ AreAlike u l.state
+invariant-loop-place l = (k i : ℕ) (u : State) → k < l.place-index → slice_get l.place-items k ≡ Some i
+    → slice_get l.self.states.items i ≡ Some u → ¬ AreAlike u l.state
