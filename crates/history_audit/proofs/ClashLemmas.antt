@@ -2,7 +2,7 @@
 use Rattle.std.proofs.Common.{◌≡◌, ℕ, ◌-◌, true, false, List, Option, Some, None, refl, sym, ◌∙◌, ap, inr}
 use Rattle.std.specs.Prelude.{is_some, IsSome, option_map}
 use Rattle.sh_history.specs.declared.entry.Entry.{Entry}
-use Rattle.sh_history.specs.declared.entry.Entry.TheVariants.{Got, Gone, Crowded, Removed}
+use Rattle.sh_history.specs.declared.entry.Entry.TheVariants.{Got, Gone, Crowded, Removed, Seen}
 use Rattle.sh_history.specs.declared.checker.Why.TheVariants.{AfterRemoval, StillThere}
 use Rattle.sh_history.specs.History.{value_of, is_removed, holds_on}
 use Rattle.history_audit.specs.declared.note.Note.{Note}
@@ -56,6 +56,17 @@ module _ (lines : List (ℕ × Entry)) (key : ℕ) (note : Note) (is : IsNote li
 
     go : (removed : Option ℕ) → note.removed ≡ removed
         → IsJudged passes guard_max lines (Got pass key value) (after_removal removed)
+    go None none = (of_value, not_removed none)
+    go (Some line) some = record { is_why = (of_value, is_removed_at line some); by = sym some ∙ is.removed }
+
+  pub seen_judged : (passes guard_max pass : ℕ) (value : List ℕ) → note.value ≡ value
+      → IsJudged passes guard_max lines (Seen pass key value) (after_removal note.removed)
+  seen_judged passes guard_max pass value same = go note.removed refl where
+    of_value : value_of (entries_in lines) key ≡ Some value
+    of_value = issued ∙ ap Some same
+
+    go : (removed : Option ℕ) → note.removed ≡ removed
+        → IsJudged passes guard_max lines (Seen pass key value) (after_removal removed)
     go None none = (of_value, not_removed none)
     go (Some line) some = record { is_why = (of_value, is_removed_at line some); by = sym some ∙ is.removed }
 

@@ -8,7 +8,9 @@ ghost use Rattle.history_audit.specs.Lines.{entries_in};
 ghost use Rattle.history_audit.specs.Noted.{IsJudged};
 ghost use Rattle.history_audit.specs.Followed.{Follows};
 
-use crate::clash::{Clash, of_crowded, of_gone, of_got, of_insert, of_released, of_removed};
+use crate::clash::{
+    Clash, of_crowded, of_gone, of_got, of_insert, of_released, of_removed, of_seen,
+};
 use crate::holds::Holds;
 use crate::note::Note;
 use sh_history::Entry;
@@ -94,6 +96,7 @@ impl Audit {
             }
             Entry::Removed(_, key) => of_removed(self.notes.get(key)),
             Entry::Released(pass, key) => of_released(self.holds.count(*pass, *key)),
+            Entry::Seen(_, key, value) => of_seen(self.notes.get(key), value),
         }
     }
 
@@ -170,6 +173,7 @@ impl Audit {
             Entry::Got(pass, key, _) => self.note_got(*pass, *key)?,
             Entry::Gone(_, _) => {}
             Entry::Crowded(_, _) => {}
+            Entry::Seen(_, _, _) => {}
             Entry::Removed(_, key) => self.note_removed(line, *key),
             Entry::Released(pass, key) => self.note_released(*pass, *key)?,
         }

@@ -3,7 +3,7 @@ use Rattle.std.specs.Prelude.{◌≡◌, ℕ, ◌+◌, ◌-◌, ◌<◌, Bool, t
 use Rattle.std.specs.Prelude.{◌++◌, Option, Some, None, IsSome, count_by}
 use Rattle.std.specs.List.{list_any}
 use Rattle.sh_history.specs.declared.entry.Entry.{Entry}
-use Rattle.sh_history.specs.declared.entry.Entry.TheVariants.{Insert, Got, Gone, Crowded, Removed, Released}
+use Rattle.sh_history.specs.declared.entry.Entry.TheVariants.{Insert, Got, Gone, Crowded, Removed, Released, Seen}
 
 -- the value that the key was issued with
 abbrev pub value_of : List Entry → ℕ → Option (List ℕ)
@@ -91,6 +91,8 @@ Allowed passes guard_max before (Crowded pass key) =
 Allowed passes guard_max before (Removed pass key) =
     IsSome (value_of before key) × (is_removed before key ≡ false)
 Allowed passes guard_max before (Released pass key) = 0 < holds_by before pass key
+Allowed passes guard_max before (Seen pass key value) =
+    (value_of before key ≡ Some value) × (is_removed before key ≡ false)
 
 -- each of these entries may follow those before it
 abbrev pub LegalAfter : (passes guard_max : ℕ) → List Entry → List Entry → Type 0

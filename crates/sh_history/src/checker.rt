@@ -13,7 +13,7 @@ pub enum Why {
     NotNew,
     /// The key was not inserted.
     NotIssued,
-    /// A get gives another value than the key was inserted with.
+    /// A get or a look gives another value than the key was inserted with.
     OtherValue,
     /// The key was removed.
     AfterRemoval,
@@ -86,6 +86,18 @@ fn why_not(before: &[Entry], entry: &Entry, passes: u32, guard_max: u32) -> Opti
                 Some(Why::NotHeld)
             }
         }
+        Entry::Seen(_, key, value) => match value_of(before, *key) {
+            None => Some(Why::NotIssued),
+            Some(issued) => {
+                if issued != value {
+                    Some(Why::OtherValue)
+                } else if is_removed(before, *key) {
+                    Some(Why::AfterRemoval)
+                } else {
+                    None
+                }
+            }
+        },
     }
 }
 

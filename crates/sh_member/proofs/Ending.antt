@@ -22,7 +22,7 @@ use Rattle.sh_pass.specs.Deciding.{InOneStep, DropsHold, RemovalDecided}
 use Rattle.sh_pass.specs.Passes.{Caller, holds, CallAdds, CallReads, GetDoes, ReadDoes, ReleaseDoes, RemoveDoes}
 use Rattle.sh_pass.specs.Passes.{plan_for}
 use Rattle.sh_pass.specs.Remaining.{Remains}
-use Rattle.sh_member.specs.Readers.{ReadsAndAdds, FetchDoes, TakeDoes}
+use Rattle.sh_member.specs.Readers.{ReadsAndAdds, GetsAndReads, TakeDoes}
 use Rattle.sh_member.proofs.Holding.{without_first}
 
 pub remains_along : (layout : Layout) (u v w : Caller) → Remains layout u v → Remains layout v w → Remains layout u w
@@ -122,7 +122,7 @@ takes k value E First Mid Last v a b c d got removed read released =
 
 pub fetch_does : (layout : Layout) (k : ℕ) (hold : Hold) (value : List ℕ) (v a b c : Caller)
     → GetDoes layout k v (Ok hold) a → ReadDoes hold.key a (Ok value) b → ReleaseDoes layout hold.key b (Ok tt) c
-    → FetchDoes layout k v (Ok value) c
+    → GetsAndReads layout k v (Ok value) c
 fetch_does layout k hold value v a b c got read released =
     let R : ℕ → Type 0 = λ n. ReadDoes n a (Ok value) b in
     let S : ℕ → Type 0 = λ n. ReleaseDoes layout n b (Ok tt) c in

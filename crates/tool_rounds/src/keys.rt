@@ -51,11 +51,11 @@ pub fn take_turn<P: LonePass, U: User>(
     let held = some_hold(record, dice);
     match (turn, key, held) {
         (Turn::Get, Some(key), _) => using::get(user, record, moments, key, false),
-        (Turn::Glance, Some(key), _) => using::glance(user, record, moments, key),
+        (Turn::Guard, Some(key), _) => using::guard(user, record, moments, key),
         (Turn::Guess, Some(key), _) => {
             using::get(user, record, moments, next_key::<P>(key), true);
         }
-        (Turn::Fetch, Some(key), _) => using::fetch(user, record, moments, key),
+        (Turn::Look, Some(key), _) => using::look(user, record, moments, key),
         (Turn::With, Some(key), _) => using::with(user, record, moments, key),
         (Turn::Take, Some(key), _) => using::take(user, record, moments, key),
         (Turn::Remove, Some(key), _) => using::remove(user, record, moments, key),

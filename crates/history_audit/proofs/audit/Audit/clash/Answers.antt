@@ -35,3 +35,9 @@ returns-in-Released c = λ lines is. rw c.in-Released.is
     (c.of_released.ensures c.args.self.now.passes c.args.self.now.guard_max lines
     c.in-Released.pass c.in-Released.key
     (let counts = is.holds c.in-Released.pass c.in-Released.key in omega (arith, c.count.ensures)))
+
+pub returns-in-Seen : goal.returns-in-Seen
+returns-in-Seen c = λ lines is. rw c.in-Seen.is
+    (c.of_seen.ensures c.args.self.now.passes c.args.self.now.guard_max lines
+    c.in-Seen.field-0 c.in-Seen.key
+    (rw c.get-in-Seen.ensures.value (is.notes c.in-Seen.key)))

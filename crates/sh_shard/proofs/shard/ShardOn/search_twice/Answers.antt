@@ -1,7 +1,7 @@
 use Rattle.std.proofs.Common.{Bool, length, subst}
 use Rattle.sh_shard.specs.Searches.{RingsOut}
 use Rattle.sh_shard.proofs.Trying.{tried_once, looked_once, looked_again, looked_in}
-use Rattle.sh_shard.proofs.shard.ShardOn.look.Goals as goal
+use Rattle.sh_shard.proofs.shard.ShardOn.search_twice.Goals as goal
 
 pub returns-in-Some-clause-looked : goal.returns-in-Some-clause-looked
 returns-in-Some-clause-looked g c = looked_once g.L.KeyLayout.layout c.args.c c.in-Some.key c.args.value.now
