@@ -11,5 +11,5 @@ returns-in-Ok-clause-opens g c =
       is_layout = g.L.KeyLayout.numbers.lawful;
       is_shape = c.words_of.ensures.shape;
       fits = c.fits.ensures.0 c.if-not-fits.false;
-      words = subst P (sym c.words_of.ensures.words) (opening_holds c.args.shape.now);
+      words = subst P (sym c.in-Ok.ensures.words) (opening_holds c.args.shape.now);
     }
