@@ -60,7 +60,6 @@ look_length-count-requires g c =
     can_look_on c.args.key c.args.name (Classed c.look_class-class_word.result) 2 c.look_class-class_word.ensures.seat b
     refl
 
-
 -- ---- what follows, by the class and the length that it found
 
 pub look_at_word-requires-clause-slot : goal.look_at_word-requires-clause-slot
@@ -69,15 +68,19 @@ look_at_word-requires-clause-slot g c =
 
 pub look_at_word-requires-clause-looking : goal.look_at_word-requires-clause-looking
 look_at_word-requires-clause-looking g c =
-    let live = sym c.is_live_at.ensures ∙ c.if-not-is_live_at.false in
-    (c.args.seat.now.me.0, one_word c.args.key c.args.name c.look_class-class_word.result c.look_length-count.result
-    (measured c.args.key c.args.name c.look_first-before.result c.look_class-class_word.result
-    c.look_length-count.result c.look_first-before.ensures live c.look_class-class_word.ensures
-    c.look_length-count.ensures) c.if-class_word-eq-ONE_WORD.true c.if-count-eq1.true)
+    let live = sym c.is_live_at.ensures ∙ c.if-not-is_live_at.false in (
+      c.args.seat.now.me.0,
+      one_word c.args.key c.args.name c.look_class-class_word.result c.look_length-count.result
+          (measured c.args.key c.args.name c.look_first-before.result c.look_class-class_word.result
+          c.look_length-count.result c.look_first-before.ensures live c.look_class-class_word.ensures
+          c.look_length-count.ensures) c.if-class_word-eq-ONE_WORD.true c.if-count-eq1.true,
+    )
 
 pub look_at_words-requires-clause-looking : goal.look_at_words-requires-clause-looking
 look_at_words-requires-clause-looking g c =
-    let live = sym c.is_live_at.ensures ∙ c.if-not-is_live_at.false in
-    (c.args.seat.now.me.0, measured c.args.key c.args.name c.look_first-before.result c.look_class-class_word.result
-    c.look_length-count.result c.look_first-before.ensures live c.look_class-class_word.ensures
-    c.look_length-count.ensures)
+    let live = sym c.is_live_at.ensures ∙ c.if-not-is_live_at.false in (
+      c.args.seat.now.me.0,
+      measured c.args.key c.args.name c.look_first-before.result c.look_class-class_word.result
+          c.look_length-count.result c.look_first-before.ensures live c.look_class-class_word.ensures
+          c.look_length-count.ensures,
+    )

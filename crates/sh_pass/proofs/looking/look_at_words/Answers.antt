@@ -9,12 +9,11 @@ use Rattle.sh_pass.proofs.looking.look_at_words.Goals as goal
 
 pub loop-i-init : goal.loop-i-init
 loop-i-init g c =
-    let Q : List ℕ → Type 0 = λ ws. length ws ≡ 0 in
-    (
+    let Q : List ℕ → Type 0 = λ ws. length ws ≡ 0 in (
       c.requires.seat,
       λ v r. (let P : List ℕ → Type 0 = λ ws. IsLooking c.args.key c.args.name
-      (Measured c.args.class_word c.args.count ws) 3 v c.args.seat.now.me.0 in
-      subst P (sym c.empty-seen.ensures) r),
+          (Measured c.args.class_word c.args.count ws) 3 v c.args.seat.now.me.0 in
+          subst P (sym c.empty-seen.ensures) r),
       subst Q (sym c.empty-seen.ensures) refl,
     )
 
@@ -46,20 +45,19 @@ loop-i-preserved g c =
     let is = c.loop-i.invariant.2 in
     let more = c.push.ensures.len in
     let s : Sight = Measured c.args.class_word c.args.count c.loop-i.seen in
-    let same : 3 + c.loop-i.i + 1 ≡ 3 + (c.loop-i.i + 1) = omega arith in
-    (
+    let same : 3 + c.loop-i.i + 1 ≡ 3 + (c.loop-i.i + 1) = omega arith in (
       c.look_word.ensures.seat,
       λ v r. (let on = looks_on c.args.key c.args.name s c.look_word.result (3 + c.loop-i.i) (c.loop-i.invariant.1 v r)
-      c.look_word.ensures in
-      let P : Sight → Type 0 = λ z. IsLooking c.args.key c.args.name z (3 + c.loop-i.i + 1) v
-      c.look_word.new.seat.me.0 in
-      let Q : List ℕ → Type 0 = λ ws. IsLooking c.args.key c.args.name (Measured c.args.class_word c.args.count ws)
-      (3 + (c.loop-i.i + 1)) v c.look_word.new.seat.me.0 in
-      let N : ℕ → Type 0 = λ m. IsLooking c.args.key c.args.name
-      (Measured c.args.class_word c.args.count (c.loop-i.seen ++ c.look_word.result ∷ [])) m v
-      c.look_word.new.seat.me.0 in
-      subst Q (sym c.push.ensures.words) (subst N same (subst P (sight_more c.args.class_word c.args.count
-      c.look_word.result c.loop-i.seen (omega arith)) on))),
+          c.look_word.ensures in
+          let P : Sight → Type 0 = λ z. IsLooking c.args.key c.args.name z (3 + c.loop-i.i + 1) v
+          c.look_word.new.seat.me.0 in
+          let Q : List ℕ → Type 0 = λ ws. IsLooking c.args.key c.args.name (Measured c.args.class_word c.args.count ws)
+          (3 + (c.loop-i.i + 1)) v c.look_word.new.seat.me.0 in
+          let N : ℕ → Type 0 = λ m. IsLooking c.args.key c.args.name
+          (Measured c.args.class_word c.args.count (c.loop-i.seen ++ c.look_word.result ∷ [])) m v
+          c.look_word.new.seat.me.0 in
+          subst Q (sym c.push.ensures.words) (subst N same (subst P (sight_more c.args.class_word c.args.count
+          c.look_word.result c.loop-i.seen (omega arith)) on))),
       omega arith,
     )
 
