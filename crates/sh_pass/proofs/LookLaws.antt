@@ -8,7 +8,6 @@ use Rattle.atomic_table.specs.declared.shared.Seat.{Seat}
 use Rattle.sh_table.specs.Entry.TheVariants as entry
 use Rattle.sh_table.specs.LogEntry.TheVariants.{Known}
 use Rattle.sh_key.specs.Layout.{Layout}
-use Rattle.sh_shape.specs.Shape.{Numbers}
 use Rattle.sh_slots.specs.declared.hand.Hand.TheVariants.{Idle, Looking}
 use Rattle.sh_slots.specs.declared.hand.KeyRef.{KeyRef}
 use Rattle.sh_slots.specs.declared.hand.Sight.{Sight}
@@ -21,7 +20,7 @@ use Rattle.sh_step.specs.declared.footstep.Footstep.{Footstep}
 use Rattle.sh_step.specs.declared.moves.Move.TheVariants as move
 use Rattle.sh_step.specs.Moves.{place_named, row}
 use Rattle.sh_step.specs.Plans.{Plan, plan_of}
-use Rattle.sh_step.specs.Rows.{hand, look, look_on, look_again, is_read, payload_word}
+use Rattle.sh_step.specs.Rows.{hand, look, is_read, payload_word}
 use Rattle.sh_step.proofs.LookupLaws.{place_is}
 use Rattle.sh_step.proofs.RowLaws.{row_of_may}
 use Rattle.sh_step.proofs.Truths.{lt_true}
@@ -30,7 +29,7 @@ use Rattle.sh_table.specs.declared.view.View.{View}
 use Rattle.sh_table.specs.Seats.{Heap, Did, CanDo, IsSeat}
 use Rattle.sh_table.specs.Views.{HeardOfInsert, logged_of}
 use Rattle.sh_pass.specs.declared.looking.Glance.TheVariants.{Seen, Gone, Early}
-use Rattle.sh_pass.specs.Deciding.{Stepped, FirstFinds, LastFinds, LooksDecide, IsLive, IsPast, IsEarly, step_at_slot}
+use Rattle.sh_pass.specs.Deciding.{Stepped, FirstFinds, LastFinds, LooksDecide, IsLive, IsPast, IsEarly}
 use Rattle.sh_pass.specs.Growing.{Grows}
 use Rattle.sh_pass.specs.Looking.{IsLooking, LookGrows}
 use Rattle.sh_pass.proofs.DecidedLaws.{stepped, stepped_then, stepped_on, begins_on}

@@ -61,13 +61,13 @@ fn look_at_word<L: KeyLayout>(
     requires slot { name.slot < 48 }
     requires looking { HasMeasured key name 1 1 seat.old.me.0 }
     ensures seat { IsSeat L.layout table.now seat.new }
-    ensures ends { LookEnds key name 1 1 result value.new seat.old.me.0 seat.new.me.0 }
+    ensures does { LookEnds key name 1 1 result value.new seat.old.me.0 seat.new.me.0 }
     ensures stays { result ≢ Glance.Seen → value.new ≡ value.old }
 {
     let word = table.look_only_word(seat, key, name, first_word(name.slot, ONE_WORD));
     let only = Value::from(word);
-    let after = table.look_again(seat, key, name, ONE_WORD, 1, &only);
-    if !is_live_at(name.generation, after) {
+    let state = table.look_again(seat, key, name, ONE_WORD, 1, &only);
+    if !is_live_at(name.generation, state) {
         return Glance::Gone;
     }
     value.set(word);
@@ -87,9 +87,10 @@ fn look_at_words<L: KeyLayout>(
     value: &mut Value,
 ) -> Glance
     requires seat { IsSeat L.layout table.now seat.old }
+    requires slot { name.slot < 48 }
     requires looking { HasMeasured key name class_word count seat.old.me.0 }
     ensures seat { IsSeat L.layout table.now seat.new }
-    ensures ends { LookEnds key name class_word count result value.new seat.old.me.0 seat.new.me.0 }
+    ensures does { LookEnds key name class_word count result value.new seat.old.me.0 seat.new.me.0 }
     ensures stays { result ≢ Glance.Seen → value.new ≡ value.old }
 {
     let mut seen = Value::empty();

@@ -1,18 +1,14 @@
-use Rattle.std.proofs.Common.{◌≡◌, ◌<◌, ◌+◌, ◌++◌, ◌∷◌, ◌∙◌, [], List, ℕ, true, refl, sym, subst, arith, length}
-use Rattle.sh_slots.specs.declared.hand.Sight.{Sight}
-use Rattle.sh_slots.specs.declared.hand.Sight.TheVariants.{Bare, Classed, Measured}
+use Rattle.std.proofs.Common.{◌∙◌, refl, sym, subst}
+use Rattle.sh_slots.specs.declared.hand.Sight.TheVariants.{Bare, Classed}
 use Rattle.sh_slots.specs.Slots.{past_at}
 use Rattle.sh_step.specs.Plans.{plan_of}
-use Rattle.sh_step.specs.Rows.{payload_word, is_read}
 use Rattle.sh_step.proofs.LookupLaws.{place_is}
 use Rattle.sh_pass.specs.declared.looking.Glance.{Glance}
-use Rattle.sh_pass.specs.declared.looking.Glance.TheVariants.{Seen}
 use Rattle.sh_pass.specs.Deciding.{Stepped, LooksDecide}
-use Rattle.sh_pass.specs.Looking.{IsLooking, LookGrows}
-use Rattle.sh_pass.proofs.LookLaws.{may_look, can_look_on, can_look_again, look_begins, look_off, looks_on, measured}
+use Rattle.sh_pass.specs.Looking.{LookGrows}
+use Rattle.sh_pass.proofs.LookLaws.{may_look, can_look_on, look_begins, look_off, looks_on, measured}
 use Rattle.sh_pass.proofs.LookLaws.{heard_is_not_early}
-use Rattle.sh_pass.proofs.LookLaws.{one_word, only_word, sight_more, look_sees, look_loses, more_to_read, all_read}
-use Rattle.sh_pass.proofs.LookLaws.{one_fits}
+use Rattle.sh_pass.proofs.LookLaws.{one_word}
 use Rattle.sh_pass.proofs.looking.look_at.Goals as goal
 
 pub look_first-before-requires : goal.look_first-before-requires
@@ -84,3 +80,39 @@ look_at_words-requires-clause-looking g c =
           c.look_length-count.result c.look_first-before.ensures live c.look_class-class_word.ensures
           c.look_length-count.ensures,
     )
+
+pub look_at_words-requires-clause-slot : goal.look_at_words-requires-clause-slot
+look_at_words-requires-clause-slot g c =
+    (place_is (plan_of g.L.KeyLayout.layout c.args.seat.now.me.0.shape) c.args.key c.args.name c.requires.name).slot
+
+pub returns-then-count-eq1-clause-grows : goal.returns-then-count-eq1-clause-grows
+returns-then-count-eq1-clause-grows g c =
+    let live = sym c.is_live_at.ensures ∙ c.if-not-is_live_at.false in
+    (c.look_at_word.ensures.does.ends c.args.seat.now.me.0 (one_word c.args.key c.args.name c.look_class-class_word.result
+    c.look_length-count.result (measured c.args.key c.args.name c.look_first-before.result
+    c.look_class-class_word.result c.look_length-count.result c.look_first-before.ensures live
+    c.look_class-class_word.ensures c.look_length-count.ensures) c.if-class_word-eq-ONE_WORD.true
+    c.if-count-eq1.true)).0
+
+pub returns-then-count-eq1-clause-decides : goal.returns-then-count-eq1-clause-decides
+returns-then-count-eq1-clause-decides g c =
+    let live = sym c.is_live_at.ensures ∙ c.if-not-is_live_at.false in
+    (c.look_at_word.ensures.does.ends c.args.seat.now.me.0 (one_word c.args.key c.args.name c.look_class-class_word.result
+    c.look_length-count.result (measured c.args.key c.args.name c.look_first-before.result
+    c.look_class-class_word.result c.look_length-count.result c.look_first-before.ensures live
+    c.look_class-class_word.ensures c.look_length-count.ensures) c.if-class_word-eq-ONE_WORD.true
+    c.if-count-eq1.true)).1
+
+pub returns-else-class_word-eq-ONE_WORD-clause-grows : goal.returns-else-class_word-eq-ONE_WORD-clause-grows
+returns-else-class_word-eq-ONE_WORD-clause-grows g c =
+    let live = sym c.is_live_at.ensures ∙ c.if-not-is_live_at.false in
+    (c.look_at_words.ensures.does.ends c.args.seat.now.me.0 (measured c.args.key c.args.name c.look_first-before.result
+    c.look_class-class_word.result c.look_length-count.result c.look_first-before.ensures live
+    c.look_class-class_word.ensures c.look_length-count.ensures)).0
+
+pub returns-else-class_word-eq-ONE_WORD-clause-decides : goal.returns-else-class_word-eq-ONE_WORD-clause-decides
+returns-else-class_word-eq-ONE_WORD-clause-decides g c =
+    let live = sym c.is_live_at.ensures ∙ c.if-not-is_live_at.false in
+    (c.look_at_words.ensures.does.ends c.args.seat.now.me.0 (measured c.args.key c.args.name c.look_first-before.result
+    c.look_class-class_word.result c.look_length-count.result c.look_first-before.ensures live
+    c.look_class-class_word.ensures c.look_length-count.ensures)).1

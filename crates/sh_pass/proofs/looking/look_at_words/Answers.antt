@@ -75,8 +75,8 @@ look_again-after-requires g c =
     (all_read c.args.name c.args.class_word c.args.count c.loop-i.seen
     (λ a b. let far = all (omega arith) (omega arith) in omega arith))
 
-pub returns-then-not-is_live_at-clause-ends : goal.returns-then-not-is_live_at-clause-ends
-returns-then-not-is_live_at-clause-ends g c =
+pub returns-then-not-is_live_at-clause-does : goal.returns-then-not-is_live_at-clause-does
+returns-then-not-is_live_at-clause-does g c =
     let few = c.words_to_read-i-end.ensures.few in
     let is = c.loop-i.invariant.2 in
     let past = c.loop-i-test.false in
@@ -87,8 +87,8 @@ returns-then-not-is_live_at-clause-ends g c =
           c.args.value.now (omega arith) (sym c.is_live_at.ensures ∙ c.if-not-is_live_at.true);
     }
 
-pub returns-clause-ends : goal.returns-clause-ends
-returns-clause-ends g c =
+pub returns-clause-does : goal.returns-clause-does
+returns-clause-does g c =
     let few = c.words_to_read-i-end.ensures.few in
     let is = c.loop-i.invariant.2 in
     let past = c.loop-i-test.false in
