@@ -55,7 +55,9 @@ def with_steps(text):
 
     def kept(found):
         line = found[0]
-        return line.removesuffix("#0 {") + "noinline #0 {" if STEP.search(line.split("(")[0]) else line
+        if not STEP.search(line.split("(")[0]):
+            return line
+        return line.removesuffix("#0 {").replace(" alwaysinline ", " ") + "noinline #0 {"
 
     return re.sub(r"(?m)^define internal [^\n]*#0 \{$", kept, text)
 
