@@ -74,7 +74,11 @@ fn push_hand(out: &mut String, view: &View<'_>, hand: &Hand) -> Result<(), Alloc
         }
         Hand::Looking(key, name, sight) => {
             let key = view.key(*key);
-            let next = if is_read(*name, sight) { "LookAgain" } else { "LookOn" };
+            let next = if is_read(*name, sight) {
+                "LookAgain"
+            } else {
+                "LookOn"
+            };
             write!(out, "looks at {key}, next {next}")
         }
     }

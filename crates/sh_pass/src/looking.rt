@@ -7,7 +7,7 @@ ghost use Rattle.sh_step.specs.Plans.{plan_of};
 ghost use Rattle.sh_table.specs.Seats.{IsSeat};
 ghost use Rattle.sh_table.specs.Views.{HeardOfInsert};
 ghost use Rattle.sh_pass.specs.Deciding.{Stepped, LooksDecide};
-ghost use Rattle.sh_pass.specs.Looking.{LookGrows};
+ghost use Rattle.sh_pass.specs.Looking.{HasMeasured, LookEnds, LookGrows};
 
 use sh_key::KeyLayout;
 use sh_slots::{KeyRef, is_live_at, is_past_at};
@@ -48,6 +48,63 @@ fn off_live(generation: u32, found: u64) -> Glance
     }
 }
 
+// Ends a look by the word of its value, which is the only one.
+#[inline(always)]
+fn look_at_word<L: KeyLayout>(
+    table: &HeapTable<L>,
+    seat: &mut PassSeat,
+    key: u64,
+    name: KeyRef,
+    value: &mut Value,
+) -> Glance
+    requires seat { IsSeat L.layout table.now seat.old }
+    requires slot { name.slot < 48 }
+    requires looking { HasMeasured key name 1 1 seat.old.me.0 }
+    ensures seat { IsSeat L.layout table.now seat.new }
+    ensures ends { LookEnds key name 1 1 result value.new seat.old.me.0 seat.new.me.0 }
+    ensures stays { result ≢ Glance.Seen → value.new ≡ value.old }
+{
+    let word = table.look_only_word(seat, key, name, first_word(name.slot, ONE_WORD));
+    let only = Value::from(word);
+    let after = table.look_again(seat, key, name, ONE_WORD, 1, &only);
+    if !is_live_at(name.generation, after) {
+        return Glance::Gone;
+    }
+    value.set(word);
+    Glance::Seen
+}
+
+// Ends a look by the words of its value, as many as the page has from the first one on. (It is a function of its own, so
+// that a look at a value of one word clears no room for more.)
+#[inline(never)]
+fn look_at_words<L: KeyLayout>(
+    table: &HeapTable<L>,
+    seat: &mut PassSeat,
+    key: u64,
+    name: KeyRef,
+    class_word: u64,
+    count: u64,
+    value: &mut Value,
+) -> Glance
+    requires seat { IsSeat L.layout table.now seat.old }
+    requires looking { HasMeasured key name class_word count seat.old.me.0 }
+    ensures seat { IsSeat L.layout table.now seat.new }
+    ensures ends { LookEnds key name class_word count result value.new seat.old.me.0 seat.new.me.0 }
+    ensures stays { result ≢ Glance.Seen → value.new ≡ value.old }
+{
+    let mut seen = Value::empty();
+    let first = first_word(name.slot, class_word);
+    for i in 0..words_to_read(first, count) {
+        seen.push(table.look_word(seat, key, name, class_word, count, &seen, first));
+    }
+    let after = table.look_again(seat, key, name, class_word, count, &seen);
+    if !is_live_at(name.generation, after) {
+        return Glance::Gone;
+    }
+    *value = seen;
+    Glance::Seen
+}
+
 /// Looks at a key. If its value is seen, it is then the caller's, replacing what that was. Otherwise the caller's value
 /// stays as it was.
 #[inline(always)]
@@ -75,24 +132,8 @@ pub(crate) fn look_at<L: KeyLayout>(
     let count = table.look_length(seat, key, name, class_word);
     // (Tests alone find a value of one word: the processor guesses how they end, and fetches the word meanwhile.)
     if class_word == ONE_WORD && count == 1 {
-        let word = table.look_only_word(seat, key, name, first_word(name.slot, ONE_WORD));
-        let only = Value::from(word);
-        let state = table.look_again(seat, key, name, ONE_WORD, 1, &only);
-        if !is_live_at(name.generation, state) {
-            return Glance::Gone;
-        }
-        value.set(word);
-        return Glance::Seen;
+        look_at_word(table, seat, key, name, value)
+    } else {
+        look_at_words(table, seat, key, name, class_word, count, value)
     }
-    let mut seen = Value::empty();
-    let first = first_word(name.slot, class_word);
-    for i in 0..words_to_read(first, count) {
-        seen.push(table.look_word(seat, key, name, class_word, count, &seen, first));
-    }
-    let after = table.look_again(seat, key, name, class_word, count, &seen);
-    if !is_live_at(name.generation, after) {
-        return Glance::Gone;
-    }
-    *value = seen;
-    Glance::Seen
 }

@@ -5,15 +5,11 @@ use Rattle.std.proofs.lemmas.List.{get_or-set_same, get_or-set_other, length-set
 use Rattle.sh_shape.specs.declared.places.Place.{Place}
 use Rattle.sh_shape.specs.declared.places.Place.TheVariants.{Class, Head, PageLink, State, Link, Length, Payload, Owner}
 use Rattle.sh_shape.specs.declared.places.Place.TheVariants.{Bell}
-use Rattle.sh_shape.specs.Shape.{Numbers, IsShape}
-use Rattle.sh_shape.specs.Places.{IsPlace, all_pages, words_of}
-use Rattle.sh_shape.proofs.PlaceLaws as places
+use Rattle.sh_shape.specs.Shape.{Numbers}
+use Rattle.sh_shape.specs.Places.{IsPlace, words_of}
 use Rattle.sh_core.specs.Words.{Words, write}
 use Rattle.sh_core.proofs.Sums.Writes.{read_same, read_other}
 use Rattle.sh_table.specs.TableNumbers.{table_number, HoldsInTable}
-
-pub few_pages : (shape : Numbers) → IsShape shape → all_pages shape ≤ 2 ^ 24
-few_pages = places.few_pages
 
 pub numbers_are_words : (shape : Numbers) (a : Place) → IsPlace shape a → table_number shape a < words_of shape
 numbers_are_words shape (Class page) is = omega arith
@@ -26,18 +22,15 @@ numbers_are_words shape (Payload page i) is = let a = is.0 in let b = is.1 in om
 numbers_are_words shape (Owner shard) is = omega arith
 numbers_are_words shape (Bell shard) is = omega arith
 
-same_two : (F : ℕ → ℕ → Place) (a b c d : ℕ) → a ≡ b → c ≡ d → F a c ≡ F b d
-same_two F a b c d h k = cc
-
 pub numbers_differ : (shape : Numbers) (a b : Place) → IsPlace shape a → IsPlace shape b
     → table_number shape a ≡ table_number shape b → a ≡ b
 numbers_differ shape (Class p) (Class q) ha hb e = ap Class (omega arith)
 numbers_differ shape (Head p) (Head q) ha hb e = ap Head (omega arith)
 numbers_differ shape (PageLink p) (PageLink q) ha hb e = ap PageLink (omega arith)
-numbers_differ shape (State p s) (State q t) ha hb e = same_two State p q s t (omega arith) (omega arith)
-numbers_differ shape (Link p s) (Link q t) ha hb e = same_two Link p q s t (omega arith) (omega arith)
-numbers_differ shape (Length p s) (Length q t) ha hb e = same_two Length p q s t (omega arith) (omega arith)
-numbers_differ shape (Payload p s) (Payload q t) ha hb e = same_two Payload p q s t (omega arith) (omega arith)
+numbers_differ shape (State p s) (State q t) ha hb e = let page : p ≡ q = omega arith in let at : s ≡ t = omega arith in cc
+numbers_differ shape (Link p s) (Link q t) ha hb e = let page : p ≡ q = omega arith in let at : s ≡ t = omega arith in cc
+numbers_differ shape (Length p s) (Length q t) ha hb e = let page : p ≡ q = omega arith in let at : s ≡ t = omega arith in cc
+numbers_differ shape (Payload p s) (Payload q t) ha hb e = let page : p ≡ q = omega arith in let at : s ≡ t = omega arith in cc
 numbers_differ shape (Owner p) (Owner q) ha hb e = ap Owner (omega arith)
 numbers_differ shape (Bell p) (Bell q) ha hb e = ap Bell (omega arith)
 numbers_differ shape _ _ ha hb e = absurd (omega arith)

@@ -11,7 +11,7 @@ pub const BODY_WORDS: u32 = 192;
 
 /// The number of the table's word at a place.
 #[inline(always)]
-#[tactic(auto, using(crate::proofs::TableNumberLaws::few_pages, crate::proofs::TableNumberLaws::numbers_are_words))]
+#[tactic(auto, using(sh_shape::proofs::PlaceLaws::few_pages, crate::proofs::TableNumberLaws::numbers_are_words))]
 pub fn table_number(shape: &Shape, place: Place) -> usize
     requires { IsPlace shape.now place }
     ensures is { result ≡ table_number shape.now place }

@@ -1,5 +1,6 @@
 //! The table's words as a heap opens.
 ghost use Rattle.std.specs.Prelude.{◌≡◌, ◌^◌, ◌≤◌, IfOk, IfErr};
+ghost use Rattle.sh_shape.specs.Shape.{IsShape};
 ghost use Rattle.sh_shape.specs.Places.{all_pages, words_of};
 ghost use Rattle.sh_core.specs.Kept.{RefusesToOpen};
 ghost use Rattle.sh_table.specs.TableOpening.{opening_word, opening_words, OpensTableWith};
@@ -28,7 +29,8 @@ fn word_at(pages: u32, number: u32) -> u64
 // The words of a table of this shape as it opens. All their memory is asked for at once.
 #[tactic(auto, using(crate::proofs::TableOpeningWords::opening_words_by_number))]
 fn words_of(alloc: Global, shape: &Shape) -> Result<Vec<u64>, AllocError>
-    ensures { IfOk result (λ words. words.items ≡ opening_words (all_pages shape.now) (words_of shape.now)) }
+    ensures words { IfOk result (λ words. words.items ≡ opening_words (all_pages shape.now) (words_of shape.now)) }
+    ensures shape { IsShape shape.now }
 {
     let pages = shape.shards() * shape.pages();
     let count = shape.words();
@@ -48,7 +50,6 @@ pub(crate) fn opening_of<L: KeyLayout>(alloc: Global, shape: &Shape) -> Result<V
     if !fits::<L>(shape) {
         return Err(Refusal::BadShape);
     }
-    let _passes = shape.passes();
     match words_of(alloc, shape) {
         Ok(words) => Ok(words),
         Err(_) => Err(Refusal::Memory),

@@ -89,7 +89,7 @@ is_place layout shape (Payload q s) h = h
 is_place layout shape (Owner q) h = h
 is_place layout shape (Bell q) h = h
 
-word_fits : (plan : Plan) (w : World) → BellsAreSmall plan w → (q : Place) → WordFits plan q (read w.words q)
+pub word_fits : (plan : Plan) (w : World) → BellsAreSmall plan w → (q : Place) → WordFits plan q (read w.words q)
 word_fits plan w h (Bell n) = let s = h.0 n in omega arith
 word_fits plan w h (PageLink q) = h.1 q
 word_fits plan w h _ = tt

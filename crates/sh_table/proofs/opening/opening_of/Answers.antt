@@ -9,7 +9,7 @@ returns-in-Ok-clause-opens g c =
     let P : List ℕ → Type 0 = λ xs. HoldsInTable c.args.shape.now xs opening in
     record {
       is_layout = g.L.KeyLayout.numbers.lawful;
-      is_shape = c.passes-passes.ensures.shape;
+      is_shape = c.words_of.ensures.shape;
       fits = c.fits.ensures.0 c.if-not-fits.false;
-      words = subst P (sym c.in-Ok.ensures) (opening_holds c.args.shape.now);
+      words = subst P (sym c.in-Ok.ensures.words) (opening_holds c.args.shape.now);
     }
