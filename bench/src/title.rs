@@ -63,6 +63,7 @@ impl Row {
             Workload::Read => format!("get + read + release, {}", read(self)),
             Workload::ReadInto => format!("get + read into + release, {}", read(self)),
             Workload::ReadGuard => format!("read by a guard, {}", read(self)),
+            Workload::Look => format!("look, {}", read(self)),
             Workload::Insert => format!("insert, {words}, beside {}", count(self.live, "value")),
             Workload::Fill => format!("fill with {}, {words}, {}", count(self.operations, "value"), shards(self)),
             Workload::Remove => format!("remove by the owner, {words}"),

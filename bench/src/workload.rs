@@ -12,6 +12,8 @@ pub enum Workload {
     ReadInto,
     /// As `Read`, and `tool_bench` holds and reads by a guard.
     ReadGuard,
+    /// As `ReadInto`, and `tool_bench` and the model read without a hold.
+    Look,
     Insert,
     /// Values are inserted, and none is removed.
     Fill,
@@ -24,12 +26,13 @@ pub enum Workload {
     Heed,
 }
 
-const WORKLOADS: [Workload; 13] = [
+const WORKLOADS: [Workload; 14] = [
     Workload::Get,
     Workload::GetGuard,
     Workload::Read,
     Workload::ReadInto,
     Workload::ReadGuard,
+    Workload::Look,
     Workload::Insert,
     Workload::Fill,
     Workload::Remove,
@@ -55,6 +58,7 @@ impl Workload {
             Workload::Read => "read",
             Workload::ReadInto => "read-into",
             Workload::ReadGuard => "read-guard",
+            Workload::Look => "look",
             Workload::Insert => "insert",
             Workload::Fill => "fill",
             Workload::Remove => "remove",

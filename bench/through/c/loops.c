@@ -9,7 +9,7 @@
 
 typedef struct loops {
     shardheap heap;
-    shardheap_pass owner, user; /* one that inserts, and one that owns nothing */
+    shardheap_pass owner, user; /* one that inserts, and one that does not */
 } loops;
 
 /* Sixteen values, each of `words` words. */
@@ -18,12 +18,13 @@ typedef struct samples {
     size_t length;
 } samples;
 
-loops *loops_open(uint64_t values, uint32_t words);
+loops *loops_open(uint64_t values, uint32_t words, uint32_t chunks);
 void loops_close(loops *all);
 uint64_t loops_get(loops *all, const uint64_t *keys, size_t count);
 uint64_t loops_get_own(loops *all, const uint64_t *keys, size_t count);
 uint64_t loops_read(loops *all, const uint64_t *keys, size_t count);
 uint64_t loops_load(loops *all, const uint64_t *keys, size_t count);
+uint64_t loops_load_own(loops *all, const uint64_t *keys, size_t count);
 uint64_t loops_load_in_eights(loops *all, const uint64_t *keys, size_t count);
 uint64_t loops_own_keys(loops *all, size_t count);
 uint64_t loops_insert(loops *all, const samples *samples, uint64_t *keys, size_t count);
@@ -35,16 +36,22 @@ static void must(uint32_t code) {
     exit(3);
 }
 
-/* A heap with room for this many values, an owner of its shard, and another pass. Its layout is wide if that has the
-   room, and deep if not. */
-loops *loops_open(uint64_t values, uint32_t words) {
+/* Opens a heap with room for this many values. Its layout is wide if that has the room, and deep if not. A heap that
+   may have chunks grows, and has the room in the first one. */
+static void open_heap(shardheap *heap, uint64_t values, uint32_t words, uint32_t chunks) {
+    if (chunks != 0) must(shardheap_open_growing(heap, 1, values, words, 2, chunks));
+    else if (shardheap_open_for(heap, SHARDHEAP_WIDE, 1, values, words, 2) != SHARDHEAP_OK)
+        must(shardheap_open_for(heap, SHARDHEAP_DEEP, 1, values, words, 2));
+}
+
+/* Such a heap, an owner of its shard, and another pass. In a heap that grows an insert adopts. */
+loops *loops_open(uint64_t values, uint32_t words, uint32_t chunks) {
     loops *all = calloc(1, sizeof *all);
     if (!all) must(SHARDHEAP_MEMORY);
-    if (shardheap_open_for(&all->heap, SHARDHEAP_WIDE, 1, values, words, 2) != SHARDHEAP_OK)
-        must(shardheap_open_for(&all->heap, SHARDHEAP_DEEP, 1, values, words, 2));
+    open_heap(&all->heap, values, words, chunks);
     must(shardheap_take(&all->heap, &all->owner));
     must(shardheap_take(&all->heap, &all->user));
-    must(shardheap_adopt(&all->owner, 0));
+    if (chunks == 0) must(shardheap_adopt(&all->owner, 0));
     return all;
 }
 
@@ -96,11 +103,21 @@ uint64_t loops_read(loops *all, const uint64_t *keys, size_t count) {
     return sum;
 }
 
-/* The same by one call for each key. */
+/* Reads the value of each key by one call, which keeps no hold. Returns the sum of the words. */
 uint64_t loops_load(loops *all, const uint64_t *keys, size_t count) {
     uint64_t words[WORDS], length, sum = 0;
     for (size_t n = 0; n < count; n++) {
         must(shardheap_load(&all->user, keys[n], words, WORDS, &length));
+        sum += sum_of(words, length);
+    }
+    return sum;
+}
+
+/* The same by the owner of the shard. */
+uint64_t loops_load_own(loops *all, const uint64_t *keys, size_t count) {
+    uint64_t words[WORDS], length, sum = 0;
+    for (size_t n = 0; n < count; n++) {
+        must(shardheap_load(&all->owner, keys[n], words, WORDS, &length));
         sum += sum_of(words, length);
     }
     return sum;

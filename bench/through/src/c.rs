@@ -9,12 +9,13 @@ struct Loops {
 }
 
 extern "C" {
-    fn loops_open(values: u64, words: u32) -> NonNull<Loops>;
+    fn loops_open(values: u64, words: u32, chunks: u32) -> NonNull<Loops>;
     fn loops_close(all: NonNull<Loops>);
     fn loops_get(all: NonNull<Loops>, keys: *const u64, count: usize) -> u64;
     fn loops_get_own(all: NonNull<Loops>, keys: *const u64, count: usize) -> u64;
     fn loops_read(all: NonNull<Loops>, keys: *const u64, count: usize) -> u64;
     fn loops_load(all: NonNull<Loops>, keys: *const u64, count: usize) -> u64;
+    fn loops_load_own(all: NonNull<Loops>, keys: *const u64, count: usize) -> u64;
     fn loops_load_in_eights(all: NonNull<Loops>, keys: *const u64, count: usize) -> u64;
     fn loops_own_keys(all: NonNull<Loops>, count: usize) -> u64;
     fn loops_insert(all: NonNull<Loops>, samples: *const Samples, keys: *mut u64, count: usize) -> u64;
@@ -33,9 +34,9 @@ impl Drop for C {
 }
 
 impl Side for C {
-    fn open(values: u64, words: u32) -> C {
+    fn open(values: u64, words: u32, chunks: u32) -> C {
         // SAFETY: it takes numbers alone, and ends the program if it cannot open.
-        C { all: unsafe { loops_open(values, words) } }
+        C { all: unsafe { loops_open(values, words, chunks) } }
     }
 
     fn get_each(&mut self, keys: &[u64]) -> u64 {
@@ -61,6 +62,11 @@ impl Side for C {
     fn load_each(&mut self, keys: &[u64]) -> u64 {
         // SAFETY: as in `get_each`.
         unsafe { loops_load(self.all, keys.as_ptr(), keys.len()) }
+    }
+
+    fn load_each_own(&mut self, keys: &[u64]) -> u64 {
+        // SAFETY: as in `get_each`.
+        unsafe { loops_load_own(self.all, keys.as_ptr(), keys.len()) }
     }
 
     fn load_each_into(&mut self, keys: &[u64]) -> u64 {

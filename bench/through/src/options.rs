@@ -8,8 +8,10 @@ pub enum Workload {
     GetOwn,
     Read,
     ReadInto,
-    /// A get, a read and a release by one call.
+    /// The value of a key by one call, which keeps no hold.
     Load,
+    /// As `Load`, by the owner of the shard.
+    LoadOwn,
     /// The same, into a value of the caller's.
     LoadInto,
     /// Loads in batches of eight keys, each by one call.
@@ -28,6 +30,8 @@ pub struct Options {
     /// How many values there are.
     pub live: usize,
     pub words: usize,
+    /// How many chunks the heap may have, or 0 for one that does not grow.
+    pub chunks: u32,
 }
 
 fn workload(name: &str) -> Result<Workload, String> {
@@ -37,6 +41,7 @@ fn workload(name: &str) -> Result<Workload, String> {
         "read" => Ok(Workload::Read),
         "read-into" => Ok(Workload::ReadInto),
         "load" => Ok(Workload::Load),
+        "load-own" => Ok(Workload::LoadOwn),
         "load-into" => Ok(Workload::LoadInto),
         "load-each" => Ok(Workload::LoadEach),
         "own-keys" => Ok(Workload::OwnKeys),
@@ -50,9 +55,12 @@ impl Options {
     /// What the words ask for, of which the first is the workload, and then options and their numbers.
     pub fn of(words: &[&str]) -> Result<Options, String> {
         let (name, rest) = words.split_first().ok_or("no workload")?;
-        let mut options = Options { workload: workload(name)?, operations: 1000, live: 1, words: 1 };
+        let mut options = Options { workload: workload(name)?, operations: 1000, live: 1, words: 1, chunks: 0 };
         for pair in rest.chunks(2) {
             options.set(pair)?;
+        }
+        if options.chunks > 0 && options.workload == Workload::OwnKeys {
+            return Err("a heap that grows lists no keys".to_string());
         }
         Ok(options)
     }
@@ -63,6 +71,7 @@ impl Options {
             ("--operations", number) => self.operations = number,
             ("--live", number) if number > 0 => self.live = number,
             ("--words", number @ 1..=16) => self.words = number,
+            ("--chunks", number @ 1..=256) => self.chunks = number as u32,
             (option, number) => return Err(format!("no option {option} {number}")),
         }
         Ok(())
@@ -75,9 +84,10 @@ mod tests {
 
     #[test]
     fn words_are_options() {
-        let options = Options::of(&["load-into", "--operations", "9", "--live", "3", "--words", "16"]);
-        assert_eq!(options, Ok(Options { workload: Workload::LoadInto, operations: 9, live: 3, words: 16 }));
-        let usual = Options { workload: Workload::Get, operations: 1000, live: 1, words: 1 };
+        let numbers = ["--operations", "9", "--live", "3", "--words", "16", "--chunks", "2"];
+        let options = Options::of(&[&["load-into"], &numbers[..]].concat());
+        assert_eq!(options, Ok(Options { workload: Workload::LoadInto, operations: 9, live: 3, words: 16, chunks: 2 }));
+        let usual = Options { workload: Workload::Get, operations: 1000, live: 1, words: 1, chunks: 0 };
         assert_eq!(Options::of(&["get"]), Ok(usual));
     }
 
@@ -85,6 +95,9 @@ mod tests {
     fn wrong_words_are_refused() {
         for words in [&[][..], &["set"], &["get", "--live"], &["get", "--live", "0"], &["get", "--words", "17"]] {
             assert!(Options::of(words).is_err(), "{words:?}");
+        }
+        for words in [["get", "--chunks", "257"], ["own-keys", "--chunks", "1"]] {
+            assert!(Options::of(&words).is_err(), "{words:?}");
         }
     }
 }

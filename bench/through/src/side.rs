@@ -30,8 +30,8 @@ impl Samples {
 /// A heap with an owner of its shard and a pass that owns nothing, by the calls of the library. Each function is one
 /// loop, in the side's language. A call that is refused ends the program: none should be.
 pub trait Side: Sized {
-    /// With room for `values` values of `words` words.
-    fn open(values: u64, words: u32) -> Self;
+    /// With room for `values` values of `words` words. With 0 chunks the heap does not grow.
+    fn open(values: u64, words: u32, chunks: u32) -> Self;
 
     /// Takes a hold on each key and gives it back. Answers the sum of the keys.
     fn get_each(&mut self, keys: &[u64]) -> u64;
@@ -45,8 +45,11 @@ pub trait Side: Sized {
     /// The same, into one value of the caller's.
     fn read_each_into(&mut self, keys: &[u64]) -> u64;
 
-    /// The same as `read_each`, by one call for each key.
+    /// Reads the value of each key by one call, which keeps no hold. Answers the sum of the words.
     fn load_each(&mut self, keys: &[u64]) -> u64;
+
+    /// The same, by the owner of the shard.
+    fn load_each_own(&mut self, keys: &[u64]) -> u64;
 
     /// The same as `load_each`, into one value of the caller's.
     fn load_each_into(&mut self, keys: &[u64]) -> u64;

@@ -27,6 +27,7 @@ fn use_each<S: Side>(side: &mut S, keys: &[u64], workload: Workload) -> u64 {
         Workload::Read => side.read_each(keys),
         Workload::ReadInto => side.read_each_into(keys),
         Workload::Load => side.load_each(keys),
+        Workload::LoadOwn => side.load_each_own(keys),
         Workload::LoadInto => side.load_each_into(keys),
         Workload::LoadEach => side.load_in_eights(keys),
         Workload::GetOwn => side.get_each_own(keys),
@@ -79,7 +80,7 @@ fn inserting<S: Side>(side: &mut S, samples: &Samples, options: &Options) -> (Du
 
 /// The time of all operations, and a sum of what they answered.
 pub fn measure<S: Side>(options: &Options) -> (Duration, u64) {
-    let mut side = S::open((options.live + BATCH) as u64, options.words as u32);
+    let mut side = S::open((options.live + BATCH) as u64, options.words as u32, options.chunks);
     let samples = Samples::new(options.words);
     let mut keys = vec![0; options.live];
     side.insert_each(&samples, &mut keys);
@@ -94,19 +95,35 @@ mod tests {
     use super::*;
     use crate::{c::C, rust::Rust};
 
-    fn sums(workload: Workload, live: usize, words: usize) -> u64 {
-        let options = Options { workload, operations: 2000, live, words };
+    const READING: [Workload; 6] =
+        [Workload::Read, Workload::ReadInto, Workload::Load, Workload::LoadOwn, Workload::LoadInto, Workload::LoadEach];
+
+    fn sums_of(options: Options) -> u64 {
         let (rust, c) = (measure::<Rust>(&options).1, measure::<C>(&options).1);
         assert_eq!(rust, c, "{options:?}");
         rust
     }
 
+    fn sums(workload: Workload, live: usize, words: usize) -> u64 {
+        sums_of(Options { workload, operations: 2000, live, words, chunks: 0 })
+    }
+
     #[test]
     fn both_sides_read_the_words_that_were_stored() {
-        let ways = [Workload::Read, Workload::ReadInto, Workload::Load, Workload::LoadInto, Workload::LoadEach];
-        for way in ways {
+        for way in READING {
             assert_eq!(sums(way, 1, 16), 2000 * 120, "the words 0 to 15");
             assert_eq!(sums(way, 8, 1), 250 * 16 * 28, "each of the words 0, 16, .., 112 so often");
+        }
+    }
+
+    #[test]
+    fn both_sides_read_them_in_a_heap_that_grows() {
+        for way in READING {
+            let options = Options { workload: way, operations: 2000, live: 8, words: 1, chunks: 2 };
+            assert_eq!(sums_of(options), 250 * 16 * 28);
+        }
+        for workload in [Workload::Get, Workload::GetOwn, Workload::Insert, Workload::Remove] {
+            assert_ne!(sums_of(Options { workload, operations: 2000, live: 3, words: 2, chunks: 2 }), 0);
         }
     }
 
