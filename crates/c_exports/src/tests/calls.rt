@@ -176,8 +176,8 @@ fn four_holds(rt: &impl Abort, alloc: Global, pass: &mut PassHandle) -> u64 {
     key
 }
 
-// A pass may have sixteen holds. A load needs no room for one more, except of a key that was not issued, such as that of
-// the next slot: it goes on to a get.
+// A pass may have sixteen holds. A load needs no room for one more, except of a key that was not issued, such as that
+// of the next slot: it goes on to a get.
 fn all_holds(rt: &impl Abort, alloc: Global, pass: &mut PassHandle) {
     for _ in 0..3 {
         four_holds(rt, alloc, pass);
