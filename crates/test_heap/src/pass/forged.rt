@@ -2,7 +2,6 @@
 //! of the heap, which the test computes from the number's digits, and otherwise `BadKey`.
 use super::*;
 use sh_key::Tagged;
-use sh_member::Reader;
 use std::fmt::Debug;
 
 /// What a number names, if it is a key.
@@ -75,7 +74,7 @@ fn agree_at<T: PartialEq + Debug + Drop>(rt: &impl Abort, number: u64, found: T,
     assert_eq!(rt; found, wanted, "{number}");
 }
 
-/// A get, a look and a removal of the number are refused with this refusal.
+/// A get and a removal of the number are refused with this refusal.
 fn is_refused<L: KeyLayout>(
     rt: &impl Abort,
     pass: &mut Pass<'_, L>,
@@ -83,7 +82,6 @@ fn is_refused<L: KeyLayout>(
     refusal: Refusal,
 ) {
     agree_at(rt, number, pass.get(number), Err(refusal));
-    agree_at(rt, number, pass.look(number), Err(refusal));
     agree_at(rt, number, pass.remove(number), Err(refusal));
 }
 
