@@ -1,46 +1,32 @@
 //! The library from Rust: the calls of the crate `gearlongan`.
-use crate::side::{Samples, Side, EIGHT};
+use crate::side::{Place, Samples, Side, User, EIGHT};
 use gearlongan::{Caller, Error, Heap, Key, Layout, Pass, Room, Shard, Value};
 use std::fmt::Display;
 use std::ops::Deref;
 use std::process::exit;
 
-/// What inserts.
-enum Owner {
+/// What uses keys. Each lies in lines of the cache of its own.
+#[repr(align(64))]
+pub enum Any {
     Shard(Shard),
+    Pass(Pass),
     /// In a heap that grows.
     Caller(Caller),
 }
 
-/// What owns nothing.
-enum User {
-    Pass(Pass),
-    Caller(Caller),
-}
-
 pub struct Rust {
-    owner: Owner,
-    user: User,
+    owner: Any,
+    users: Vec<Any>,
 }
 
-impl Deref for Owner {
+impl Deref for Any {
     type Target = Pass;
 
     fn deref(&self) -> &Pass {
         match self {
-            Owner::Shard(shard) => shard,
-            Owner::Caller(caller) => caller,
-        }
-    }
-}
-
-impl Deref for User {
-    type Target = Pass;
-
-    fn deref(&self) -> &Pass {
-        match self {
-            User::Pass(pass) => pass,
-            User::Caller(caller) => caller,
+            Any::Shard(shard) => shard,
+            Any::Pass(pass) => pass,
+            Any::Caller(caller) => caller,
         }
     }
 }
@@ -71,12 +57,6 @@ fn sum_over(keys: &[u64], mut one: impl FnMut(Key) -> Result<u64, Error>) -> u64
     keys.iter().fold(0, |sum, key| sum.wrapping_add(must(one(Key::from(*key)))))
 }
 
-// Loads the value of each key, by this pass.
-#[inline]
-fn load_each_by(pass: &Pass, keys: &[u64]) -> u64 {
-    sum_over(keys, |key| Ok(sum_of(&pass.load(key)?)))
-}
-
 // Inserts a value for each key, by this call.
 #[inline]
 fn insert_each_by(samples: &Samples, keys: &mut [u64], insert: impl Fn(&[u64]) -> Result<Key, Error>) -> u64 {
@@ -88,81 +68,84 @@ fn insert_each_by(samples: &Samples, keys: &mut [u64], insert: impl Fn(&[u64]) -
     sum
 }
 
-impl Rust {
-    fn growing(room: Room, chunks: u32) -> Rust {
-        let heap = must(Heap::growing(room, chunks));
-        let [owner, user] = [must(heap.take()), must(heap.take())];
-        Rust { owner: Owner::Caller(owner), user: User::Caller(user) }
-    }
-
-    fn fixed(room: Room) -> Rust {
-        let heap = must(Heap::open_for(Layout::Wide, room).or_else(|_| Heap::open_for(Layout::Deep, room)));
-        let (pass, user) = (must(heap.take()), must(heap.take()));
-        Rust { owner: Owner::Shard(must(pass.adopt(0))), user: User::Pass(user) }
-    }
-}
-
-impl Side for Rust {
-    fn open(values: u64, words: u32, chunks: u32) -> Rust {
-        let room = Room { owners: 1, values, words, passes: 2 };
-        if chunks == 0 {
-            Rust::fixed(room)
-        } else {
-            Rust::growing(room, chunks)
-        }
-    }
-
+impl User for Any {
     fn get_each(&mut self, keys: &[u64]) -> u64 {
-        let user: &Pass = &self.user;
-        sum_over(keys, |key| Ok(user.get(key)?.key().into()))
-    }
-
-    fn get_each_own(&mut self, keys: &[u64]) -> u64 {
-        let owner: &Pass = &self.owner;
-        sum_over(keys, |key| Ok(owner.get(key)?.key().into()))
+        let pass: &Pass = self;
+        sum_over(keys, |key| Ok(pass.get(key)?.key().into()))
     }
 
     fn read_each(&mut self, keys: &[u64]) -> u64 {
-        let user: &Pass = &self.user;
-        sum_over(keys, |key| Ok(sum_of(&user.get(key)?)))
+        let pass: &Pass = self;
+        sum_over(keys, |key| Ok(sum_of(&pass.get(key)?)))
     }
 
     fn read_each_into(&mut self, keys: &[u64]) -> u64 {
-        let (user, mut value): (&Pass, _) = (&self.user, Value::default());
+        let (pass, mut value): (&Pass, _) = (self, Value::default());
         sum_over(keys, |key| {
-            user.get(key)?.read_into(&mut value);
+            pass.get(key)?.read_into(&mut value);
             Ok(sum_of(&value))
         })
     }
 
     fn load_each(&mut self, keys: &[u64]) -> u64 {
-        load_each_by(&self.user, keys)
-    }
-
-    fn load_each_own(&mut self, keys: &[u64]) -> u64 {
-        load_each_by(&self.owner, keys)
+        let pass: &Pass = self;
+        sum_over(keys, |key| Ok(sum_of(&pass.load(key)?)))
     }
 
     fn load_each_into(&mut self, keys: &[u64]) -> u64 {
-        let (user, mut value): (&Pass, _) = (&self.user, Value::default());
+        let (pass, mut value): (&Pass, _) = (self, Value::default());
         sum_over(keys, |key| {
-            user.load_into(key, &mut value)?;
+            pass.load_into(key, &mut value)?;
             Ok(sum_of(&value))
         })
     }
 
     fn load_in_eights(&mut self, keys: &[u64]) -> u64 {
-        let user: &Pass = &self.user;
+        let pass: &Pass = self;
         let mut results = [Ok(Value::default()); EIGHT];
         keys.chunks_exact(EIGHT).fold(0, |sum, eight| {
             let eight: [Key; EIGHT] = std::array::from_fn(|n| Key::from(eight[n]));
-            user.load_each(&eight, &mut results);
+            pass.load_each(&eight, &mut results);
             results.iter().fold(sum, |sum, value| sum.wrapping_add(sum_of(&must(*value))))
         })
     }
+}
+
+impl Rust {
+    fn growing(room: Room, chunks: u32, users: u32) -> Rust {
+        let heap = must(Heap::growing(room, chunks));
+        let caller = |_| Any::Caller(must(heap.take()));
+        Rust { owner: caller(0), users: (0..users).map(caller).collect() }
+    }
+
+    fn fixed(room: Room, users: u32) -> Rust {
+        let heap = must(Heap::open_for(Layout::Wide, room).or_else(|_| Heap::open_for(Layout::Deep, room)));
+        let owner = Any::Shard(must(must(heap.take()).adopt(0)));
+        Rust { owner, users: (0..users).map(|_| Any::Pass(must(heap.take()))).collect() }
+    }
+}
+
+impl Side for Rust {
+    type User = Any;
+
+    fn open(Place { values, words, chunks, users }: Place) -> Rust {
+        let room = Room { owners: 1, values, words, passes: users + 1 };
+        match chunks {
+            0 => Rust::fixed(room, users),
+            chunks => Rust::growing(room, chunks, users),
+        }
+    }
+
+    fn owner(&mut self) -> &mut Any {
+        &mut self.owner
+    }
+
+    fn users(&mut self) -> &mut [Any] {
+        &mut self.users
+    }
 
     fn own_keys(&mut self, count: usize) -> u64 {
-        let Owner::Shard(owner) = &self.owner else { refused(&"a heap that grows lists no keys") };
+        let Any::Shard(owner) = &self.owner else { refused(&"a heap that grows lists no keys") };
         let (mut sum, mut given) = (0u64, 0);
         while given < count {
             for key in owner.keys().take(count - given) {
@@ -175,8 +158,9 @@ impl Side for Rust {
 
     fn insert_each(&mut self, samples: &Samples, keys: &mut [u64]) -> u64 {
         match &self.owner {
-            Owner::Shard(shard) => insert_each_by(samples, keys, |words| shard.insert(words)),
-            Owner::Caller(caller) => insert_each_by(samples, keys, |words| caller.insert(words)),
+            Any::Shard(shard) => insert_each_by(samples, keys, |words| shard.insert(words)),
+            Any::Caller(caller) => insert_each_by(samples, keys, |words| caller.insert(words)),
+            Any::Pass(_) => refused(&"a pass that owns nothing cannot insert"),
         }
     }
 
