@@ -48,27 +48,22 @@ module _ (lines : List (ℕ × Entry)) (key : ℕ) (note : Note) (is : IsNote li
     go (Some line) some =
         record { is_why = (is_issued, is_removed_at line some); by = sym some ∙ is.removed }
 
-  pub got_judged : (passes guard_max pass : ℕ) (value : List ℕ) → note.value ≡ value
+  -- a get and a look of the value are judged alike
+  pub read_judged : (passes guard_max pass : ℕ) (value : List ℕ) → note.value ≡ value
       → IsJudged passes guard_max lines (Got pass key value) (after_removal note.removed)
-  got_judged passes guard_max pass value same = go note.removed refl where
+      × IsJudged passes guard_max lines (Seen pass key value) (after_removal note.removed)
+  read_judged passes guard_max pass value same = go note.removed refl where
     of_value : value_of (entries_in lines) key ≡ Some value
     of_value = issued ∙ ap Some same
 
     go : (removed : Option ℕ) → note.removed ≡ removed
         → IsJudged passes guard_max lines (Got pass key value) (after_removal removed)
-    go None none = (of_value, not_removed none)
-    go (Some line) some = record { is_why = (of_value, is_removed_at line some); by = sym some ∙ is.removed }
-
-  pub seen_judged : (passes guard_max pass : ℕ) (value : List ℕ) → note.value ≡ value
-      → IsJudged passes guard_max lines (Seen pass key value) (after_removal note.removed)
-  seen_judged passes guard_max pass value same = go note.removed refl where
-    of_value : value_of (entries_in lines) key ≡ Some value
-    of_value = issued ∙ ap Some same
-
-    go : (removed : Option ℕ) → note.removed ≡ removed
-        → IsJudged passes guard_max lines (Seen pass key value) (after_removal removed)
-    go None none = (of_value, not_removed none)
-    go (Some line) some = record { is_why = (of_value, is_removed_at line some); by = sym some ∙ is.removed }
+        × IsJudged passes guard_max lines (Seen pass key value) (after_removal removed)
+    go None none = ((of_value, not_removed none), (of_value, not_removed none))
+    go (Some line) some = (
+      record { is_why = (of_value, is_removed_at line some); by = sym some ∙ is.removed },
+      record { is_why = (of_value, is_removed_at line some); by = sym some ∙ is.removed },
+    )
 
   pub crowded_after : (passes guard_max pass line : ℕ) → note.removed ≡ Some line
       → IsJudged passes guard_max lines (Crowded pass key) (after_removal note.removed)

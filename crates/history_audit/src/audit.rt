@@ -8,9 +8,7 @@ ghost use Rattle.history_audit.specs.Lines.{entries_in};
 ghost use Rattle.history_audit.specs.Noted.{IsJudged};
 ghost use Rattle.history_audit.specs.Followed.{Follows};
 
-use crate::clash::{
-    Clash, of_crowded, of_gone, of_got, of_insert, of_released, of_removed, of_seen,
-};
+use crate::clash::{Clash, of_crowded, of_gone, of_insert, of_read, of_released, of_removed};
 use crate::holds::Holds;
 use crate::note::Note;
 use sh_history::Entry;
@@ -89,14 +87,14 @@ impl Audit {
     {
         match entry {
             Entry::Insert(_, key, _) => of_insert(self.notes.get(key)),
-            Entry::Got(_, key, value) => of_got(self.notes.get(key), value),
+            Entry::Got(_, key, value) => of_read(self.notes.get(key), value),
+            Entry::Seen(_, key, value) => of_read(self.notes.get(key), value),
             Entry::Gone(_, key) => of_gone(self.notes.get(key)),
             Entry::Crowded(_, key) => {
                 of_crowded(self.notes.get(key), self.passes, self.guard_max)
             }
             Entry::Removed(_, key) => of_removed(self.notes.get(key)),
             Entry::Released(pass, key) => of_released(self.holds.count(*pass, *key)),
-            Entry::Seen(_, key, value) => of_seen(self.notes.get(key), value),
         }
     }
 

@@ -63,27 +63,12 @@ pub fn of_insert(note: Option<&Note>) -> Option<Clash>
     }
 }
 
-/// Why a get may not give this value.
-pub fn of_got(note: Option<&Note>, value: &Value) -> Option<Clash>
-    ensures { (passes guard_max : ℕ) (lines : List (ℕ × Entry)) (pass key : ℕ)
+/// Why a get or a look may not give this value.
+pub fn of_read(note: Option<&Note>, value: &Value) -> Option<Clash>
+    ensures got { (passes guard_max : ℕ) (lines : List (ℕ × Entry)) (pass key : ℕ)
         → IsNote lines key (option_copied note.entry)
         → IsJudged passes guard_max lines (Got pass key value.now) result }
-{
-    match note {
-        None => missing(Why::NotIssued),
-        Some(note) => {
-            if note.value != *value {
-                with_insert(Why::OtherValue, note)
-            } else {
-                with_removal(note)
-            }
-        }
-    }
-}
-
-/// Why a look may not give this value.
-pub fn of_seen(note: Option<&Note>, value: &Value) -> Option<Clash>
-    ensures { (passes guard_max : ℕ) (lines : List (ℕ × Entry)) (pass key : ℕ)
+    ensures seen { (passes guard_max : ℕ) (lines : List (ℕ × Entry)) (pass key : ℕ)
         → IsNote lines key (option_copied note.entry)
         → IsJudged passes guard_max lines (Seen pass key value.now) result }
 {

@@ -1,6 +1,6 @@
 -- What is left after a get, a read and a release in a row.
-use Rattle.std.proofs.Common.{◌≡◌, ℕ, ◌+◌, ◌≤◌, Bool, true, cond, List, [], ◌∷◌, ◌++◌, map, length, refl, sym, ◌∙◌, ap}
-use Rattle.std.proofs.Common.{subst, arith, eq-eqb, append_assoc, inr, Option, Some, None, IsSome}
+use Rattle.std.proofs.Common.{◌≡◌, ℕ, ◌+◌, true, cond, List, [], ◌∷◌, ◌++◌, map, length, refl, sym, ◌∙◌, ap}
+use Rattle.std.proofs.Common.{subst, arith, eq-eqb, append_assoc, inr, Option, None, IsSome}
 use Rattle.std.specs.Prelude.{◌==◌, Ok, Err, false}
 use Rattle.std.proofs.lemmas.List.{map-append}
 use Rattle.sh_table.specs.Entry.TheVariants as entry
@@ -9,7 +9,6 @@ use Rattle.sh_table.specs.LogEntry.{LogEntry}
 use Rattle.sh_key.specs.Layout.{Layout}
 use Rattle.sh_table.specs.Moves.{place_named}
 use Rattle.sh_table.specs.Plans.{plan_of}
-use Rattle.sh_table.specs.Shape.{Numbers}
 use Rattle.sh_value.specs.declared.hold.Hold.{Hold}
 use Rattle.sh_value.specs.declared.refusal.Refusal.{Refusal}
 use Rattle.sh_value.specs.declared.refusal.Refusal.TheVariants as refusal

@@ -180,6 +180,14 @@ fn gone_before_the_insert_is_found(rt: HostRuntime) {
     );
 }
 
+#[test]
+fn a_value_before_the_insert_is_found(rt: HostRuntime) {
+    holds(
+        &rt,
+        has_no_order(found(&rt, rt.alloc(), Defect::SeenBeforeInsert)),
+    );
+}
+
 // With one pass a key is crowded only if it has as many holds as it may have.
 #[test]
 fn crowded_without_a_holder_is_found(rt: HostRuntime) {

@@ -8,7 +8,7 @@ pub enum Turn {
     Get,
     /// Gets by a guard a key that a thread left on the board, and reads its value.
     Guard,
-    /// Gets a number that may be a key.
+    /// Gets or looks at a number that may be a key.
     Guess,
     /// Reads what it holds.
     Read,

@@ -71,12 +71,21 @@ fn note_copied(record: &mut Record, key: u64, span: Span, answer: Result<Value, 
     }
 }
 
-/// Looks at a key.
-pub fn look<U: User>(user: &mut U, record: &mut Record, moments: &Moments, key: u64) {
+/// Looks at a key. A guessed number may be no key.
+pub fn look<U: User>(
+    user: &mut U,
+    record: &mut Record,
+    moments: &Moments,
+    key: u64,
+    guessed: bool,
+) {
     let begin = moments.next();
     let answer = user.look(key);
     let span = moments.since(begin);
-    note_copied(record, key, span, answer);
+    match answer {
+        Err(Refusal::BadKey) if guessed => record.counts.one(Count::BadKeys),
+        answer => note_copied(record, key, span, answer),
+    }
 }
 
 /// Copies the value of a key within one call.

@@ -113,7 +113,8 @@ public:
             shardheap_take_value(&raw_, of.number(), into.words_, value::max_size(), &into.size_));
     }
 
-    /// Takes the value of a key as a record. wrong_size, after which the key is as it was, and those of a take.
+    /// Takes the value of a key as a record, by a load and a removal. wrong_size, after which the key is as it was, and
+    /// those of a load.
     ///
     ///     double number = 0;
     ///     assert(pass.try_take_record(key, number) == gearlongan::errc::wrong_size && pass.load(key));

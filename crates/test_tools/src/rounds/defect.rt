@@ -25,6 +25,8 @@ pub enum Defect {
     LooksElsewhere,
     /// A look says that a key is gone whose word is from before its insert.
     GoneBeforeInsert,
+    /// A look at a key that is yet to be inserted returns the value of the key before it.
+    SeenBeforeInsert,
     /// The accounts of a page have a value too many.
     WrongSums,
     /// A get is refused as crowded, though nobody holds the key.

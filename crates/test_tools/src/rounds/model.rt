@@ -153,6 +153,11 @@ impl Model {
     pub fn read(&mut self, key: u64) -> Result<Value, Refusal> {
         self.calls = self.calls.saturating_add(1);
         let place = self.place_of(key).ok_or(Refusal::NotHeld)?;
+        self.read_at(place)
+    }
+
+    // The value of the slot at this place.
+    fn read_at(&mut self, place: usize) -> Result<Value, Refusal> {
         let slot = self.slots.get_mut(place).ok_or(Refusal::NotHeld)?;
         slot.reads = slot.reads.wrapping_add(1);
         Ok(Model::value_read(self.defect, slot))

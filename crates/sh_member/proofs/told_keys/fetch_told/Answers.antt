@@ -32,3 +32,9 @@ returns-clause-told g c =
     let does = subst (λ (v : Caller). FetchDoes layout key v c.fetch.result after) c.heed.ensures.heeds
     c.fetch.ensures.does in
     look_decides layout key c.args.told.receipt (g.R.Reader.caller c.args.reader.now) after c.fetch.result does
+
+pub returns-clause-does : goal.returns-clause-does
+returns-clause-does g c =
+    let after : Caller = g.R.Reader.caller c.fetch.new.self in
+    subst (λ (v : Caller). FetchDoes g.R.Reader.layout c.args.told.key v c.fetch.result after) c.heed.ensures.heeds
+    c.fetch.ensures.does

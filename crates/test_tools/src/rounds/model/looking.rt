@@ -1,6 +1,6 @@
 //! Looks of the model: a load of the slot's word, the value, and the word again.
 use crate::rounds::defect::Defect;
-use crate::rounds::model::{Model, Slot};
+use crate::rounds::model::{Model, Slot, key_of};
 use sh_key::{KeyLayout, Tiny};
 use sh_value::{Refusal, Value};
 
@@ -46,12 +46,30 @@ impl Model {
         }
     }
 
-    // The value of a key whose slot is at this place, if its word is live after the value was read.
-    fn seen(&mut self, key: u64, place: usize) -> Result<Value, Refusal> {
-        let value = self.read(key)?;
+    // The value of the slot at this place, if its word is live after the value was read.
+    fn seen(&mut self, place: usize) -> Result<Value, Refusal> {
+        let value = self.read_at(place)?;
         match self.load_again(place) {
             Word::Live => Ok(value),
             Word::Before | Word::Past => Err(Refusal::Gone),
+        }
+    }
+
+    // The place of the slot that has the key before this one.
+    fn place_before(&self, key: u64) -> Option<usize> {
+        self.slots.iter().position(|slot| {
+            let next = slot.generation.saturating_add(1);
+            key_of(slot.page, slot.number, next) == Some(key)
+        })
+    }
+
+    // The place of the slot that a look at this key loads.
+    fn place_to_look_at(&self, key: u64) -> Option<usize> {
+        let place = self.place_of(key);
+        if self.defect == Defect::SeenBeforeInsert {
+            place.or(self.place_before(key))
+        } else {
+            place
         }
     }
 
@@ -61,11 +79,11 @@ impl Model {
         if Tiny::unpack(key).is_none() {
             return Err(Refusal::BadKey);
         }
-        let place = self.place_of(key).ok_or(Refusal::Gone)?;
+        let place = self.place_to_look_at(key).ok_or(Refusal::Gone)?;
         match self.load(place) {
             Word::Before if self.defect != Defect::GoneBeforeInsert => self.get_and_read(key),
             Word::Before | Word::Past => Err(Refusal::Gone),
-            Word::Live => self.seen(key, place),
+            Word::Live => self.seen(place),
         }
     }
 }
