@@ -30,13 +30,16 @@ loops *loops_open(uint64_t values, uint32_t words, uint32_t chunks, uint32_t use
 void loops_close(loops *all);
 shardheap_pass *loops_owner(loops *all);
 shardheap_pass *loops_user(loops *all, uint32_t number);
-uint64_t loops_get(shardheap_pass *pass, const uint64_t *keys, size_t count);
-uint64_t loops_read(shardheap_pass *pass, const uint64_t *keys, size_t count);
-uint64_t loops_load(shardheap_pass *pass, const uint64_t *keys, size_t count);
-uint64_t loops_load_in_eights(shardheap_pass *pass, const uint64_t *keys, size_t count);
-uint64_t loops_own_keys(shardheap_pass *owner, size_t count);
-uint64_t loops_insert(shardheap_pass *owner, const samples *samples, uint64_t *keys, size_t count);
-void loops_remove(shardheap_pass *owner, const uint64_t *keys, size_t count);
+
+/* The loops of a pass. It is not null, which a compiler sees of a pass that is a variable. */
+#define LOOP __attribute__((nonnull))
+LOOP uint64_t loops_get(shardheap_pass *pass, const uint64_t *keys, size_t count);
+LOOP uint64_t loops_read(shardheap_pass *pass, const uint64_t *keys, size_t count);
+LOOP uint64_t loops_load(shardheap_pass *pass, const uint64_t *keys, size_t count);
+LOOP uint64_t loops_load_in_eights(shardheap_pass *pass, const uint64_t *keys, size_t count);
+LOOP uint64_t loops_own_keys(shardheap_pass *owner, size_t count);
+LOOP uint64_t loops_insert(shardheap_pass *owner, const samples *samples, uint64_t *keys, size_t count);
+LOOP void loops_remove(shardheap_pass *owner, const uint64_t *keys, size_t count);
 
 static void must(uint32_t code) {
     if (code == SHARDHEAP_OK) return;

@@ -46,7 +46,8 @@ fn rounds(keys: &[u64], options: &Options, mut one: impl FnMut(&[u64]) -> u64) -
     (start.elapsed(), sum)
 }
 
-// The time of the slowest of the users, each in a thread of its own, and the sum of what all were answered.
+// The time of the slowest of the users, each in a thread of its own, and the sum of what all were answered. A user alone
+// is in this thread.
 fn together<U: User>(users: &mut [U], walk: &[u64], options: &Options) -> (Duration, u64) {
     let gate = &Gate::new(users.len());
     let job = |user: &mut U| {
@@ -54,6 +55,9 @@ fn together<U: User>(users: &mut [U], walk: &[u64], options: &Options) -> (Durat
         gate.pass();
         rounds(walk, options, |keys| use_each(user, keys, options.workload))
     };
+    if let [user] = users {
+        return job(user);
+    }
     thread::scope(|scope| {
         let threads: Vec<_> = users.iter_mut().map(|user| scope.spawn(move || job(user))).collect();
         let done = threads.into_iter().map(|thread| thread.join().expect("the thread ends well"));
