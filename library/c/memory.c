@@ -1,6 +1,6 @@
 /* Each allocation refused in turn: a call that takes memory answers MEMORY and leaves all as it was, so that it may be
-   tried again, and in the end no block is left over. It is linked with --wrap=malloc, --wrap=realloc and --wrap=free,
-   so that what the library asks for is counted here. */
+   tried again, and in the end no block is left over. It is linked with --wrap=malloc, --wrap=aligned_alloc,
+   --wrap=realloc and --wrap=free, so that what the library asks for is counted here. */
 #include "check.h"
 #include "wrapped.h"
 
@@ -17,6 +17,12 @@ void *__wrap_malloc(size_t size) {
     if (refuses()) return NULL;
     blocks++;
     return __real_malloc(size);
+}
+
+void *__wrap_aligned_alloc(size_t alignment, size_t size) {
+    if (refuses()) return NULL;
+    blocks++;
+    return __real_aligned_alloc(alignment, size);
 }
 
 void *__wrap_realloc(void *at, size_t size) {

@@ -2,8 +2,8 @@
 
    signals TIMES SECONDS: a thread inserts, holds and removes values, adopts its shard and leaves it. Signals stop it
    anywhere, and the handler works on the keys that the thread hands over, until so many calls were stopped in their
-   middle. The handler's calls take and give back no memory: malloc, realloc and free are wrapped, and end the program
-   if they are called there. The test fails if it takes longer than so many seconds. */
+   middle. The handler's calls take and give back no memory: malloc, aligned_alloc, realloc and free are wrapped, and end
+   the program if they are called there. The test fails if it takes longer than so many seconds. */
 #include "check.h"
 #include "wrapped.h"
 #include <pthread.h>
@@ -31,6 +31,11 @@ static void fail(const char *text) {
 void *__wrap_malloc(size_t size) {
     if (in_handler) fail("signals: malloc in the handler\n");
     return __real_malloc(size);
+}
+
+void *__wrap_aligned_alloc(size_t alignment, size_t size) {
+    if (in_handler) fail("signals: aligned_alloc in the handler\n");
+    return __real_aligned_alloc(alignment, size);
 }
 
 void *__wrap_realloc(void *at, size_t size) {

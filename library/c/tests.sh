@@ -26,7 +26,10 @@ takes_memory() {
 compiled() {
   local compiler=$1 name=$2 wrap=
   shift 2
-  case $name in memory | signals) wrap=-Wl,--wrap=malloc,--wrap=realloc,--wrap=free ;; esac
+  case $name in
+    memory | signals) wrap=-Wl,--wrap=malloc,--wrap=aligned_alloc,--wrap=realloc,--wrap=free ;;
+    blocks) wrap=-Wl,--wrap=madvise ;;
+  esac
   # shellcheck disable=SC2086,SC2154
   "$compiler" -std=c11 $warnings -D_DEFAULT_SOURCE -g "$@" -Ilibrary/include "library/c/$name.c" "$archive" "$memory" \
     $wrap -lpthread -o "$out/$name"

@@ -14,7 +14,7 @@ import abi
 TOP = pathlib.Path(__file__).resolve().parent.parent.parent
 MAP = TOP / "library/shardheap.map"
 # What the library takes from the C library.
-TAKEN = {"malloc", "realloc", "free", "memcpy", "memmove", "memset", "memcmp", "bcmp"}
+TAKEN = {"malloc", "aligned_alloc", "realloc", "free", "madvise", "memcpy", "memmove", "memset", "memcmp", "bcmp"}
 WARNINGS = ["-Wall", "-Wextra", "-Wpedantic", "-Wconversion", "-Werror"]
 
 
