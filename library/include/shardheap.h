@@ -56,8 +56,8 @@
    SIGNALS AND STACK. A signal handler is to the calls like another thread: it needs handles that nothing else uses.
    Calls that take and give back no memory are async-signal-safe then: get, release, read, load, load_each, remove,
    collect, passes, chunks, tag, untag, take_value, pages_left, slots_out and next_own_key. The others are not, because
-   they call malloc, realloc or free. The head of each section below has the most stack that its calls took in a test,
-   with the allocator of glibc and a heap of a fixed shape.
+   they call malloc, aligned_alloc, realloc or free. The head of each section below has the most stack that its calls
+   took in a test, with the allocator of glibc and a heap of a fixed shape.
 
    ORDER. The calls of all passes are one history of the map, in which those of each pass are in the order in which it
    made them. Between two passes only receipts order calls. When a thread inserts a key and hands it to another without
@@ -78,7 +78,7 @@
      - a handle's bytes are not copied and used twice, and are written by nothing but these calls;
      - a pointer that is not null points to what its type says, and a room or a list of words to as many as are named;
      - a receipt is heeded by a pass of the heap of the pass that made it. Another one orders nothing, and does no harm;
-     - malloc, realloc and free come from one allocator, and align to 16.
+     - malloc, aligned_alloc, realloc and free come from one allocator, and malloc and realloc align to 16.
 
    CHECKED MODE. A program that defines SHARDHEAP_CHECKED in all its files finds more of that, at a price in each call.
    It needs gcc or clang. A call that finds one of these does nothing, and returns the code that is named:
