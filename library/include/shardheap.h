@@ -56,8 +56,8 @@
    SIGNALS AND STACK. A signal handler is to the calls like another thread: it needs handles that nothing else uses.
    Calls that take and give back no memory are async-signal-safe then: get, release, read, load, load_each, remove,
    collect, passes, chunks, tag, untag, take_value, pages_left, slots_out and next_own_key. The others are not, because
-   they call malloc, realloc or free. The head of each section below has the most stack that its calls took in a test,
-   with the allocator of glibc and a heap of a fixed shape.
+   they call malloc, aligned_alloc, realloc or free. The head of each section below has the most stack that its calls
+   took in a test, with the allocator of glibc and a heap of a fixed shape.
 
    READING. A load writes nothing to shared memory if the key has a value or was removed. It takes w + 4 atomic loads
    for a value of w words, and at most 20 if the key was removed. A get and a release each change a word that all
@@ -84,7 +84,7 @@
      - a handle's bytes are not copied and used twice, and are written by nothing but these calls;
      - a pointer that is not null points to what its type says, and a room or a list of words to as many as are named;
      - a receipt is heeded by a pass of the heap of the pass that made it. Another one orders nothing, and does no harm;
-     - malloc, realloc and free come from one allocator, and align to 16.
+     - malloc, aligned_alloc, realloc and free come from one allocator, and malloc and realloc align to 16.
 
    CHECKED MODE. A program that defines SHARDHEAP_CHECKED in all its files finds more of that, at a price in each call.
    It needs gcc or clang. A call that finds one of these does nothing, and returns the code that is named:
