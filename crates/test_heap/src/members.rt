@@ -1,4 +1,6 @@
 //! Tests of members: two that own no shard are joined in one, and what a member fetches.
+ghost use Rattle.std.specs.Prelude.{◌≡◌};
+
 use crate::assertions::agree;
 use sh_gather::whole;
 use sh_key::{KeyLayout, Tagged, Tiny, Wide};
