@@ -88,8 +88,8 @@ fn push_whole<L: KeyLayout>(output: &mut Vec<u8>, pass: Pass<'_, L>) -> Result<(
     push_accounts(output, &mut WholeHeap::new(whole))
 }
 
-// Looks once at the heap whose whole tale this pass carries: steps of the core led to all that it knows.
-fn look<L: KeyLayout>(pass: Pass<'_, L>)
+// Asks once for accounts of the heap whose whole tale this pass carries: steps of the core led to all that it knows.
+fn ask_once<L: KeyLayout>(pass: Pass<'_, L>)
     requires shape { IsShape pass.heap.shape }
     requires whole { IsWhole pass.view }
     ensures { (events : List Event) × LeadsToWhole L.layout pass.entry events }
@@ -116,7 +116,7 @@ fn told<L: KeyLayout>(
     if asked {
         push_whole(&mut output, pass)?;
     } else {
-        look(pass);
+        ask_once(pass);
     }
     Ok(output)
 }

@@ -14,8 +14,8 @@ push_whole-requires-clause-whole g c =
     (subst (CarrierRan g.at.3 (Some g.at.0) (heap_terms layout g.at.0.shape) g.at.1 g.at.2 c.args.output.items)
     (sym p.ensures) c.requires.1.1)
 
-pub look-requires-clause-whole : goal.look-requires-clause-whole
-look-requires-clause-whole g c =
+pub ask_once-requires-clause-whole : goal.ask_once-requires-clause-whole
+ask_once-requires-clause-whole g c =
     let layout = g.L.KeyLayout.layout in
     let p = c.pass_of-pass in
     carrier_whole g.at.3 layout g.at.0 g.at.1 g.at.2 c.args.output.items p.result
@@ -36,7 +36,7 @@ returns g c =
           w.push_whole.new.output.items w.in_ok-push_whole.ensures in
           rw (w.output-is, w.if-asked.true) done
       | else-asked w ↦
-          let led = w.look.ensures in
+          let led = w.ask_once.ensures in
           let done = without_accounts g.at.3 layout g.at.0 g.at.1 g.at.2 c.args.output.items p.result ran led.0 led.1 in
           rw (w.output-is, w.if-asked.false) done
     ]
