@@ -44,8 +44,8 @@ IsOneOperation before after (Replied t) = Finds before t × ((k : ℕ) → after
 IsOneOperation before after Moved = (k : ℕ) → after k ≡ before k
 IsOneOperation before after Skipped = (k : ℕ) → after k ≡ before k
 
--- A state word says what became of a key of its slot and this generation: if it is live, the key is in the map, with the
--- slot's words; if it is past, the key was removed; otherwise the key was never issued
+-- A state word says what became of a key of its slot and this generation: if it is live, the key is in the map, with
+-- the slot's words; if it is past, the key was removed; otherwise the key was never issued
 pub record StateTells (log : List Entry) (k g word : ℕ) (now : List ℕ) : Type 0 where
   pub there : present_value log k ≡ cond (live_at g word) (Some now) None
   pub removed : is_removed log k ≡ past_at g word

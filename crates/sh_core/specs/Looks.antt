@@ -18,8 +18,8 @@ Sees class v Bare = Unit {0}
 Sees class v (Classed c) = c ≡ class
 Sees class v (Measured c m u) = (c ≡ class) × (m ≡ length v) × (u ≡ take (length u) v)
 
--- A key that a pass looks at names a slot of the heap, and was issued. Unless it was removed meanwhile, what the look has
--- read is of the key's value
+-- A key that a pass looks at names a slot of the heap, and was issued. Unless it was removed meanwhile, what the look
+-- has read is of the key's value
 pub record LookIsTrue (plan : Plan) (class : ℕ → ℕ) (log : List Entry) (k : ℕ) (x : KeyRef) (s : Sight) : Type 0 where
   pub named : Named plan k x
   pub value : List ℕ

@@ -1,5 +1,6 @@
 -- What the results of a reader are after it heeded a receipt of an insert.
-use Rattle.std.proofs.Common.{◌≡◌, ℕ, ◌++◌, ◌∷◌, [], List, refl, ap, sym, ◌∙◌, subst, arith, map, Result, Ok, Err, inl, inr}
+use Rattle.std.proofs.Common.{◌≡◌, ℕ, ◌++◌, ◌∷◌, [], List, refl, ap, sym, ◌∙◌, subst, arith, map, Result, Ok, Err}
+use Rattle.std.proofs.Common.{inl, inr}
 use Rattle.std.proofs.lemmas.List.{append-nil}
 use Rattle.std.specs.Prelude.{IfOk}
 use Rattle.std.specs.List.{Contains}
@@ -114,7 +115,8 @@ fetched_as_inserted got_law seen_law layout key r v w (Ok value) (inl look) stan
     (subst (λ (os : List Order). Contains os it) (sym look.1.same.orders) (order_added r v covers.heard covers.among))
     v.view.pass covers.pass key inserted value covers.insert
     (subst (λ (l : List LogEntry). Contains l seen) (sym look.1.log) (Contains-push v.view.own.log seen))
-fetched_as_inserted got_law seen_law layout key r v w (Ok value) (inr (early, look, unheard, get)) stands = λ inserted covers.
+fetched_as_inserted got_law seen_law layout key r v w (Ok value) (inr (early, look, unheard, get)) stands =
+    λ inserted covers.
     let it : Order = order_of v.view covers.heard in
     let got : LogEntry = Known (entry.Got early.view.pass key value) in
     let released : LogEntry = Known (entry.Released early.view.pass key) in

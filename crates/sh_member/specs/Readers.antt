@@ -43,9 +43,9 @@ LookDoes layout key v (Err refusal.Gone) w =
 LookDoes layout key v (Err refusal.BadKey) w = (place_named (plan_of layout v.heap.shape) key ≡ None) × (w ≡ v)
 LookDoes layout key v (Err _) w = ⊥
 
--- A fetch looks at the key. If the slot is as it was before the key's value was there, the look is one load that decides
--- nothing, and the fetch gets, reads and releases the key. So it is only of a key whose insert the caller neither did
--- nor heard of
+-- A fetch looks at the key. If the slot is as it was before the key's value was there, the look is one load that
+-- decides nothing, and the fetch gets, reads and releases the key. So it is only of a key whose insert the caller
+-- neither did nor heard of
 abbrev pub FetchDoes : Layout → ℕ → Caller → Result (List ℕ) Refusal → Caller → Type 0
 FetchDoes layout key v answer w = LookDoes layout key v answer w ⊎ ((early : Caller)
     × LookAdds layout key Early [] 1 v early × (¬ HeardOfInsert v.view key) × GetsAndReads layout key early answer w)

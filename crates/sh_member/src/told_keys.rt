@@ -43,8 +43,8 @@ pub fn insert_told<L: KeyLayout, H: KeepsHeap<L>>(
     })
 }
 
-/// The value of a key that came with a receipt: the reader heeds the receipt and looks at the key. If the receipt covers
-/// the insert, it returns the inserted value, or `Gone` only if the key was removed. Refused as a look is; as
+/// The value of a key that came with a receipt: the reader heeds the receipt and looks at the key. If the receipt
+/// covers the insert, it returns the inserted value, or `Gone` only if the key was removed. Refused as a look is; as
 /// `HoldsFull` or `Crowded` only if the receipt does not cover the insert.
 pub fn fetch_told<R: Reader>(reader: &mut R, told: ToldKey) -> Result<Value, Refusal>
     requires { told.receipt.heap ≡ (R.caller reader.old).heap }

@@ -51,7 +51,8 @@ pub stepped_on : {b : Body} {es : List LogEntry} {j : ℕ} (v w u : View) (IsSo 
 stepped_on v w u IsSo s g on = stepped_then v w u IsSo (λ ys. Unit {0}) IsSo s (g.steps, g.trail, tt)
     (λ xs ys d e. on xs ys d)
 
-pub begins_on : (x : Action) (name : KeyRef) (xs ys : List Footstep) (b : Begins x name xs) → (c : Begins x name (xs ++ ys))
+pub begins_on : (x : Action) (name : KeyRef) (xs ys : List Footstep) (b : Begins x name xs)
+    → (c : Begins x name (xs ++ ys))
     × (c.found ≡ b.found)
 begins_on x name xs ys b = (
   record { found = b.found; rest = b.rest ++ ys; steps = ap (λ (l : List Footstep). l ++ ys) b.steps },

@@ -74,8 +74,8 @@ fn look_at_word<L: KeyLayout>(
     Glance::Seen
 }
 
-// Ends a look by the words of its value, as many as the page has from the first one on. (It is a function of its own, so
-// that a look at a value of one word clears no room for more.)
+// Ends a look by the words of its value, as many as the page has from the first one on. (It is a function of its own,
+// so that a look at a value of one word clears no room for more.)
 #[inline(never)]
 fn look_at_words<L: KeyLayout>(
     table: &HeapTable<L>,

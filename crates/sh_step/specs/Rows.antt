@@ -202,8 +202,8 @@ look p k x = record {
   reply = λ n. cond (past_at x.generation n) (Some (reply.Gone k)) None;
 }
 
--- Whether all was read. So it is too if the length that was found says more than a page of that class has room for: then
--- the class or the length is of another value
+-- Whether all was read. So it is too if the length that was found says more than a page of that class has room for:
+-- then the class or the length is of another value
 abbrev pub is_read : KeyRef → Sight → Bool
 is_read x Bare = false
 is_read x (Classed c) = false

@@ -27,10 +27,14 @@ pub numbers_differ : (shape : Numbers) (a b : Place) → IsPlace shape a → IsP
 numbers_differ shape (Class p) (Class q) ha hb e = ap Class (omega arith)
 numbers_differ shape (Head p) (Head q) ha hb e = ap Head (omega arith)
 numbers_differ shape (PageLink p) (PageLink q) ha hb e = ap PageLink (omega arith)
-numbers_differ shape (State p s) (State q t) ha hb e = let page : p ≡ q = omega arith in let at : s ≡ t = omega arith in cc
-numbers_differ shape (Link p s) (Link q t) ha hb e = let page : p ≡ q = omega arith in let at : s ≡ t = omega arith in cc
-numbers_differ shape (Length p s) (Length q t) ha hb e = let page : p ≡ q = omega arith in let at : s ≡ t = omega arith in cc
-numbers_differ shape (Payload p s) (Payload q t) ha hb e = let page : p ≡ q = omega arith in let at : s ≡ t = omega arith in cc
+numbers_differ shape (State p s) (State q t) ha hb e = let page : p ≡ q = omega arith in
+    let at : s ≡ t = omega arith in cc
+numbers_differ shape (Link p s) (Link q t) ha hb e = let page : p ≡ q = omega arith in
+    let at : s ≡ t = omega arith in cc
+numbers_differ shape (Length p s) (Length q t) ha hb e = let page : p ≡ q = omega arith in
+    let at : s ≡ t = omega arith in cc
+numbers_differ shape (Payload p s) (Payload q t) ha hb e = let page : p ≡ q = omega arith in
+    let at : s ≡ t = omega arith in cc
 numbers_differ shape (Owner p) (Owner q) ha hb e = ap Owner (omega arith)
 numbers_differ shape (Bell p) (Bell q) ha hb e = ap Bell (omega arith)
 numbers_differ shape _ _ ha hb e = absurd (omega arith)

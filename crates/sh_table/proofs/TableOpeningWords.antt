@@ -1,5 +1,6 @@
 -- The opening list of the table has, at each place, the word with which the place opens.
-use Rattle.std.proofs.Common.{◌≡◌, ◌≢◌, ℕ, zero, suc, ◌+◌, ◌-◌, ◌*◌, ◌/◌, ◌%◌, ◌^◌, ◌<◌, ◌≤◌, ◌&&◌, ◌==◌, Bool, true, false}
+use Rattle.std.proofs.Common.{◌≡◌, ◌≢◌, ℕ, zero, suc, ◌+◌, ◌-◌, ◌*◌, ◌/◌, ◌%◌, ◌^◌, ◌<◌, ◌≤◌, ◌&&◌, ◌==◌, Bool}
+use Rattle.std.proofs.Common.{true, false}
 use Rattle.std.proofs.Common.{cond, [], ◌∷◌, ◌++◌, length, get_or, refl, sym, ◌∙◌, arith, length-append, lt-ltb, le-ltb}
 use Rattle.std.proofs.Common.{le-leb, eq-eqb, ne_eqb}
 use Rattle.std.specs.Prelude.{nat_lt, nat_le}

@@ -26,7 +26,8 @@ use Rattle.sh_core.specs.Refines.{RetiredIsLast, EntriesAreOurs}
 use Rattle.std.proofs.lemmas.Option.{slice_get_within}
 use Rattle.sh_core.proofs.Slots.MarkStep.{is_current}
 use Rattle.sh_step.specs.declared.moves.Move.{Move}
-use Rattle.sh_step.specs.declared.moves.Move.TheVariants.{EnterGet, EnterRemove, Mark, Drop, DropHold, Finish, Publish, Look}
+use Rattle.sh_step.specs.declared.moves.Move.TheVariants.{EnterGet, EnterRemove, Mark, Drop, DropHold, Finish}
+use Rattle.sh_step.specs.declared.moves.Move.TheVariants.{Publish, Look}
 use Rattle.sh_step.specs.declared.moves.Move.TheVariants.{LookOn, LookAgain, Peek}
 use Rattle.sh_step.specs.Moves.{row_of}
 use Rattle.sh_step.specs.Rows.{Row, hand, look_place}

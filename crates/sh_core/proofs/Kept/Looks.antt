@@ -1,6 +1,7 @@
 -- What a look has read stays true, unless its key is removed.
 use Rattle.std.proofs.Common.{◌≡◌, ℕ, zero, suc, ◌+◌, ◌-◌, ◌*◌, ◌<◌, ◌≤◌, ◌==◌, ◌&&◌, ◌||◌, ◌⊎◌, inl, inr, ⊎_elim, Bool}
-use Rattle.std.proofs.Common.{true, false, cond, List, [], ◌∷◌, ◌++◌, length, get_or, take, refl, sym, ap, ◌∙◌, subst, arith}
+use Rattle.std.proofs.Common.{true, false, cond, List, [], ◌∷◌, ◌++◌, length, get_or, take, refl, sym, ap, ◌∙◌}
+use Rattle.std.proofs.Common.{subst, arith}
 use Rattle.std.proofs.Common.{Option, Some, None, slice_get, eqb-true, length-append, eq-or-lt_of_le}
 use Rattle.std.specs.Prelude.{nat_lt, not}
 use Rattle.std.proofs.lemmas.Bool.{cases_lt, or_parts}
@@ -246,7 +247,8 @@ module _ (plan : Plan) (w : World) (l : PutLists) (a : ℕ) (p : Body) (all : Ag
           let first : ℕ = x.slot * width (class - 1) in
           let count : ℕ = w.words.length_at q x.slot in
           let many : length t.value ≡ count = ap length (sym r.2) ∙ length-words (w.words.payload_at q) first count in
-          let there : ((fields_of (w.words.state_at q x.slot)).present || (fields_of (w.words.state_at q x.slot)).marked)
+          let there : ((fields_of (w.words.state_at q x.slot)).present
+              || (fields_of (w.words.state_at q x.slot)).marked)
           ≡ true = rw r.0 refl in
           let bound = all.bounds.lengths q x.slot there in
           let few = widths_few (class - 1) in

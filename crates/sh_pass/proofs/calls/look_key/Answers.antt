@@ -13,4 +13,5 @@ returns-clause-does g c =
 pub returns-clause-leaves : goal.returns-clause-leaves
 returns-clause-leaves g c =
     let e = c.look_at.ensures in
-    glance_leaves c.args.seat.now c.look_at.new.seat c.args.key c.look_at.result c.look_at.new.value c.requires.idle e.seat e.grows
+    glance_leaves c.args.seat.now c.look_at.new.seat c.args.key c.look_at.result c.look_at.new.value c.requires.idle
+    e.seat e.grows

@@ -88,7 +88,8 @@ look_at_words-requires-clause-slot g c =
 pub returns-then-count-eq1-clause-grows : goal.returns-then-count-eq1-clause-grows
 returns-then-count-eq1-clause-grows g c =
     let live = sym c.is_live_at.ensures ∙ c.if-not-is_live_at.false in
-    (c.look_at_word.ensures.does.ends c.args.seat.now.me.0 (one_word c.args.key c.args.name c.look_class-class_word.result
+    (c.look_at_word.ensures.does.ends c.args.seat.now.me.0 (one_word c.args.key c.args.name
+    c.look_class-class_word.result
     c.look_length-count.result (measured c.args.key c.args.name c.look_first-before.result
     c.look_class-class_word.result c.look_length-count.result c.look_first-before.ensures live
     c.look_class-class_word.ensures c.look_length-count.ensures) c.if-class_word-eq-ONE_WORD.true
@@ -97,7 +98,8 @@ returns-then-count-eq1-clause-grows g c =
 pub returns-then-count-eq1-clause-decides : goal.returns-then-count-eq1-clause-decides
 returns-then-count-eq1-clause-decides g c =
     let live = sym c.is_live_at.ensures ∙ c.if-not-is_live_at.false in
-    (c.look_at_word.ensures.does.ends c.args.seat.now.me.0 (one_word c.args.key c.args.name c.look_class-class_word.result
+    (c.look_at_word.ensures.does.ends c.args.seat.now.me.0 (one_word c.args.key c.args.name
+    c.look_class-class_word.result
     c.look_length-count.result (measured c.args.key c.args.name c.look_first-before.result
     c.look_class-class_word.result c.look_length-count.result c.look_first-before.ensures live
     c.look_class-class_word.ensures c.look_length-count.ensures) c.if-class_word-eq-ONE_WORD.true

@@ -73,7 +73,8 @@ impl Model {
         }
     }
 
-    /// The value of a key, by a look. If its first load is from before the insert of the key, the look goes on as a get.
+    /// The value of a key, by a look. If its first load is from before the insert of the key, the look goes on as a
+    /// get.
     pub fn look(&mut self, key: u64) -> Result<Value, Refusal> {
         self.calls = self.calls.saturating_add(1);
         if Tiny::unpack(key).is_none() {
