@@ -1,7 +1,8 @@
 //! The command line.
 use crate::row::Row;
-use crate::selection::{selected, selected_large};
+use crate::selection::{selected, selected_of};
 use crate::sides::Side;
+use crate::table::Table;
 use std::path::PathBuf;
 use std::slice::Iter;
 
@@ -20,6 +21,11 @@ pub enum Request {
     },
     /// The table of times in large heaps: this many rounds of the rows with the word in their title.
     Large {
+        rounds: usize,
+        word: String,
+    },
+    /// The table of reads without a hold: this many rounds of the rows with the word in their title.
+    Reads {
         rounds: usize,
         word: String,
     },
@@ -51,16 +57,18 @@ pub enum Request {
 pub const HELP: &str = "\
 usage: bench [--rows WORD] [--plots FOLDER] [ROUNDS]
        bench large [--rows WORD] [ROUNDS]
+       bench reads [--rows WORD] [ROUNDS]
        bench library [ROUNDS]
        bench opening [ROUNDS]
        bench plots RESULTS FOLDER
        bench bytes
        bench reuse
 
-The tables of times, that of times in heaps of 100,000 to 10,000,000 values, that of the library's calls from Rust and
-from C beside those inside, that of what such heaps take to open, or that of bytes a value. `bench plots` measures
-nothing: it draws the pictures of the table of calls in the file RESULTS, a kept output of a run, into FOLDER. `reuse`
-shows whether sharded_slab and the heap use a key again, and whether two callers of `remove` both remove one value.
+The tables of times, that of times in heaps of 100,000 to 10,000,000 values, that of reads without a hold inside and from
+C and Rust beside reads of other maps, that of the library's calls from Rust and from C beside those inside, that of what
+such heaps take to open, or that of bytes a value. `bench plots` measures nothing: it draws the pictures of the table of
+calls in the file RESULTS, a kept output of a run, into FOLDER. `reuse` shows whether sharded_slab and the heap use a key
+again, and whether two callers of `remove` both remove one value.
 
   ROUNDS          the number of rounds, at least 1; 15 if it is not said
   --rows WORD     only the rows with this in their title, such as 'churn' or 'read into'
@@ -129,16 +137,18 @@ fn times(words: &[&str]) -> Result<Request, String> {
     Ok(Request::Times { rounds: asked.unwrap_or(ROUNDS), word: selecting.unwrap_or_default(), plots })
 }
 
-fn large(words: &[&str]) -> Result<Request, String> {
+// The rounds of a table that is not in the usual run, and the word of its rows.
+fn of_table(table: Table, words: &[&str]) -> Result<(usize, String), String> {
     let (mut asked, mut selecting) = (None, None);
     let mut rest = words.iter();
+    let is_in_titles = |word: &str| !selected_of(table, word).is_empty();
     while let Some(next) = rest.next() {
         match *next {
-            "--rows" => note(&mut selecting, word(&mut rest, |word| !selected_large(word).is_empty())?, "the rows")?,
+            "--rows" => note(&mut selecting, word(&mut rest, is_in_titles)?, "the rows")?,
             other => note(&mut asked, rounds(other)?, "the rounds")?,
         }
     }
-    Ok(Request::Large { rounds: asked.unwrap_or(ROUNDS), word: selecting.unwrap_or_default() })
+    Ok((asked.unwrap_or(ROUNDS), selecting.unwrap_or_default()))
 }
 
 // What follows `turn`: a rival, and the arguments of a row.
@@ -151,7 +161,8 @@ fn turn(words: &[&str]) -> Option<Request> {
 pub fn request(words: &[&str]) -> Result<Request, String> {
     match words {
         ["-h" | "--help"] => Ok(Request::Help),
-        ["large", words @ ..] => large(words),
+        ["large", words @ ..] => of_table(Table::Large, words).map(|(rounds, word)| Request::Large { rounds, word }),
+        ["reads", words @ ..] => of_table(Table::Reads, words).map(|(rounds, word)| Request::Reads { rounds, word }),
         ["turn", words @ ..] => turn(words).ok_or_else(|| "turn wants a side and the words of a row".to_string()),
         ["library"] => Ok(Request::Library { rounds: ROUNDS }),
         ["library", word] => rounds(word).map(|rounds| Request::Library { rounds }),
@@ -193,6 +204,8 @@ mod tests {
         assert_eq!(request(&["large"]), large_of(15, ""));
         assert_eq!(request(&["large", "3"]), large_of(3, ""));
         assert_eq!(request(&["large", "--rows", "10,000,000", "3"]), large_of(3, "10,000,000"));
+        let reads = Request::Reads { rounds: 3, word: "load from C".to_string() };
+        assert_eq!(request(&["reads", "3", "--rows", "load from C"]), Ok(reads));
         assert_eq!(request(&["library"]), Ok(Request::Library { rounds: 15 }));
         assert_eq!(request(&["library", "3"]), Ok(Request::Library { rounds: 3 }));
         assert_eq!(request(&["opening", "3"]), Ok(Request::Opening { rounds: 3 }));
@@ -225,6 +238,7 @@ mod tests {
             (&["large", "3", "4"], "the rounds are said twice"),
             (&["large", "--rows", "leave"], "no row has leave in its title"),
             (&["large", "--plots", "/tmp"], "no option --plots"),
+            (&["reads", "--rows", "leave"], "no row has leave in its title"),
             (&["library", "0"], "0 rounds measure nothing"),
             (&["library", "3", "4"], "library takes no 4"),
             (&["opening", "3", "4"], "opening takes no 4"),

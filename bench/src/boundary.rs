@@ -27,14 +27,14 @@ struct Job<'a> {
 }
 
 // What is done, its names in `tool_bench` and in `through`, and how often. With a read go the get and the release of
-// its hold. `tool_bench` has no load: it is beside the three calls that it replaces.
+// its hold. A load is a look inside.
 const WAYS: [(&str, &str, &str, usize); 8] = [
     ("get + release", "get", "get", 1_000_000),
     ("read", "read", "read", 400_000),
     ("read into", "read-into", "read-into", 400_000),
-    ("load", "read", "load", 400_000),
-    ("load into", "read-into", "load-into", 400_000),
-    ("load, eight a call", "read-into", "load-each", 400_000),
+    ("load", "look", "load", 400_000),
+    ("load into", "look", "load-into", 400_000),
+    ("load, eight a call", "look", "load-each", 400_000),
     ("insert", "insert", "insert", 200_000),
     ("remove by the owner", "remove", "remove", 400_000),
 ];

@@ -44,9 +44,10 @@ mod workloads;
 
 use arguments::Request;
 use measuring::Plan;
+use ours::Programs;
 use program::Program;
 use row::Row;
-use selection::{selected, selected_large};
+use selection::{selected, selected_of};
 use std::fs;
 use std::path::Path;
 use std::process::ExitCode;
@@ -79,17 +80,40 @@ fn print_about(program: &Program, rounds: usize) {
     println!("{}\n{}\nrounds: {rounds}\n", program.text(), machine::text());
 }
 
-fn measure(rounds: usize, tables: Vec<(Table, Vec<Row>)>, plots: Option<&Path>) -> Result<(), String> {
-    let program = Program::inside()?;
-    print_about(&program, rounds);
-    let left_out = print_tables(&Plan { program: &program.path, rounds }, tables, plots)?;
-    if !program.is_unchanged() {
-        return Err(format!("{} changed while it was measured", program.path.display()));
+// An error if a program is another one than when it was looked at.
+fn unchanged(programs: &[&Program]) -> Result<(), String> {
+    match programs.iter().find(|program| !program.is_unchanged()) {
+        Some(program) => Err(format!("{} changed while it was measured", program.path.display())),
+        None => Ok(()),
     }
+}
+
+// An error if there is a row that was left out.
+fn none_of(left_out: usize) -> Result<(), String> {
     match left_out {
         0 => Ok(()),
         _ => Err(format!("rows that were left out: {left_out}")),
     }
+}
+
+fn measure(rounds: usize, tables: Vec<(Table, Vec<Row>)>, plots: Option<&Path>) -> Result<(), String> {
+    let program = Program::inside()?;
+    print_about(&program, rounds);
+    let programs = Programs { inside: &program.path, through: None };
+    let left_out = print_tables(&Plan { programs, rounds }, tables, plots)?;
+    unchanged(&[&program])?;
+    none_of(left_out)
+}
+
+// Measures reads inside and by the library's calls beside those of the rivals.
+fn measure_reads(rounds: usize, word: &str) -> Result<(), String> {
+    let (inside, through) = (Program::inside()?, Program::through()?);
+    println!("{}", through.text());
+    print_about(&inside, rounds);
+    let programs = Programs { inside: &inside.path, through: Some(&through.path) };
+    let left_out = print_tables(&Plan { programs, rounds }, selected_of(Table::Reads, word), None)?;
+    unchanged(&[&inside, &through])?;
+    none_of(left_out)
 }
 
 // Measures the library's calls beside the same ones inside.
@@ -98,10 +122,7 @@ fn measure_boundary(rounds: usize) -> Result<(), String> {
     println!("{}", through.text());
     print_about(&inside, rounds);
     println!("{}", boundary::table(&inside.path, &through.path, rounds)?);
-    match (inside.is_unchanged(), through.is_unchanged()) {
-        (true, true) => Ok(()),
-        _ => Err("a program changed while it was measured".to_string()),
-    }
+    unchanged(&[&inside, &through])
 }
 
 // Measures what a heap takes to open.
@@ -109,10 +130,7 @@ fn measure_opening(rounds: usize) -> Result<(), String> {
     let through = Program::through()?;
     print_about(&through, rounds);
     println!("{}", opening::table(&through.path, rounds)?);
-    match through.is_unchanged() {
-        true => Ok(()),
-        false => Err("the program changed while it was measured".to_string()),
-    }
+    unchanged(&[&through])
 }
 
 // Writes the pictures of a run whose output was kept.
@@ -125,7 +143,8 @@ fn plot(results: &Path, folder: &Path) -> Result<(), String> {
 fn do_as_asked(request: Request) -> Result<(), String> {
     match request {
         Request::Times { rounds, word, plots } => measure(rounds, selected(&word), plots.as_deref()),
-        Request::Large { rounds, word } => measure(rounds, selected_large(&word), None),
+        Request::Large { rounds, word } => measure(rounds, selected_of(Table::Large, &word), None),
+        Request::Reads { rounds, word } => measure_reads(rounds, &word),
         Request::Library { rounds } => measure_boundary(rounds),
         Request::Opening { rounds } => measure_opening(rounds),
         Request::Plots { results, folder } => plot(&results, &folder),

@@ -1,8 +1,8 @@
 //! Rounds and runs. A run is a number of rounds of a row, in each of which every side has a turn.
+use crate::ours::Programs;
 use crate::row::Row;
 use crate::sides::{Side, SIDES};
 use crate::times::Times;
-use std::path::Path;
 
 /// Rows with several threads do not repeat: they are measured so often.
 const RUNS: usize = 3;
@@ -17,9 +17,9 @@ pub struct Measured {
     runs: Vec<Run>,
 }
 
-/// Which program is measured beside the rivals, and in how many rounds.
+/// Which programs are measured beside the rivals, and in how many rounds.
 pub struct Plan<'a> {
-    pub program: &'a Path,
+    pub programs: Programs<'a>,
     pub rounds: usize,
 }
 
@@ -66,7 +66,7 @@ impl Plan<'_> {
         for round in 0..self.rounds {
             for turn in 0..SIDES.len() {
                 let at = (round + turn) % SIDES.len();
-                times[at].extend(SIDES[at].turn(self.program, row)?);
+                times[at].extend(SIDES[at].turn(&self.programs, row)?);
             }
         }
         Ok(Run(times.map(Times::of)))
@@ -102,6 +102,7 @@ impl Plan<'_> {
 mod tests {
     use super::*;
     use crate::workload::Workload;
+    use std::path::Path;
 
     fn run(ours: f64, model: f64) -> Run {
         let times = |time| Some(Times { least: time, median: 2.0 * time });
@@ -128,7 +129,9 @@ mod tests {
 
     #[test]
     fn a_row_that_the_program_does_not_measure_is_left_out() {
-        let plan = Plan { program: Path::new("/nowhere/tool_bench"), rounds: 1 };
-        assert!(plan.measure(vec![Row::new(Workload::Get, 1, 1)]).is_empty());
+        let programs = Programs { inside: Path::new("/nowhere/tool_bench"), through: None };
+        let plan = Plan { programs, rounds: 1 };
+        let rows = [Workload::Get, Workload::LoadFromC].map(|workload| Row::new(workload, 1, 1));
+        assert!(plan.measure(rows.to_vec()).is_empty());
     }
 }

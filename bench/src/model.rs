@@ -62,4 +62,8 @@ impl<const PLAIN: bool> Rival for Words<PLAIN> {
         self.release(spot);
         sum
     }
+
+    fn look(&self, key: u64) -> u64 {
+        self.look(key).expect("the key is there")
+    }
 }

@@ -1,7 +1,15 @@
-//! A program of ours: it is run, and its time read from what it writes to the standard error.
+//! Our programs: one is run, and its time read from what it writes to the standard error.
 use crate::row::Row;
 use std::path::Path;
 use std::process::Command;
+
+/// The programs that are measured beside the rivals.
+pub struct Programs<'a> {
+    /// `tool_bench`.
+    pub inside: &'a Path,
+    /// The library's calls, if a row needs them.
+    pub through: Option<&'a Path>,
+}
 
 // The first line that says something, of what may be many.
 fn first_line(text: &str) -> &str {
@@ -32,9 +40,13 @@ pub fn spent(program: &Path, words: &[String], operations: usize) -> Result<f64,
     time(&times).ok_or_else(|| format!("{told} told no time"))
 }
 
-/// The nanoseconds of one operation of a row of `tool_bench`. An error is one line.
-pub fn measure(program: &Path, row: &Row) -> Result<f64, String> {
-    let spent = spent(program, &row.arguments(), row.operations * row.threads)?;
+/// The nanoseconds of one operation of a row, by the program that has it. An error is one line.
+pub fn measure(programs: &Programs<'_>, row: &Row) -> Result<f64, String> {
+    let (program, words) = match row.arguments_through() {
+        None => (programs.inside, row.arguments()),
+        Some(words) => (programs.through.ok_or("the program of the library is not named")?, words),
+    };
+    let spent = spent(program, &words, row.operations * row.threads)?;
     Ok(spent / row.operations as f64)
 }
 

@@ -24,4 +24,9 @@ pub trait Rival: Sync {
 
     /// The sum of the words of a value, read under a hold.
     fn read(&self, key: u64) -> u64;
+
+    /// The same without a hold, if the rival can.
+    fn look(&self, key: u64) -> u64 {
+        self.read(key)
+    }
 }

@@ -74,6 +74,7 @@ mod tests {
             let keys: Vec<u64> = (0..16).map(|place| rival.insert(&mut owner, samples.at(place))).collect();
             for (place, key) in keys.iter().enumerate() {
                 assert_eq!(rival.read(*key), samples.at(place).iter().sum());
+                assert_eq!(rival.look(*key), samples.at(place).iter().sum());
                 match place % 4 {
                     0 => rival.remove_own(&mut owner, *key),
                     1 => rival.remove(*key),

@@ -110,6 +110,15 @@ impl Row {
         words
     }
 
+    /// The words of the command line of `through`, if ours is a call of the library. It takes the layout that has room.
+    pub fn arguments_through(&self) -> Option<Vec<String>> {
+        let (Some(first), Lengths::Each(len)) = (self.workload.through(), self.lengths) else { return None };
+        let numbers =
+            [("--threads", self.threads), ("--operations", self.operations), ("--live", self.live), ("--words", len)];
+        let options = numbers.iter().flat_map(|(option, n)| [option.to_string(), n.to_string()]);
+        Some(first.iter().map(|word| word.to_string()).chain(options).collect())
+    }
+
     /// The row that has these arguments, without its aims.
     pub fn of_arguments(words: &[&str]) -> Option<Self> {
         let (name, options) = words.split_first()?;
@@ -160,6 +169,14 @@ mod tests {
     }
 
     #[test]
+    fn a_load_is_told_to_the_program_through_the_library() {
+        let row = Row::new(Workload::LoadFromC, 4, 300).live(1_000_000).deep();
+        let told = "c load --threads 4 --operations 300 --live 1000000 --words 1";
+        assert_eq!(row.arguments_through().map(|words| words.join(" ")), Some(told.to_string()));
+        assert_eq!(Row::new(Workload::Look, 1, 1).arguments_through(), None);
+    }
+
+    #[test]
     fn a_deep_row_names_its_layout() {
         let told = Row::new(Workload::Get, 1, 5).live(1_000_000).deep().arguments().join(" ");
         assert!(told.ends_with("--words 1 --layout deep"), "{told}");
@@ -171,6 +188,7 @@ mod tests {
             Row::new(Workload::ReadInto, 2, 300).live(1000).lengths(Lengths::Each(16)),
             Row::new(Workload::Get, 1, 5).live(1_000_000).deep(),
             Row::new(Workload::Leave, 1, 5).freed(7).passes(3).lengths(Lengths::Mixed),
+            Row::new(Workload::LoadFromRust, 4, 5).live(10),
         ];
         for row in rows {
             let words = row.arguments();

@@ -94,6 +94,17 @@ pub fn large() -> Vec<Row> {
     [[100_000, 1_000_000, 10_000_000].map(beside).concat(), filling()].concat()
 }
 
+/// Reads without a hold, inside and by the library's calls, and reads of the rivals.
+pub fn looks() -> Vec<Row> {
+    let ways = [Workload::Look, Workload::LoadFromC, Workload::LoadFromRust];
+    let beside = |live, words| {
+        let row = |way, threads| Row::new(way, threads, 1_000_000 / threads).live(live).lengths(Lengths::Each(words));
+        ways.map(|way| by_threads(|threads| row(way, threads))).concat()
+    };
+    let large: Vec<Row> = beside(1_000_000, 1).into_iter().map(Row::deep).collect();
+    [beside(1, 1), beside(10_000, 1), large, beside(10_000, 16)].concat()
+}
+
 // Shards that are filled: one of 1,024 pages and one of 65,536, and as large a heap of shards of 1,024 pages, with
 // pages of one class and of all eight.
 fn filling() -> Vec<Row> {
@@ -123,7 +134,7 @@ mod tests {
 
     #[test]
     fn no_row_stands_twice() {
-        let all = [calls(), large(), passes(), changes()].concat();
+        let all = [calls(), looks(), large(), passes(), changes()].concat();
         let names: HashSet<_> = all.iter().map(|row| (row.title(), row.running())).collect();
         assert_eq!(names.len(), all.len());
     }
@@ -144,6 +155,15 @@ mod tests {
         let live: HashSet<usize> = large().iter().filter(beside).map(|row| row.live).collect();
         assert_eq!(live, HashSet::from([100_000, 1_000_000, 10_000_000]));
         assert!(large().iter().filter(beside).all(|row| row.is_deep));
+    }
+
+    #[test]
+    fn looks_are_beside_one_and_many_values_with_one_to_four_threads() {
+        for workload in [Workload::Look, Workload::LoadFromC, Workload::LoadFromRust] {
+            let of_one_word = |row: &&Row| row.workload == workload && row.lengths == Lengths::Each(1);
+            let beside: Vec<_> = looks().iter().filter(of_one_word).map(|row| (row.live, row.threads)).collect();
+            assert_eq!(beside, [1, 10_000, 1_000_000].map(|live| THREADS.map(|threads| (live, threads))).concat());
+        }
     }
 
     // Sixteen values of 1 to 16 words fill 1/48 + 1/24 + 1/16 + 1/12 + 2/8 + 2/6 + 4/4 + 4/3 pages, which is 25/8.

@@ -15,9 +15,9 @@ pub fn selected(word: &str) -> Vec<(Table, Vec<Row>)> {
     among(&TABLES, word)
 }
 
-/// The same of the table of large heaps.
-pub fn selected_large(word: &str) -> Vec<(Table, Vec<Row>)> {
-    among(&[Table::Large], word)
+/// The same of a table that is not in the usual run.
+pub fn selected_of(table: Table, word: &str) -> Vec<(Table, Vec<Row>)> {
+    among(&[table], word)
 }
 
 #[cfg(test)]
@@ -36,5 +36,6 @@ mod tests {
         assert_eq!(found.len(), 1);
         assert_eq!((found[0].0, found[0].1.len()), (Table::Changes, 6));
         assert!(selected("nothing like it").is_empty());
+        assert_eq!(selected_of(Table::Reads, "load from C").iter().map(|(_, rows)| rows.len()).sum::<usize>(), 12);
     }
 }

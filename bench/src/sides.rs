@@ -1,6 +1,6 @@
 //! The sides that are measured, and one turn of each.
 use crate::changing;
-use crate::ours;
+use crate::ours::{self, Programs};
 use crate::rival::Rival;
 use crate::rivals::{with_rival, Room, Task};
 use crate::row::Row;
@@ -8,7 +8,6 @@ use crate::turning;
 use crate::waiting::{Watch, MOST};
 use crate::workload::Workload;
 use crate::workloads;
-use std::path::Path;
 
 /// The sides, of which the first is the library.
 #[derive(Clone, Copy, Debug, PartialEq, Eq)]
@@ -93,7 +92,7 @@ impl Side {
             (Side::Model, true) => true,
             (_, true) => false,
             (Side::PlainStores, false) if !row.workload.inserts() => false,
-            (_, false) if row.is_large() && self.is_locked() => false,
+            (_, false) if row.is_large() && self.is_locked() => row.workload.looks(),
             (_, false) => row.passes == 1 && row.workload != Workload::Heed,
         }
     }
@@ -109,22 +108,22 @@ impl Side {
     }
 
     // The nanoseconds of one operation, in one turn, which is a process of its own.
-    fn once(self, program: &Path, row: &Row) -> Result<f64, String> {
+    fn once(self, programs: &Programs<'_>, row: &Row) -> Result<f64, String> {
         match self {
-            Side::Ours => ours::measure(program, row),
+            Side::Ours => ours::measure(programs, row),
             _ => turning::measure(self, row),
         }
     }
 
     /// The nanoseconds of one operation in a turn. Nothing if the side has no such workload, or if the row has several
     /// threads and in no turn of some tries all of them ran at once. Of a side that sleeps each turn counts.
-    pub fn turn(self, program: &Path, row: &Row) -> Result<Option<f64>, String> {
+    pub fn turn(self, programs: &Programs<'_>, row: &Row) -> Result<Option<f64>, String> {
         if !self.has(row) {
             return Ok(None);
         }
         for _try in 0..TRIES {
             let watch = Watch::start();
-            let time = self.once(program, row)?;
+            let time = self.once(programs, row)?;
             if row.running() == 1 || self.sleeps() || watch.share().is_none_or(|share| share <= MOST) {
                 return Ok(Some(time));
             }
@@ -146,6 +145,7 @@ mod tests {
         assert_eq!(with(Row::new(Workload::Heed, 1, 10)), [false; 7]);
         assert_eq!(with(Row::new(Workload::Adopt, 1, 10)), [false, false, false, false, false, true, false]);
         assert_eq!(with(Row::new(Workload::Get, 1, 10).deep()), [true, false, true, false, false, true, false]);
+        assert_eq!(with(Row::new(Workload::Look, 1, 10).deep()), [true, true, true, true, true, true, false]);
     }
 
     #[test]

@@ -10,6 +10,8 @@ use crate::times::{text, Times};
 #[derive(Clone, Copy, Debug, PartialEq, Eq)]
 pub enum Table {
     Calls,
+    /// The reads without a hold, inside and by the library's calls: only if they are asked for.
+    Reads,
     /// The calls in large heaps, which take long to fill: only if they are asked for.
     Large,
     Passes,
@@ -53,9 +55,14 @@ fn for_a_page(measured: &Measured, side: Side) -> String {
     nanoseconds(&times)
 }
 
-fn calls_line(measured: &Measured) -> Vec<String> {
+// The rivals that have reads: the stores of a value are no part of them.
+fn readers() -> impl Iterator<Item = Side> {
+    RIVALS.into_iter().filter(|rival| *rival != Side::PlainStores)
+}
+
+fn calls_line(measured: &Measured, rivals: impl IntoIterator<Item = Side>) -> Vec<String> {
     let first = [measured.row.title(), measured.row.running().to_string(), nanoseconds(&measured.times(Side::Ours))];
-    first.into_iter().chain(RIVALS.map(|rival| ratio(measured, rival))).collect()
+    first.into_iter().chain(rivals.into_iter().map(|rival| ratio(measured, rival))).collect()
 }
 
 fn changes_line(measured: &Measured) -> Vec<String> {
@@ -68,6 +75,7 @@ impl Table {
     pub fn rows(self) -> Vec<Row> {
         match self {
             Table::Calls => rows::calls(),
+            Table::Reads => rows::looks(),
             Table::Large => rows::large(),
             Table::Passes => rows::passes(),
             Table::Changes => rows::changes(),
@@ -77,11 +85,13 @@ impl Table {
     fn places(self) -> Vec<String> {
         let words: &[&str] = match self {
             Table::Calls | Table::Large => &["Workload", "Threads", "ns"],
+            Table::Reads => &["Call", "Threads", "ns"],
             Table::Passes => &["Workload", "ns"],
             Table::Changes => &["Workload", "ns", "ns a page", "ns a page, bare atomics", "to bare atomics (aim)"],
         };
         let ratios = match self {
             Table::Calls | Table::Large => RIVALS.map(ratio_head).to_vec(),
+            Table::Reads => readers().map(|rival| format!("to {}", rival.name())).collect(),
             Table::Passes | Table::Changes => Vec::new(),
         };
         words.iter().map(|word| word.to_string()).chain(ratios).collect()
@@ -89,7 +99,8 @@ impl Table {
 
     fn line(self, measured: &Measured) -> String {
         line(&match self {
-            Table::Calls | Table::Large => calls_line(measured),
+            Table::Calls | Table::Large => calls_line(measured, RIVALS),
+            Table::Reads => calls_line(measured, readers()),
             Table::Passes => vec![measured.row.title(), nanoseconds(&measured.times(Side::Ours))],
             Table::Changes => changes_line(measured),
         })
@@ -109,7 +120,7 @@ mod tests {
 
     #[test]
     fn a_row_without_a_turn_at_once_says_so() {
-        let line = calls_line(&Measured::new(Row::new(Workload::Get, 4, 1)));
+        let line = calls_line(&Measured::new(Row::new(Workload::Get, 4, 1)), RIVALS);
         assert_eq!(line[2..9], [NOT_AT_ONCE; 7]);
         assert_eq!(line[9], "none");
         assert_eq!(ratio(&Measured::new(Row::new(Workload::Heed, 1, 1)), Side::Sharded), "none");
@@ -117,7 +128,7 @@ mod tests {
 
     #[test]
     fn lines_have_as_many_places_as_their_head() {
-        for table in [&TABLES[..], &[Table::Large]].concat() {
+        for table in [&TABLES[..], &[Table::Reads, Table::Large]].concat() {
             for row in table.rows() {
                 let line = table.line(&Measured::new(row));
                 assert_eq!(line.matches(" |").count(), table.places().len(), "{line}");

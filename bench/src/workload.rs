@@ -12,6 +12,12 @@ pub enum Workload {
     ReadInto,
     /// As `Read`, and `tool_bench` holds and reads by a guard.
     ReadGuard,
+    /// As `ReadInto`, and `tool_bench` and the model read without a hold.
+    Look,
+    /// As `Look`, and ours is the library's call from C.
+    LoadFromC,
+    /// As `Look`, and ours is the library's call from Rust.
+    LoadFromRust,
     Insert,
     /// Values are inserted, and none is removed.
     Fill,
@@ -24,12 +30,15 @@ pub enum Workload {
     Heed,
 }
 
-const WORKLOADS: [Workload; 13] = [
+const WORKLOADS: [Workload; 16] = [
     Workload::Get,
     Workload::GetGuard,
     Workload::Read,
     Workload::ReadInto,
     Workload::ReadGuard,
+    Workload::Look,
+    Workload::LoadFromC,
+    Workload::LoadFromRust,
     Workload::Insert,
     Workload::Fill,
     Workload::Remove,
@@ -46,8 +55,8 @@ impl Workload {
         WORKLOADS.into_iter().find(|workload| workload.name() == name)
     }
 
-    /// Its name, the first argument of `tool_bench`. A workload that is added there is added here by the same name. Its
-    /// other arguments are the options of `Row::arguments`.
+    /// Its name, the first argument of `tool_bench` or of a turn. A workload that is added there is added here by the same
+    /// name. Its other arguments are the options of `Row::arguments`.
     pub fn name(self) -> &'static str {
         match self {
             Workload::Get => "get",
@@ -55,6 +64,9 @@ impl Workload {
             Workload::Read => "read",
             Workload::ReadInto => "read-into",
             Workload::ReadGuard => "read-guard",
+            Workload::Look => "look",
+            Workload::LoadFromC => "load-from-c",
+            Workload::LoadFromRust => "load-from-rust",
             Workload::Insert => "insert",
             Workload::Fill => "fill",
             Workload::Remove => "remove",
@@ -64,6 +76,20 @@ impl Workload {
             Workload::Leave => "leave",
             Workload::Heed => "heed",
         }
+    }
+
+    /// The first words of `through`, if ours is a call of the library.
+    pub fn through(self) -> Option<[&'static str; 2]> {
+        match self {
+            Workload::LoadFromC => Some(["c", "load"]),
+            Workload::LoadFromRust => Some(["rust", "load"]),
+            _ => None,
+        }
+    }
+
+    /// Whether the library reads without a hold.
+    pub fn looks(self) -> bool {
+        self == Workload::Look || self.through().is_some()
     }
 
     /// Whether values are inserted while the time is taken.

@@ -17,6 +17,7 @@ pub fn measure<H: Rival>(rival: &H, row: &Row) -> f64 {
     let longest = match row.workload {
         Workload::Get | Workload::GetGuard => getting(rival, row),
         Workload::Read | Workload::ReadInto | Workload::ReadGuard => getting(rival, row),
+        Workload::Look | Workload::LoadFromC | Workload::LoadFromRust => getting(rival, row),
         Workload::Hand => handing(rival, row),
         Workload::Insert | Workload::Fill | Workload::Remove | Workload::Churn => inserting(rival, row),
         Workload::Adopt | Workload::Leave => unreachable!("the model alone has owners that change"),
@@ -46,6 +47,7 @@ fn use_each<H: Rival>(rival: &H, keys: &[u64], workload: Workload) -> u64 {
     let held = |key: &&u64| rival.hold(**key);
     match workload {
         Workload::Get | Workload::GetGuard => keys.iter().filter(held).count() as u64,
+        workload if workload.looks() => keys.iter().fold(0, |sum, key| sum.wrapping_add(rival.look(*key))),
         _ => keys.iter().fold(0, |sum, key| sum.wrapping_add(rival.read(*key))),
     }
 }

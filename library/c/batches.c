@@ -49,37 +49,39 @@ static void each_has_its_code(shardheap_pass *owner, shardheap_pass *p) {
         if (n % 3 != 0) IS(shardheap_remove(owner, batch[n].key), SHARDHEAP_OK);
 }
 
-/* The holds stay as they were: with all that a key or a pass may have, each load is refused, and then none is. */
-static void holds_stay(shardheap_pass *owner, shardheap_pass *p, uint32_t layout) {
-    int most = layout == SHARDHEAP_TINY ? 4 : 16;
-    uint32_t beyond = layout == SHARDHEAP_TINY ? SHARDHEAP_CROWDED : SHARDHEAP_HOLDS_FULL;
-    uint64_t key;
-    IS(shardheap_insert(owner, words, 3, &key), SHARDHEAP_OK);
-    shardheap_loaded batch[2] = {load_of(key), load_of(key)};
-    for (int n = 0; n < most; n++) IS(shardheap_get(p, key), SHARDHEAP_OK);
-    IS(shardheap_load_each(p, batch, 2), SHARDHEAP_OK);
-    IS(batch[0].code, beyond);
-    IS(batch[1].code, beyond);
-    IS(shardheap_release(p, key), SHARDHEAP_OK);
-    IS(shardheap_load_each(p, batch, 2), SHARDHEAP_OK);
-    IS(batch[0].code, SHARDHEAP_OK);
-    TRUE(batch[1].code == SHARDHEAP_OK && batch[1].length == 3 && batch[1].words[2] == 9);
-    for (int n = 1; n < most; n++) IS(shardheap_release(p, key), SHARDHEAP_OK);
-    IS(shardheap_release(p, key), SHARDHEAP_NOT_HELD);
-    IS(shardheap_remove(owner, key), SHARDHEAP_OK);
+/* With as many holds as a pass may have, each value is loaded, and the holds stay. A load of a key that was not issued
+   goes on to a get. The slot after that of the last key is free. */
+static void holds_stay(shardheap_pass *p, const uint64_t keys[4]) {
+    shardheap_loaded batch[3] = {load_of(keys[0]), load_of(keys[3] + 1), load_of(keys[3])};
+    for (int n = 0; n < 16; n++) IS(shardheap_get(p, keys[n / 4]), SHARDHEAP_OK);
+    IS(shardheap_get(p, keys[0]), SHARDHEAP_HOLDS_FULL);
+    IS(shardheap_load_each(p, batch, 3), SHARDHEAP_OK);
+    for (int n = 0; n < 3; n += 2) {
+        IS(batch[n].code, SHARDHEAP_OK);
+        TRUE(batch[n].length == 3 && batch[n].words[0] == 7 && batch[n].words[2] == 9 && batch[n].words[3] == 0);
+    }
+    IS(batch[1].code, SHARDHEAP_HOLDS_FULL);
+    IS(shardheap_release(p, keys[0]), SHARDHEAP_OK);
+    IS(shardheap_load_each(p, &batch[1], 1), SHARDHEAP_OK);
+    IS(batch[1].code, SHARDHEAP_GONE);
+    TRUE(batch[1].length == 99 && batch[1].words[0] == 0);
+    for (int n = 1; n < 16; n++) IS(shardheap_release(p, keys[n / 4]), SHARDHEAP_OK);
+    for (int n = 0; n < 4; n++) IS(shardheap_release(p, keys[n]), SHARDHEAP_NOT_HELD);
 }
 
 static void each_of(uint32_t layout) {
     shardheap heap = SHARDHEAP_INIT;
     shardheap_pass one = SHARDHEAP_INIT, two = SHARDHEAP_INIT;
+    uint64_t keys[4];
     IS(shardheap_open(&heap, layout, 1, 2, 2), SHARDHEAP_OK);
     IS(shardheap_take(&heap, &one), SHARDHEAP_OK);
     IS(shardheap_take(&heap, &two), SHARDHEAP_OK);
     IS(shardheap_adopt(&one, 0), SHARDHEAP_OK);
+    for (int n = 0; n < 4; n++) IS(shardheap_insert(&one, words, 3, &keys[n]), SHARDHEAP_OK);
+    holds_stay(&one, keys);
+    holds_stay(&two, keys);
     each_has_its_code(&one, &one);
     each_has_its_code(&one, &two);
-    holds_stay(&one, &one, layout);
-    holds_stay(&one, &two, layout);
     IS(shardheap_load_each(&two, 0, 0), SHARDHEAP_OK);
     IS(shardheap_leave(&one), SHARDHEAP_OK);
     IS(shardheap_give(&one), SHARDHEAP_OK);

@@ -111,6 +111,7 @@ static void keys(shardheap_pass *p, uint32_t layout, uint64_t key, uint64_t empt
     IS(shardheap_load(p, UINT64_MAX, room, 16, &length), SHARDHEAP_BAD_KEY);
     IS(shardheap_remove(p, UINT64_MAX), SHARDHEAP_BAD_KEY);
     IS(shardheap_get(p, key + 1), SHARDHEAP_GONE); /* the next slot, which nothing was put in yet */
+    IS(shardheap_load(p, key + 1, room, 16, &length), SHARDHEAP_GONE);
     IS(shardheap_read(p, key, room, 16, &length), SHARDHEAP_NOT_HELD);
     IS(shardheap_release(p, key), SHARDHEAP_NOT_HELD);
     TRUE(length == 99);
@@ -122,7 +123,13 @@ static void keys(shardheap_pass *p, uint32_t layout, uint64_t key, uint64_t empt
     TRUE(length == 3 && room[0] == 7 && room[1] == 8 && room[2] == 9 && room[3] == 0);
     for (int n = 1; n < most; n++) IS(shardheap_get(p, key), SHARDHEAP_OK);
     IS(shardheap_get(p, key), beyond);
-    IS(shardheap_load(p, key, room, 16, &length), beyond);
+    /* a load needs no room for a hold, except of a key that was not issued: it goes on to a get */
+    room[0] = 0;
+    IS(shardheap_load(p, key, room, 16, &length), SHARDHEAP_OK);
+    TRUE(length == 3 && room[0] == 7 && room[3] == 0);
+    length = 99;
+    IS(shardheap_load(p, key + 1, room, 16, &length), most == 16 ? SHARDHEAP_HOLDS_FULL : SHARDHEAP_GONE);
+    TRUE(length == 99 && room[0] == 7);
     for (int n = 0; n < most; n++) IS(shardheap_release(p, key), SHARDHEAP_OK);
     IS(shardheap_release(p, key), SHARDHEAP_NOT_HELD);
     length = 0;

@@ -250,6 +250,26 @@ TEST(guards_move) {
     IS(shard.try_release(next), not_held);
 }
 
+TEST(loads_take_no_hold) {
+    auto heap = a_heap(2);
+    auto shard = heap.take().adopt(0);
+    auto pass = heap.take();
+    const auto key = shard.insert({7, 8});
+    const gearlongan::key not_issued(key.number() + 1); // of the next slot, which nothing was put in yet
+    std::vector<gearlongan::guard> all;
+    for (int at = 0; at < 16; at++) all.push_back(pass.get(key));
+    THROWS(pass.get(key), holds_full);
+    gearlongan::value value{5};
+    IS(pass.try_load(key, value), ok);
+    CHECK(value == gearlongan::value({7, 8}) && *pass.load(key) == value);
+    IS(pass.try_load(not_issued, value), holds_full); // it goes on to a get
+    THROWS(pass.load(not_issued), holds_full);
+    CHECK(value == gearlongan::value({7, 8}));
+    all.clear();
+    CHECK(!pass.load(not_issued));
+    IS(pass.try_release(key), not_held);
+}
+
 TEST(guards_end_holds) {
     auto heap = a_heap(2);
     auto shard = heap.take().adopt(0);

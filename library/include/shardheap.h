@@ -59,11 +59,17 @@
    they call malloc, aligned_alloc, realloc or free. The head of each section below has the most stack that its calls
    took in a test, with the allocator of glibc and a heap of a fixed shape.
 
+   READING. A load writes nothing to shared memory if the key has a value or was removed. It takes w + 4 atomic loads
+   for a value of w words, and at most 20 if the key was removed. A get and a release each change a word that all
+   readers of the key share.
+
    ORDER. The calls of all passes are one history of the map, in which those of each pass are in the order in which it
    made them. Between two passes only receipts order calls. When a thread inserts a key and hands it to another without
-   a receipt, the contracts allow that the other finds it Gone. With one they do not: see shardheap_heed. Each step of
-   the library is a sequentially consistent atomic operation, and the tests rely on it: they find each key that was
-   handed over, with a receipt or without.
+   a receipt, the contracts allow that the other finds it Gone. With one they do not: see shardheap_heed. OK of a load
+   promises a little less than OK of a get, which leaves a hold. If another pass removed the key, and this one heeded no
+   receipt of that, the contracts allow that the load comes before the removal, even if it was called later. With the
+   receipt they do not. Each step of the library is a sequentially consistent atomic operation, and the tests rely on
+   it: they find each key that was handed over, with a receipt or without.
 
    CANCELLED THREADS. No call is a cancellation point. A thread that is cancelled between two calls leaves its pass in
    the handle, with its holds and its shard. Any thread that is ordered after it may go on with that handle. A thread
@@ -666,8 +672,9 @@ SHARDHEAP_API uint32_t shardheap_release(shardheap_pass *pass, uint64_t key) {
     return code == SHARDHEAP_OK ? shardheap_end(&pass->seal, shardheap_raw_release(pass, key)) : code;
 }
 
-/* A get, a read and a release in one: the holds are as before. BAD_KEY, HOLDS_FULL, GONE, CROWDED, EMPTY, OVERLAP;
-   SHORT, with only the length read.
+/* Reads the value of a key and takes no hold, in w + 4 atomic loads for w words. BAD_KEY, GONE, EMPTY, OVERLAP; SHORT,
+   with only the length read. HOLDS_FULL and CROWDED come only of a key whose insert the pass neither made nor heard of
+   by a receipt. The load may then go on as a get, a read and a release.
 
        code = shardheap_load(&pass, key, room, 16, &length);
        if (code == SHARDHEAP_GONE) length = 0;    another pass removed it */
@@ -703,10 +710,10 @@ static inline uint32_t shardheap_load_bare(shardheap_pass *pass, shardheap_loade
 }
 
 /* Loads several keys in one call, in order, and writes beside each what its load returned: the code, and with OK the
-   length and the words. A load that is refused stops nothing, and leaves its length and its words as they were. The
-   holds are as before. In a heap of a fixed shape the waits for the memory of eight keys overlap: beside a million
-   values a batch takes less time than its loads one by one, and beside a few thousand more. In a heap that grows a
-   batch is its loads, one by one. EMPTY, OVERLAP, with nothing done.
+   length and the words. A load that is refused stops nothing, and leaves its length and its words as they were. In a
+   heap of a fixed shape the waits for the memory of eight keys overlap: beside a million values a batch takes less time
+   than its loads one by one, and beside a few thousand more. In a heap that grows a batch is its loads, one by one.
+   EMPTY, OVERLAP, with nothing done.
 
        shardheap_loaded batch[2] = {{key, 0, 0, {0}}, {second, 0, 0, {0}}};
        code = shardheap_load_each(&pass, batch, 2);

@@ -236,11 +236,12 @@ class Pass(_Owner):
         return Guard(self, key)
 
     def load(self, key: int) -> tuple[int, ...]:
-        """A copy of the value. GONE, BAD_KEY, HOLDS_FULL, CROWDED, EMPTY."""
+        """A copy of the value, without a hold. GONE, BAD_KEY, EMPTY. Of a key that the pass did not insert, HOLDS_FULL
+        and CROWDED may come too, if its value is not there yet."""
         return self._filled(_lib.shardheap_load, key)
 
     def take_value(self, key: int) -> tuple[int, ...]:
-        """Removes the key, and returns its value. Of all that remove one key, one succeeds. As load."""
+        """Removes the key, and returns its value. Of all that remove one key, one succeeds. Refused as get is."""
         return self._filled(_lib.shardheap_take_value, key)
 
     def remove(self, key: int) -> None:

@@ -109,8 +109,12 @@ class TestHeap(Refusing):
             key = one.insert([1])
             guards = [one.get(key) for _ in range(16)]
             self.refused(Code.HOLDS_FULL, one.get, key)
+            self.assertEqual(one.load(key), (1,))
+            # The key of the next slot, which nothing was put in yet: a load of it goes on to a get.
+            self.refused(Code.HOLDS_FULL, one.load, key + 1)
             for it in guards:
                 it.release()
+            self.refused(Code.GONE, one.load, key + 1)
         self.refused(Code.EMPTY, heap.take)
         self.refused(Code.EMPTY, one.load, key)
         self.refused(Code.BAD_SHAPE, Heap.open, Layout.TINY, 5, 1, 1)

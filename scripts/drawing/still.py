@@ -1,4 +1,4 @@
-"""Pictures that show no run: the parts of a heap, a page, the keys, and the life of a slot."""
+"""Pictures that show no run: the parts of a heap, a page, the keys, the life of a slot, and a look."""
 
 from drawing.svg import Picture
 
@@ -199,4 +199,66 @@ def life():
     picture.text(420, 153, "Finish, by the owner itself: generation g+1", "", 11, "middle")
     note = "g is the generation of the slot. Each value has its own generation, and its key contains it"
     picture.text(20, 412, note, "grey", 11)
+    return picture
+
+
+# ---- a look
+
+LOADS = [("1 load", 20, 120, ["state word"], "live"), ("1 load", 190, 100, ["class"], "own"),
+         ("1 load", 340, 100, ["length"], "hand"), ("w loads", 490, 110, ["w words"], "marked"),
+         ("1 load", 660, 120, ["state word", "again"], "live")]
+KINDS = [("before", 180, 240, "a lower generation, or empty in g", "zero"),
+         ("live", 420, 240, "present, not marked, in g", "live"),
+         ("past", 660, 300, "marked or retired in g, or a higher one", "retired")]
+# What a look returns, and where in these its loads of the state word are.
+ENDS = [("a get follows", [300]), ("Seen", [480, 600]), ("Gone", [540, 740]), ("Gone", [860])]
+
+
+def loads_of_look(picture):
+    for (count, x, wide, lines, kind), after in zip(LOADS, [*LOADS[1:], None]):
+        picture.text(x + wide / 2, 48, count, "grey", 11, "middle")
+        picture.cell(x, 56, wide, 44, lines, kind)
+        picture.arrow(x + wide, 78, after[1] - 2 if after else 838, 78)
+    picture.text(165, 70, "live", "", 11, "middle")
+    picture.text(809, 70, "live", "", 11, "middle")
+    picture.cell(840, 56, 120, 44, ["Seen"], "page")
+    picture.box(840, 56, 120, 44, "frame")
+    picture.arrow(50, 100, 50, 148)
+    picture.text(56, 128, "past", "", 11)
+    picture.bend([(115, 100), (115, 124), (235, 124), (235, 148)])
+    picture.text(242, 140, "before", "", 11)
+    picture.arrow(720, 100, 720, 148)
+    picture.text(728, 128, "not live", "", 11)
+    for x, wide, lines in [(20, 100, ["Gone"]), (150, 170, ["nothing is decided:", "a get follows"]),
+                           (660, 120, ["Gone"])]:
+        picture.cell(x, 150, wide, 44, lines, "page")
+        picture.box(x, 150, wide, 44, "frame")
+
+
+def ends_of_looks(picture, y):
+    for number, (end, loads) in enumerate(ENDS):
+        row = y + number * 30
+        picture.text(20, row + 4, end, "bold", 12)
+        picture.line(180, row + 15, 960, row + 15)
+        picture.line(loads[0], row, loads[-1], row, "changed")
+        for x in loads:
+            picture.dot(x, row, 6)
+
+
+def look():
+    picture = Picture(980, 480, "A look at a key",
+                      "The loads of a look in a row: state word, class, length, words, and the state word again. Below "
+                      "is what a state word says of a key, before, live or past, and what looks return that load it "
+                      "in these.")
+    picture.text(20, 24, "a look at a key of generation g, whose value has w words: loads alone", "bold")
+    loads_of_look(picture)
+    picture.text(20, 240, "the state word of the slot as time goes by, and what it says of this key", "bold")
+    for name, x, wide, words, kind in KINDS:
+        picture.cell(x, 276, wide, 44, [name, words], kind, 11)
+    picture.text(420, 268, "Publish", "", 11, "middle")
+    picture.text(660, 268, "Mark", "", 11, "middle")
+    for x in (420, 660):
+        picture.line(x, 320, x, 460, "line")
+    ends_of_looks(picture, 346)
+    picture.text(20, 472, "a dot is a load of the state word; between two dots the look reads the value", "grey", 11)
     return picture

@@ -47,9 +47,11 @@ class Function:
         other.name, other.rows = name, range(self.rows.start + rows, self.rows.stop + rows)
         return other
 
-    def answers(self):
-        """The folder of its hand-written answers, if it has any."""
-        return "/".join(["proofs", *self.module, *([self.type] if self.owners else []), self.name])
+    def answers(self, crate):
+        """The folders of its hand-written answers: one or none. Those of a method are in the module of its type."""
+        proofs = crate.folder / "proofs"
+        found = proofs.rglob(f"{self.type}/{self.name}") if self.owners else [proofs.joinpath(*self.module, self.name)]
+        return [it.relative_to(crate.folder).as_posix() for it in found if it.is_dir()]
 
     def is_named(self, segments):
         """Whether the prover's path of a function, as ["owner", "Owner", "follow"], is this one's."""
@@ -133,10 +135,10 @@ class Edit:
         (function,) = self.functions.values()
         if function.is_of_trait:
             return False
-        answers = crate.folder / function.answers()
+        answers = function.answers(crate)
         module = crate.folder.joinpath("proofs", *function.module)
         # (answers in another place are of a function of the same name, or of this one under a name of its impl)
-        return answers.is_dir() or not any(module.rglob(function.name))
+        return len(answers) == 1 or not any(module.rglob(function.name))
 
     def overlaps(self, other):
         return any(

@@ -53,8 +53,7 @@ class Round:
             edit: [self.wrong_function(edit, it, inserted) for it in edit.functions.values()]
             for edit in self.edits
         }
-        folders = [self.folders(edit) for edit in self.copies]
-        return texts, [it for it in folders if (self.crate.folder / it[0]).is_dir()], wrong
+        return texts, [it for edit in self.copies for it in self.folders(edit)], wrong
 
     def pairs(self, edit):
         """What replaces what, and where: in the function itself, or all of a copy behind the function."""
@@ -76,11 +75,11 @@ class Round:
         return paths_of(it for its in wrong.values() for it in its)
 
     def folders(self, edit):
-        """The folder of a function's answers, that of its copy's, and the name of the one and the other in them."""
+        """Each folder of a function's answers, that of its copy's, and the name of the one and the other in them."""
         (function,) = edit.functions.values()
-        here = function.answers()
-        there = here.removesuffix(function.name) + self.name_of_copy(edit, function)
-        return here, there, f"{here.replace('/', '.')}.", f"{there.replace('/', '.')}."
+        name = self.name_of_copy(edit, function)
+        pairs = [(here, here.removesuffix(function.name) + name) for here in function.answers(self.crate)]
+        return [(*pair, *(f"{it.replace('/', '.')}." for it in pair)) for pair in pairs]
 
     def original(self, function):
         """The function in the crate's own text. (An edit's texts are of one line each, so they move no rows.)"""

@@ -18,7 +18,7 @@ HEAD = "# Crates whose wrong bodies were all refused, by scripts/refused --write
 # How many runs of the gate try all that was seen before once more.
 RUNS = 5
 # With what counts as refused this number changes, so that nothing counts as seen.
-RULES = 1
+RULES = 2
 
 
 class Seen(typing.NamedTuple):

@@ -24,14 +24,14 @@ HEAPS = [
         "sh_table/src/table.rt",
         """        self.table
             .shared
-            .swap::<Does<L, D>>(seat, self.shape.index(place), new)
+            .swap::<Does<L, D>>(seat, table_number(&self.shape, place), new)
 """,
         """        if BROKEN {
-            let found = self.table.shared.load::<Does<L, D>>(seat, self.shape.index(place));
-            self.table.shared.store::<Stores<L, D>>(seat, self.shape.index(place), new);
+            let found = self.table.shared.load::<Does<L, D>>(seat, table_number(&self.shape, place));
+            self.table.shared.store::<Stores<L, D>>(seat, table_number(&self.shape, place), new);
             found
         } else {
-            self.table.shared.swap::<Does<L, D>>(seat, self.shape.index(place), new)
+            self.table.shared.swap::<Does<L, D>>(seat, table_number(&self.shape, place), new)
         }
 """,
     ),
@@ -40,14 +40,14 @@ HEAPS = [
         "sh_table/src/table.rt",
         """        self.table
             .shared
-            .fetch_sub::<Does<L, D>>(seat, self.shape.index(place), less)
+            .fetch_sub::<Does<L, D>>(seat, table_number(&self.shape, place), less)
 """,
         """        if BROKEN {
-            let found = self.table.shared.load::<Does<L, D>>(seat, self.shape.index(place));
-            self.table.shared.store::<Stores<L, D>>(seat, self.shape.index(place), found.wrapping_sub(less));
+            let found = self.table.shared.load::<Does<L, D>>(seat, table_number(&self.shape, place));
+            self.table.shared.store::<Stores<L, D>>(seat, table_number(&self.shape, place), found.wrapping_sub(less));
             found
         } else {
-            self.table.shared.fetch_sub::<Does<L, D>>(seat, self.shape.index(place), less)
+            self.table.shared.fetch_sub::<Does<L, D>>(seat, table_number(&self.shape, place), less)
         }
 """,
     ),
@@ -56,14 +56,14 @@ HEAPS = [
         "sh_table/src/table.rt",
         """        self.table
             .shared
-            .fetch_add::<Does<L, D>>(seat, self.shape.index(place), more)
+            .fetch_add::<Does<L, D>>(seat, table_number(&self.shape, place), more)
 """,
         """        if BROKEN {
-            let found = self.table.shared.load::<Does<L, D>>(seat, self.shape.index(place));
-            self.table.shared.store::<Stores<L, D>>(seat, self.shape.index(place), found.wrapping_add(more));
+            let found = self.table.shared.load::<Does<L, D>>(seat, table_number(&self.shape, place));
+            self.table.shared.store::<Stores<L, D>>(seat, table_number(&self.shape, place), found.wrapping_add(more));
             found
         } else {
-            self.table.shared.fetch_add::<Does<L, D>>(seat, self.shape.index(place), more)
+            self.table.shared.fetch_add::<Does<L, D>>(seat, table_number(&self.shape, place), more)
         }
 """,
     ),
@@ -72,16 +72,16 @@ HEAPS = [
         "sh_table/src/table.rt",
         """        self.table
             .shared
-            .compare_exchange::<Does<L, D>>(seat, self.shape.index(place), old, new)
+            .compare_exchange::<Does<L, D>>(seat, table_number(&self.shape, place), old, new)
 """,
         """        if BROKEN {
-            let found = self.table.shared.load::<Does<L, D>>(seat, self.shape.index(place));
+            let found = self.table.shared.load::<Does<L, D>>(seat, table_number(&self.shape, place));
             if found == old {
-                self.table.shared.store::<Stores<L, D>>(seat, self.shape.index(place), new);
+                self.table.shared.store::<Stores<L, D>>(seat, table_number(&self.shape, place), new);
             }
             found
         } else {
-            self.table.shared.compare_exchange::<Does<L, D>>(seat, self.shape.index(place), old, new)
+            self.table.shared.compare_exchange::<Does<L, D>>(seat, table_number(&self.shape, place), old, new)
         }
 """,
     ),
@@ -90,14 +90,14 @@ HEAPS = [
         "sh_table/src/table.rt",
         """        self.table
             .shared
-            .fetch_or::<Does<L, D>>(seat, self.shape.index(place), bits)
+            .fetch_or::<Does<L, D>>(seat, table_number(&self.shape, place), bits)
 """,
         """        if BROKEN {
-            let found = self.table.shared.load::<Does<L, D>>(seat, self.shape.index(place));
-            self.table.shared.store::<Stores<L, D>>(seat, self.shape.index(place), found | bits);
+            let found = self.table.shared.load::<Does<L, D>>(seat, table_number(&self.shape, place));
+            self.table.shared.store::<Stores<L, D>>(seat, table_number(&self.shape, place), found | bits);
             found
         } else {
-            self.table.shared.fetch_or::<Does<L, D>>(seat, self.shape.index(place), bits)
+            self.table.shared.fetch_or::<Does<L, D>>(seat, table_number(&self.shape, place), bits)
         }
 """,
     ),
@@ -135,6 +135,55 @@ HEAPS = [
             return Ok(Value::empty());
         }
         Ok(value)
+""",
+    ),
+    # Looks.
+    Broken(
+        "look_loads_the_state_once",
+        "sh_table/src/looks.rt",
+        """        self.load::<Brand, _>(
+            seat,
+            (key, name, class_word, count, value),
+            Place::State(name.page, name.slot),
+        )
+""",
+        """        if BROKEN {
+            return sh_word::State::new(sh_word::Kind::Live, name.generation, 0).word();
+        }
+        self.load::<Brand, _>(
+            seat,
+            (key, name, class_word, count, value),
+            Place::State(name.page, name.slot),
+        )
+""",
+    ),
+    Broken(
+        "look_loads_the_state_of_another_slot_at_its_end",
+        "sh_table/src/looks.rt",
+        "            (key, name, class_word, count, value),\n            Place::State(name.page, name.slot),\n",
+        """            (key, name, class_word, count, value),
+            Place::State(name.page, if BROKEN { name.slot ^ 1 } else { name.slot }),
+""",
+    ),
+    Broken(
+        "look_loads_the_state_again_before_the_words",
+        "sh_pass/src/looking.rt",
+        "    let class_word = table.look_class(seat, key, name);\n",
+        """    let class_word = table.look_class(seat, key, name);
+    if BROKEN {
+        let count = table.look_length(seat, key, name, class_word);
+        let mut seen = Value::empty();
+        let after = table.look_again(seat, key, name, class_word, count, &seen);
+        if !is_live_at(name.generation, after) {
+            return Glance::Gone;
+        }
+        let first = first_word(name.slot, class_word);
+        for i in 0..words_to_read(first, count) {
+            seen.push(table.look_word(seat, key, name, class_word, count, &seen, first));
+        }
+        *value = seen;
+        return Glance::Seen;
+    }
 """,
     ),
     # What a word says.

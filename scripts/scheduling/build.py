@@ -7,7 +7,7 @@
 It takes the LLVM module of the program from scripts/trial-build, which says how that differs from what a proved build
 compiles. The toolchain's clang compiles it with the flags of a proved build: `whole.o` and `broken.o` with calls of
 ThreadSanitizer, which clang puts in at the end of its own passes; `steps.o` without them, but with each function of
-STEPS kept as a function. This needs the toolchain alone.
+STEPS and of LOOK kept as a function, also beside another one of the same instructions. This needs the toolchain alone.
 """
 import contextlib
 import hashlib
@@ -33,6 +33,8 @@ WARNINGS = ["-std=gnu11", "-O2", "-Wall", "-Wextra", "-Werror"]
 # The steps of a pass: these functions of sh_table's file table.rt.
 STEPS = "add sub or set_present swap store exchange load".split()
 STEP = re.compile(r'@"sh_table::table::[^"\n]*?\b(' + "|".join(STEPS) + r')(?:::<[^"\n]*)?"')
+# The looks of a pass, and of the owner of a shard.
+LOOK = re.compile(r'@"(?:sh_pass::pass::PassOn|sh_shard::shard::ShardOn)::glance(?:::<[^"\n]*)?"')
 
 
 def trial_of(top):
@@ -51,13 +53,21 @@ def with_calls(text):
 
 
 def with_steps(text):
-    """The module in which each step stays a function."""
+    """The module in which each step and each look stays a function."""
 
     def kept(found):
         line = found[0]
-        return line.removesuffix("#0 {") + "noinline #0 {" if STEP.search(line.split("(")[0]) else line
+        name = line.split("(")[0]
+        if not STEP.search(name) and not LOOK.search(name):
+            return line
+        return line.removesuffix("#0 {").replace(" alwaysinline ", " ") + "noinline #0 {"
 
     return re.sub(r"(?m)^define internal [^\n]*#0 \{$", kept, text)
+
+
+def unmerged(flags):
+    """The flags, of which none lets functions of the same instructions be one function."""
+    return " ".join(flags).replace("-Xclang -fmerge-functions -mllvm -mergefunc-use-aliases", "").split()
 
 
 def text_of(trial, crate, folder):
@@ -74,14 +84,14 @@ def build(top, crate, to, is_broken):
     with tempfile.TemporaryDirectory(prefix="scheduling-") as folder:
         folder = pathlib.Path(folder)
         text = text_of(trial, crate, folder)
-        calls = ["-fsanitize=thread"]
-        made = {"whole": (with_calls(text), calls), "steps": (with_steps(text), [])}
+        calls = [*trial.FLAGS, "-fsanitize=thread"]
+        made = {"whole": (with_calls(text), calls), "steps": (with_steps(text), unmerged(trial.FLAGS))}
         if is_broken:
             made = {"broken": (broken.with_selectors(with_calls(text)), calls)}
         running = []
         for name, (module, flags) in made.items():
             (folder / f"{name}.ll").write_text(module)
-            words = [KIT / "toolchain/bin/clang", f"--target={trial.TARGET}", "-x", "ir", *trial.FLAGS, *flags]
+            words = [KIT / "toolchain/bin/clang", f"--target={trial.TARGET}", "-x", "ir", *flags]
             running.append(subprocess.Popen([*words, "-c", folder / f"{name}.ll", "-o", to / f"{name}.o"]))
         if any(one.wait() for one in running):
             sys.exit("build.py: clang failed")

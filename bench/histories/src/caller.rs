@@ -11,8 +11,6 @@ pub trait Caller: Send {
     /// Whether this call removed the key.
     fn remove(&mut self, key: u64) -> bool;
 
-    /// Gets a value and gives it back.
-    fn get(&mut self, key: u64) -> Option<u64> {
-        self.hold(key, &mut |_| {})
-    }
+    /// Copies a value, and keeps no hold. Returns nothing if the key has no value.
+    fn load(&mut self, key: u64) -> Option<u64>;
 }

@@ -7,7 +7,7 @@
 //!   again. Beyond 100,000 inserts only the answers on that key are written.
 //! - `removers`: two threads remove one value, one after the other, while a third holds it.
 //! - `race [ROUNDS]`: two threads remove one value at the same time.
-//! - `board [THREADS OPERATIONS]`: threads insert, get and remove by keys on a common board, and sometimes get by a key
+//! - `board [THREADS OPERATIONS]`: threads insert, load and remove by keys on a common board, and sometimes load by a key
 //!   of their own that they remembered.
 //!
 //! What was counted is written as comments behind the answers.

@@ -17,6 +17,7 @@ fn now() -> u64 {
 enum Answer {
     Insert(u64),
     Got(u64),
+    Seen(u64),
     Gone,
     Removed,
     Released,
@@ -41,6 +42,7 @@ impl Line {
         match answer {
             Answer::Insert(value) => writeln!(text, "{pass} Insert {key} 1 {value}"),
             Answer::Got(value) => writeln!(text, "{pass} Got {key} 1 {value}"),
+            Answer::Seen(value) => writeln!(text, "{pass} Seen {key} 1 {value}"),
             Answer::Gone => writeln!(text, "{pass} Gone {key}"),
             Answer::Removed => writeln!(text, "{pass} Removed {key}"),
             Answer::Released => writeln!(text, "{pass} Released {key}"),
@@ -125,6 +127,14 @@ impl<P: Peer> Caller for Recorded<'_, P> {
         };
         self.note(release, now(), key, Answer::Released);
         Some(value)
+    }
+
+    fn load(&mut self, key: u64) -> Option<u64> {
+        let begin = now();
+        let mut found = None;
+        self.peer.hold(key, &mut |value| found = Some(value));
+        self.note(begin, now(), key, found.map_or(Answer::Gone, Answer::Seen));
+        found
     }
 
     fn remove(&mut self, key: u64) -> bool {

@@ -35,6 +35,15 @@ impl<const PLAIN: bool> Words<PLAIN> {
         words[..len].iter().fold(0, |sum, word| sum.wrapping_add(*word))
     }
 
+    /// The sum of the words of a key's value, if the slot is live in the key's generation before they are read and
+    /// afterwards. Nobody inserts or removes meanwhile.
+    pub fn look(&self, key: u64) -> Option<u64> {
+        let (spot, generation) = self.place(key)?;
+        let is_there = || is_live(self.state(spot).load(SeqCst), generation);
+        let sum = is_there().then(|| self.sum(spot))?;
+        is_there().then_some(sum)
+    }
+
     /// Removes a key: whether this thread did, and the slot, if it ended its generation.
     pub fn end(&self, key: u64) -> (bool, Option<Spot>) {
         let Some((spot, generation)) = self.place(key) else {

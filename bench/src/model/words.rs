@@ -1,8 +1,11 @@
-//! The words that threads share, and the place of each: 195 a page, then two for each shard, as in the heap.
+//! The words that threads share, and the place of each, as in the heap. Each page has 192 words for its slots. Behind
+//! those of all pages come the classes of the pages, then two more words for each page, and two for each shard.
 use std::sync::atomic::{AtomicU64, Ordering};
 
 pub const SLOTS: usize = 48;
 pub const PAGE_WORDS: usize = 195;
+// Those of a page's slots: states, lengths, words of values, and links.
+const BODY_WORDS: usize = 4 * SLOTS;
 
 const WIDTHS: [usize; 8] = [1, 2, 3, 4, 6, 8, 12, 16];
 const SLOTS_OF: [usize; 8] = [48, 24, 16, 12, 8, 6, 4, 3];
@@ -39,10 +42,16 @@ pub struct Spot {
     pub slot: usize,
 }
 
+// A line of the cache.
+#[repr(align(64))]
+struct Line([AtomicU64; LINE_WORDS]);
+
+const LINE_WORDS: usize = 8;
+
 /// All words of a heap with `shards` shards of `pages` pages each. If `PLAIN`, the words of a value are stored by plain
 /// moves. A locked instruction follows them, the publish, so their order is the same.
 pub struct Words<const PLAIN: bool = false> {
-    words: Box<[AtomicU64]>,
+    lines: Box<[Line]>,
     pub shards: usize,
     pub pages: usize,
 }
@@ -52,53 +61,60 @@ impl<const PLAIN: bool> Words<PLAIN> {
     pub const FILLS: Ordering = if PLAIN { Ordering::Release } else { Ordering::SeqCst };
 
     pub fn new(shards: usize, pages: usize) -> Self {
-        let total = shards * pages * PAGE_WORDS;
-        let at_opening = |i: usize| match i % PAGE_WORDS {
-            3..=50 if i < total => GENERATION,
-            _ => 0,
-        };
-        let words = (0..total + 2 * shards).map(|i| AtomicU64::new(at_opening(i))).collect();
-        Words { words, shards, pages }
+        let all = shards * pages;
+        let at_opening = |i: usize| if i < all * BODY_WORDS && i % BODY_WORDS < SLOTS { GENERATION } else { 0 };
+        let line = |n: usize| Line(std::array::from_fn(|i| AtomicU64::new(at_opening(LINE_WORDS * n + i))));
+        let lines = (0..(all * PAGE_WORDS + 2 * shards).div_ceil(LINE_WORDS)).map(line).collect();
+        Words { lines, shards, pages }
+    }
+
+    fn word(&self, number: usize) -> &AtomicU64 {
+        &self.lines[number / LINE_WORDS].0[number % LINE_WORDS]
     }
 
     fn in_page(&self, page: usize, offset: usize) -> &AtomicU64 {
-        &self.words[page * PAGE_WORDS + offset]
+        self.word(page * BODY_WORDS + offset)
+    }
+
+    // A word behind those of all slots.
+    fn behind(&self, words_a_page: usize, offset: usize) -> &AtomicU64 {
+        self.word(self.shards * self.pages * words_a_page + offset)
     }
 
     pub fn class(&self, page: usize) -> &AtomicU64 {
-        self.in_page(page, 0)
+        self.behind(BODY_WORDS, page)
     }
 
     pub fn head(&self, page: usize) -> &AtomicU64 {
-        self.in_page(page, 1)
+        self.behind(BODY_WORDS + 1, 2 * page)
     }
 
     pub fn page_link(&self, page: usize) -> &AtomicU64 {
-        self.in_page(page, 2)
+        self.behind(BODY_WORDS + 1, 2 * page + 1)
     }
 
     pub fn state(&self, spot: Spot) -> &AtomicU64 {
-        self.in_page(spot.page, 3 + spot.slot)
-    }
-
-    pub fn link(&self, spot: Spot) -> &AtomicU64 {
-        self.in_page(spot.page, 51 + spot.slot)
+        self.in_page(spot.page, spot.slot)
     }
 
     pub fn length(&self, spot: Spot) -> &AtomicU64 {
-        self.in_page(spot.page, 99 + spot.slot)
+        self.in_page(spot.page, SLOTS + spot.slot)
     }
 
     pub fn payload(&self, page: usize, i: usize) -> &AtomicU64 {
-        self.in_page(page, 147 + i)
+        self.in_page(page, 2 * SLOTS + i)
+    }
+
+    pub fn link(&self, spot: Spot) -> &AtomicU64 {
+        self.in_page(spot.page, 3 * SLOTS + spot.slot)
     }
 
     pub fn owner(&self, shard: usize) -> &AtomicU64 {
-        &self.words[self.shards * self.pages * PAGE_WORDS + 2 * shard]
+        self.behind(PAGE_WORDS, 2 * shard)
     }
 
     pub fn bell(&self, shard: usize) -> &AtomicU64 {
-        &self.words[self.shards * self.pages * PAGE_WORDS + 2 * shard + 1]
+        self.behind(PAGE_WORDS, 2 * shard + 1)
     }
 
     /// The key of a slot in a generation.

@@ -5,6 +5,8 @@
 //! It takes some of the options of `tool_bench`, and writes what that writes: counts to the standard output, and the
 //! time to the standard error. The exit status is 2 if the words are wrong, and 3 if a call is refused.
 mod c;
+#[path = "../../src/gate.rs"]
+mod gate;
 mod opening;
 mod options;
 mod reuse;
@@ -41,7 +43,7 @@ fn tell(words: &[&str]) -> Result<(), String> {
         return Ok(());
     }
     let (options, time, sum) = measured(words)?;
-    println!("operations {}\nsum {sum}", options.operations);
+    println!("operations {}\nsum {sum}", options.operations * options.threads);
     eprintln!("nanoseconds {}", time.as_nanos());
     Ok(())
 }

@@ -8,8 +8,10 @@ pub enum Workload {
     GetOwn,
     Read,
     ReadInto,
-    /// A get, a read and a release by one call.
+    /// The value of a key by one call, which keeps no hold.
     Load,
+    /// As `Load`, by the owner of the shard.
+    LoadOwn,
     /// The same, into a value of the caller's.
     LoadInto,
     /// Loads in batches of eight keys, each by one call.
@@ -24,10 +26,23 @@ pub enum Workload {
 #[derive(Clone, Copy, Debug, PartialEq, Eq)]
 pub struct Options {
     pub workload: Workload,
+    /// How many threads use the keys.
+    pub threads: usize,
+    /// Of each thread.
     pub operations: usize,
     /// How many values there are.
     pub live: usize,
     pub words: usize,
+    /// How many chunks the heap may have, or 0 for one that does not grow.
+    pub chunks: u32,
+}
+
+impl Workload {
+    // Whether the owner of the shard does it.
+    fn is_of_the_owner(self) -> bool {
+        use Workload::*;
+        matches!(self, GetOwn | LoadOwn | OwnKeys | Insert | Remove)
+    }
 }
 
 fn workload(name: &str) -> Result<Workload, String> {
@@ -37,6 +52,7 @@ fn workload(name: &str) -> Result<Workload, String> {
         "read" => Ok(Workload::Read),
         "read-into" => Ok(Workload::ReadInto),
         "load" => Ok(Workload::Load),
+        "load-own" => Ok(Workload::LoadOwn),
         "load-into" => Ok(Workload::LoadInto),
         "load-each" => Ok(Workload::LoadEach),
         "own-keys" => Ok(Workload::OwnKeys),
@@ -50,19 +66,34 @@ impl Options {
     /// What the words ask for, of which the first is the workload, and then options and their numbers.
     pub fn of(words: &[&str]) -> Result<Options, String> {
         let (name, rest) = words.split_first().ok_or("no workload")?;
-        let mut options = Options { workload: workload(name)?, operations: 1000, live: 1, words: 1 };
+        let mut options = Options::usual(workload(name)?);
         for pair in rest.chunks(2) {
             options.set(pair)?;
         }
-        Ok(options)
+        options.checked()
+    }
+
+    /// The usual ones of a workload.
+    pub fn usual(workload: Workload) -> Options {
+        Options { workload, threads: 1, operations: 1000, live: 1, words: 1, chunks: 0 }
+    }
+
+    fn checked(self) -> Result<Options, String> {
+        match self.workload {
+            Workload::OwnKeys if self.chunks > 0 => Err("a heap that grows lists no keys".to_string()),
+            workload if self.threads > 1 && workload.is_of_the_owner() => Err("a shard has one owner".to_string()),
+            _ => Ok(self),
+        }
     }
 
     fn set(&mut self, pair: &[&str]) -> Result<(), String> {
         let number = || pair.get(1).and_then(|word| word.parse::<usize>().ok()).ok_or(format!("{} of what?", pair[0]));
         match (pair[0], number()?) {
+            ("--threads", number @ 1..=16) => self.threads = number,
             ("--operations", number) => self.operations = number,
             ("--live", number) if number > 0 => self.live = number,
             ("--words", number @ 1..=16) => self.words = number,
+            ("--chunks", number @ 1..=256) => self.chunks = number as u32,
             (option, number) => return Err(format!("no option {option} {number}")),
         }
         Ok(())
@@ -75,9 +106,11 @@ mod tests {
 
     #[test]
     fn words_are_options() {
-        let options = Options::of(&["load-into", "--operations", "9", "--live", "3", "--words", "16"]);
-        assert_eq!(options, Ok(Options { workload: Workload::LoadInto, operations: 9, live: 3, words: 16 }));
-        let usual = Options { workload: Workload::Get, operations: 1000, live: 1, words: 1 };
+        let words = "load-into --threads 4 --operations 9 --live 3 --words 16 --chunks 2";
+        let workload = Workload::LoadInto;
+        let options = Options { workload, threads: 4, operations: 9, live: 3, words: 16, chunks: 2 };
+        assert_eq!(Options::of(&words.split(' ').collect::<Vec<_>>()), Ok(options));
+        let usual = Options { workload: Workload::Get, threads: 1, operations: 1000, live: 1, words: 1, chunks: 0 };
         assert_eq!(Options::of(&["get"]), Ok(usual));
     }
 
@@ -85,6 +118,10 @@ mod tests {
     fn wrong_words_are_refused() {
         for words in [&[][..], &["set"], &["get", "--live"], &["get", "--live", "0"], &["get", "--words", "17"]] {
             assert!(Options::of(words).is_err(), "{words:?}");
+        }
+        let numbers = [["get", "--chunks", "257"], ["own-keys", "--chunks", "1"], ["get", "--threads", "17"]];
+        for words in numbers.into_iter().chain([["load-own", "--threads", "2"], ["insert", "--threads", "2"]]) {
+            assert!(Options::of(&words).is_err(), "{words:?}");
         }
     }
 }

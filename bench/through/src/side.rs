@@ -27,17 +27,23 @@ impl Samples {
     }
 }
 
-/// A heap with an owner of its shard and a pass that owns nothing, by the calls of the library. Each function is one
-/// loop, in the side's language. A call that is refused ends the program: none should be.
-pub trait Side: Sized {
-    /// With room for `values` values of `words` words.
-    fn open(values: u64, words: u32) -> Self;
+/// What a heap has room for.
+#[derive(Clone, Copy, Debug)]
+pub struct Place {
+    pub values: u64,
+    /// Of each value.
+    pub words: u32,
+    /// How many chunks it may have, or 0 if it does not grow.
+    pub chunks: u32,
+    /// How many passes it has beside the owner's.
+    pub users: u32,
+}
 
+/// A pass that uses keys, by the calls of the library. Each function is one loop, in the side's language. A call that is
+/// refused ends the program: none should be.
+pub trait User: Send {
     /// Takes a hold on each key and gives it back. Answers the sum of the keys.
     fn get_each(&mut self, keys: &[u64]) -> u64;
-
-    /// The same, by the owner of the shard.
-    fn get_each_own(&mut self, keys: &[u64]) -> u64;
 
     /// Reads the value of each key under a hold. Answers the sum of the words.
     fn read_each(&mut self, keys: &[u64]) -> u64;
@@ -45,14 +51,27 @@ pub trait Side: Sized {
     /// The same, into one value of the caller's.
     fn read_each_into(&mut self, keys: &[u64]) -> u64;
 
-    /// The same as `read_each`, by one call for each key.
+    /// Reads the value of each key by one call, which keeps no hold. Answers the sum of the words.
     fn load_each(&mut self, keys: &[u64]) -> u64;
 
-    /// The same as `load_each`, into one value of the caller's.
+    /// The same, into one value of the caller's.
     fn load_each_into(&mut self, keys: &[u64]) -> u64;
 
     /// The same as `load_each`, by one call for each eight keys. Keys after the last eight are left out.
     fn load_in_eights(&mut self, keys: &[u64]) -> u64;
+}
+
+/// A heap with an owner of its shard and passes that own nothing. Its functions are loops as those of a user are.
+pub trait Side: Sized {
+    type User: User;
+
+    fn open(place: Place) -> Self;
+
+    /// The owner, as one that uses keys.
+    fn owner(&mut self) -> &mut Self::User;
+
+    /// The passes that own nothing.
+    fn users(&mut self) -> &mut [Self::User];
 
     /// Goes through the keys of the owner's shard until it was given `count` of them, from the first key again after
     /// the last. Answers the sum of the keys. The shard has a key.

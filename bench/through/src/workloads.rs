@@ -1,7 +1,9 @@
-//! The workloads over a side: the same loops as in `tool_bench`, in one thread.
+//! The workloads over a side: the same loops as in `tool_bench`. Its owner has one thread.
+use crate::gate::Gate;
 use crate::options::{Options, Workload};
-use crate::side::{Samples, Side};
+use crate::side::{Place, Samples, Side, User};
 use std::hint::black_box;
+use std::thread;
 use std::time::{Duration, Instant};
 
 // So many values are inserted, and then removed.
@@ -22,33 +24,54 @@ fn walk_of(keys: &[u64]) -> Vec<u64> {
     once.iter().copied().cycle().take(once.len().max(SHORTEST_WALK)).collect()
 }
 
-fn use_each<S: Side>(side: &mut S, keys: &[u64], workload: Workload) -> u64 {
+fn use_each<U: User>(user: &mut U, keys: &[u64], workload: Workload) -> u64 {
     match workload {
-        Workload::Read => side.read_each(keys),
-        Workload::ReadInto => side.read_each_into(keys),
-        Workload::Load => side.load_each(keys),
-        Workload::LoadInto => side.load_each_into(keys),
-        Workload::LoadEach => side.load_in_eights(keys),
-        Workload::GetOwn => side.get_each_own(keys),
-        Workload::OwnKeys => side.own_keys(keys.len()),
-        _ => side.get_each(keys),
+        Workload::Read => user.read_each(keys),
+        Workload::ReadInto => user.read_each_into(keys),
+        Workload::Load | Workload::LoadOwn => user.load_each(keys),
+        Workload::LoadInto => user.load_each_into(keys),
+        Workload::LoadEach => user.load_in_eights(keys),
+        _ => user.get_each(keys),
     }
 }
 
-fn rounds<S: Side>(side: &mut S, walk: &[u64], options: &Options) -> u64 {
-    let mut sum = 0u64;
-    for _round in 0..options.operations / walk.len() {
-        sum = sum.wrapping_add(use_each(side, black_box(walk), options.workload));
-    }
-    sum.wrapping_add(use_each(side, &walk[..options.operations % walk.len()], options.workload))
-}
-
-fn getting<S: Side>(side: &mut S, keys: &[u64], options: &Options) -> (Duration, u64) {
-    let walk = walk_of(keys);
-    use_each(side, &walk, options.workload);
+// The time of the operations on these keys, of which there are some, and the sum of what they answered.
+fn rounds(keys: &[u64], options: &Options, mut one: impl FnMut(&[u64]) -> u64) -> (Duration, u64) {
     let start = Instant::now();
-    let sum = rounds(side, &walk, options);
+    let mut sum = 0u64;
+    for _round in 0..options.operations / keys.len() {
+        sum = sum.wrapping_add(one(black_box(keys)));
+    }
+    sum = sum.wrapping_add(one(&keys[..options.operations % keys.len()]));
     (start.elapsed(), sum)
+}
+
+// The time of the slowest of the users, each in a thread of its own, and the sum of what all were answered. A user alone
+// is in this thread.
+fn together<U: User>(users: &mut [U], walk: &[u64], options: &Options) -> (Duration, u64) {
+    let gate = &Gate::new(users.len());
+    let job = |user: &mut U| {
+        use_each(user, walk, options.workload);
+        gate.pass();
+        rounds(walk, options, |keys| use_each(user, keys, options.workload))
+    };
+    if let [user] = users {
+        return job(user);
+    }
+    thread::scope(|scope| {
+        let threads: Vec<_> = users.iter_mut().map(|user| scope.spawn(move || job(user))).collect();
+        let done = threads.into_iter().map(|thread| thread.join().expect("the thread ends well"));
+        done.fold((Duration::ZERO, 0), |(most, sum), (time, more)| (most.max(time), more.wrapping_add(sum)))
+    })
+}
+
+fn using<S: Side>(side: &mut S, keys: &[u64], options: &Options) -> (Duration, u64) {
+    let walk = walk_of(keys);
+    match options.workload {
+        Workload::GetOwn | Workload::LoadOwn => together(std::slice::from_mut(side.owner()), &walk, options),
+        Workload::OwnKeys => rounds(&walk, options, |keys| side.own_keys(keys.len())),
+        _ => together(side.users(), &walk, options),
+    }
 }
 
 // Inserts a batch and removes it; one of the two is measured.
@@ -77,15 +100,17 @@ fn inserting<S: Side>(side: &mut S, samples: &Samples, options: &Options) -> (Du
     (time, sum)
 }
 
-/// The time of all operations, and a sum of what they answered.
+/// The time of the operations of the slowest thread, and a sum of what all were answered.
 pub fn measure<S: Side>(options: &Options) -> (Duration, u64) {
-    let mut side = S::open((options.live + BATCH) as u64, options.words as u32);
+    let Options { words, chunks, threads, .. } = *options;
+    let values = (options.live + BATCH) as u64;
+    let mut side = S::open(Place { values, words: words as u32, chunks, users: threads as u32 });
     let samples = Samples::new(options.words);
     let mut keys = vec![0; options.live];
     side.insert_each(&samples, &mut keys);
     match options.workload {
         Workload::Insert | Workload::Remove => inserting(&mut side, &samples, options),
-        _ => getting(&mut side, &keys, options),
+        _ => using(&mut side, &keys, options),
     }
 }
 
@@ -94,19 +119,43 @@ mod tests {
     use super::*;
     use crate::{c::C, rust::Rust};
 
-    fn sums(workload: Workload, live: usize, words: usize) -> u64 {
-        let options = Options { workload, operations: 2000, live, words };
+    const READING: [Workload; 6] =
+        [Workload::Read, Workload::ReadInto, Workload::Load, Workload::LoadOwn, Workload::LoadInto, Workload::LoadEach];
+
+    fn sums_of(options: Options) -> u64 {
         let (rust, c) = (measure::<Rust>(&options).1, measure::<C>(&options).1);
         assert_eq!(rust, c, "{options:?}");
         rust
     }
 
+    fn sums(workload: Workload, live: usize, words: usize) -> u64 {
+        sums_of(Options { operations: 2000, live, words, ..Options::usual(workload) })
+    }
+
     #[test]
     fn both_sides_read_the_words_that_were_stored() {
-        let ways = [Workload::Read, Workload::ReadInto, Workload::Load, Workload::LoadInto, Workload::LoadEach];
-        for way in ways {
+        for way in READING {
             assert_eq!(sums(way, 1, 16), 2000 * 120, "the words 0 to 15");
             assert_eq!(sums(way, 8, 1), 250 * 16 * 28, "each of the words 0, 16, .., 112 so often");
+        }
+    }
+
+    #[test]
+    fn both_sides_read_them_in_a_heap_that_grows() {
+        for way in READING {
+            let options = Options { operations: 2000, live: 8, chunks: 2, ..Options::usual(way) };
+            assert_eq!(sums_of(options), 250 * 16 * 28);
+        }
+        for workload in [Workload::Get, Workload::GetOwn, Workload::Insert, Workload::Remove] {
+            assert_ne!(sums_of(Options { live: 3, words: 2, chunks: 2, ..Options::usual(workload) }), 0);
+        }
+    }
+
+    #[test]
+    fn each_thread_does_all_operations() {
+        for way in [Workload::Read, Workload::Load, Workload::LoadInto, Workload::LoadEach] {
+            let options = Options { threads: 4, operations: 2000, live: 8, ..Options::usual(way) };
+            assert_eq!(sums_of(options), 4 * 250 * 16 * 28);
         }
     }
 

@@ -1,5 +1,5 @@
-//! Each export reaches each code that `shardheap.h` names for it, except `Waiting`, which takes a second thread, and
-//! `Taken` of a heed, which takes a receipt of another heap.
+//! Each export reaches each code that `shardheap.h` names for it, except three. `Waiting` and `Crowded` of a load take
+//! a second thread, and `Taken` of a heed takes a receipt of another heap.
 //!
 //! The heaps are of layout tiny, and those of `growing` grow. A test opens a heap and closes it; its story is in
 //! functions over handles.

@@ -1,5 +1,5 @@
 //! The calls that name a value: what they store, and what they write into the caller's room.
-ghost use Rattle.std.specs.Prelude.{◌≡◌, ◌≤◌, ◌+◌, ◌++◌, length};
+ghost use Rattle.std.specs.Prelude.{◌≡◌, ◌≤◌, ◌+◌, ◌++◌, drop, length};
 ghost use Rattle.c_handles.specs.HeldPasses.{HeldFetches, HeldReads};
 ghost use Rattle.c_exports.specs.Told.{InsertTold, InsertsWords, PrepareTold, PreparesFor, ReadTold, WordsTold};
 ghost use Rattle.c_exports.specs.Told.{number_told};
@@ -9,6 +9,18 @@ use c_handles::{HeldPass, PassHandle};
 use sh_shape::classes;
 use sh_value::{Hold, Refusal, Value, WORDS_MAX};
 use std::alloc::Global;
+
+// Copies words to the front of the room. (Most values have one word, and one store takes less than a call that copies.)
+fn copy_words(told: &[u64], words: &mut [u64])
+    requires { length told.now ≤ length words.old }
+    ensures { words.new ≡ told.now ++ drop (length told.now) words.old }
+{
+    if told.len() == 1 {
+        words[0] = told[0];
+    } else {
+        words[..told.len()].copy_from_slice(told);
+    }
+}
 
 // Writes the words of a value to the front of the room, and how many they are.
 pub(crate) fn write_words(value: &Value, words: &mut [u64], count: &mut u64) -> u32
@@ -20,7 +32,7 @@ pub(crate) fn write_words(value: &Value, words: &mut [u64], count: &mut u64) -> 
     if told.len() > words.len() {
         return SHORT;
     }
-    words[..told.len()].copy_from_slice(told);
+    copy_words(told, words);
     OK
 }
 
@@ -48,7 +60,7 @@ pub extern "C" fn shardheap_raw_read(
     }
 }
 
-/// Gets, reads and releases a key in one call. The holds stay as they were.
+/// Loads the value of a key, by a look. The holds stay as they were.
 #[unsafe(no_mangle)]
 pub extern "C" fn shardheap_raw_load(
     _alloc: Global,

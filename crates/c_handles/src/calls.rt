@@ -52,8 +52,7 @@ impl HeldPass {
         }
     }
 
-    /// Returns the value of a key: a get, a read and a release in one call. Refused as a get is. The holds stay as they
-    /// were.
+    /// Returns the value of a key, by a look. Refused as the `look` of a reader is. The holds stay as they were.
     pub fn fetch(&mut self, key: u64) -> Result<Value, Refusal>
         ensures { HeldFetches key self.old result self.new }
     {
@@ -67,6 +66,7 @@ impl HeldPass {
     }
 
     /// The same into a value of the caller's, which is as it was if the call is refused.
+    #[inline(always)]
     pub fn fetch_into(&mut self, key: u64, value: &mut Value) -> Result<(), Refusal>
         ensures { FillsByKey (AnyDoes (λ l. SideDoes l (λ v a w. FetchIntoDoes l key v value.old a value.new w)))
             (λ v a w. FetchIntoDoes chunked (key_within key) v value.old a value.new w) key self.old result self.new }

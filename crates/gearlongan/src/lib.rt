@@ -29,7 +29,7 @@
 //!
 //!     fn run(self) -> (Pass<'a, Wide>, Result<Value, Refusal>) {
 //!         let Reading { mut pass, key } = self;
-//!         let value = pass.fetch(key);                                    // get, read and release in one
+//!         let value = pass.look(key);                                     // read, without a hold
 //!         (pass, value)
 //!     }
 //! }

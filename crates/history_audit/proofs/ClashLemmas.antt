@@ -2,7 +2,7 @@
 use Rattle.std.proofs.Common.{◌≡◌, ℕ, ◌-◌, true, false, List, Option, Some, None, refl, sym, ◌∙◌, ap, inr}
 use Rattle.std.specs.Prelude.{is_some, IsSome, option_map}
 use Rattle.sh_history.specs.declared.entry.Entry.{Entry}
-use Rattle.sh_history.specs.declared.entry.Entry.TheVariants.{Got, Gone, Crowded, Removed}
+use Rattle.sh_history.specs.declared.entry.Entry.TheVariants.{Got, Gone, Crowded, Removed, Seen}
 use Rattle.sh_history.specs.declared.checker.Why.TheVariants.{AfterRemoval, StillThere}
 use Rattle.sh_history.specs.History.{value_of, is_removed, holds_on}
 use Rattle.history_audit.specs.declared.note.Note.{Note}
@@ -48,16 +48,22 @@ module _ (lines : List (ℕ × Entry)) (key : ℕ) (note : Note) (is : IsNote li
     go (Some line) some =
         record { is_why = (is_issued, is_removed_at line some); by = sym some ∙ is.removed }
 
-  pub got_judged : (passes guard_max pass : ℕ) (value : List ℕ) → note.value ≡ value
+  -- a get and a look of the value are judged alike
+  pub read_judged : (passes guard_max pass : ℕ) (value : List ℕ) → note.value ≡ value
       → IsJudged passes guard_max lines (Got pass key value) (after_removal note.removed)
-  got_judged passes guard_max pass value same = go note.removed refl where
+      × IsJudged passes guard_max lines (Seen pass key value) (after_removal note.removed)
+  read_judged passes guard_max pass value same = go note.removed refl where
     of_value : value_of (entries_in lines) key ≡ Some value
     of_value = issued ∙ ap Some same
 
     go : (removed : Option ℕ) → note.removed ≡ removed
         → IsJudged passes guard_max lines (Got pass key value) (after_removal removed)
-    go None none = (of_value, not_removed none)
-    go (Some line) some = record { is_why = (of_value, is_removed_at line some); by = sym some ∙ is.removed }
+        × IsJudged passes guard_max lines (Seen pass key value) (after_removal removed)
+    go None none = ((of_value, not_removed none), (of_value, not_removed none))
+    go (Some line) some = (
+      record { is_why = (of_value, is_removed_at line some); by = sym some ∙ is.removed },
+      record { is_why = (of_value, is_removed_at line some); by = sym some ∙ is.removed },
+    )
 
   pub crowded_after : (passes guard_max pass line : ℕ) → note.removed ≡ Some line
       → IsJudged passes guard_max lines (Crowded pass key) (after_removal note.removed)

@@ -4,7 +4,7 @@ use Rattle.std.proofs.Common.{sym, rules, arith, eq-eqb}
 use Rattle.std.specs.Prelude.{◌==◌, option_map}
 use Rattle.std.specs.Option.{option_or}
 use Rattle.sh_history.specs.declared.entry.Entry.{Entry}
-use Rattle.sh_history.specs.declared.entry.Entry.TheVariants.{Insert, Got, Gone, Crowded, Removed, Released}
+use Rattle.sh_history.specs.declared.entry.Entry.TheVariants.{Insert, Got, Gone, Crowded, Removed, Released, Seen}
 use Rattle.sh_history.specs.History.{is_got_of, is_release_of, is_removal_of}
 use Rattle.sh_history.proofs.LogLaws.{count_by-push}
 use Rattle.history_audit.specs.declared.note.Note.{Note}
@@ -68,6 +68,13 @@ adds_nothing line (Gone p k) key known apart = record {
   released = omega arith;
 }
 adds_nothing line (Crowded p k) key known apart = record {
+  value = sym (or_none _);
+  inserted = sym (or_none _);
+  removed = sym (or_none _);
+  got = omega arith;
+  released = omega arith;
+}
+adds_nothing line (Seen p k v) key known apart = record {
   value = sym (or_none _);
   inserted = sym (or_none _);
   removed = sym (or_none _);
@@ -142,7 +149,7 @@ module _ (lines : List (ℕ × Entry)) (line : ℕ) where
     released = rw (eq-eqb k k refl) refl;
   })
 
-  -- these two entries change no note
+  -- these three entries change no note
   pub gone_notes : (p k q : ℕ) (note : Option Note) → IsNote lines q note
       → IsNote (lines ++ (line, Gone p k) ∷ []) q note
   gone_notes p k q note is = is_note_after lines line (Gone p k) q note note is (record {
@@ -156,6 +163,16 @@ module _ (lines : List (ℕ × Entry)) (line : ℕ) where
   pub crowded_notes : (p k q : ℕ) (note : Option Note) → IsNote lines q note
       → IsNote (lines ++ (line, Crowded p k) ∷ []) q note
   crowded_notes p k q note is = is_note_after lines line (Crowded p k) q note note is (record {
+    value = sym (or_none _);
+    inserted = sym (or_none _);
+    removed = sym (or_none _);
+    got = omega arith;
+    released = omega arith;
+  })
+
+  pub seen_notes : (p k : ℕ) (v : List ℕ) (q : ℕ) (note : Option Note) → IsNote lines q note
+      → IsNote (lines ++ (line, Seen p k v) ∷ []) q note
+  seen_notes p k v q note is = is_note_after lines line (Seen p k v) q note note is (record {
     value = sym (or_none _);
     inserted = sym (or_none _);
     removed = sym (or_none _);

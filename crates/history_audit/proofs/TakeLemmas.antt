@@ -5,7 +5,7 @@ use Rattle.std.proofs.Common.{sym, ◌∙◌, ap, arith}
 use Rattle.std.specs.Prelude.{◌==◌, ◌&&◌, is_some, nat_eq}
 use Rattle.std.specs.HashMap.{get, hash_map_len}
 use Rattle.sh_history.specs.declared.entry.Entry.{Entry}
-use Rattle.sh_history.specs.declared.entry.Entry.TheVariants.{Insert, Got, Gone, Crowded, Removed, Released}
+use Rattle.sh_history.specs.declared.entry.Entry.TheVariants.{Insert, Got, Gone, Crowded, Removed, Released, Seen}
 use Rattle.sh_history.specs.History.{value_of, is_removed, holds_by, got_count, got_count_by, is_got_of}
 use Rattle.sh_history.specs.History.{is_got_by, Allowed}
 use Rattle.sh_history.proofs.LogLaws.{count_by-cons}
@@ -19,7 +19,7 @@ use Rattle.history_audit.proofs.LineLemmas.{removed_by_line}
 use Rattle.history_audit.proofs.HeldLemmas.{are_same}
 use Rattle.history_audit.proofs.NoteLemmas.{notes_written, inserted_note, got_note, removed_note, released_note}
 use Rattle.history_audit.proofs.NoteLemmas.{gone_notes}
-use Rattle.history_audit.proofs.NoteLemmas.{crowded_notes}
+use Rattle.history_audit.proofs.NoteLemmas.{crowded_notes, seen_notes}
 use Rattle.history_audit.proofs.FollowLemmas.{IsSame, follows_push, is_held}
 
 -- the note on this key is written, and the others stay as they were
@@ -110,7 +110,17 @@ module _ (a b : Audit) (lines : List (ℕ × Entry)) (line : ℕ) (is : Follows 
           omega arith
       go q r false apart = omega arith
 
--- these two entries change nothing
+-- these three entries change nothing
+pub takes_seen : (a : Audit) (lines : List (ℕ × Entry)) (line p k : ℕ) (v : List ℕ) → Follows a lines
+    → Allowed a.passes a.guard_max (entries_in lines) (Seen p k v) → Follows a (lines ++ (line, Seen p k v) ∷ [])
+takes_seen a lines line p k v is allowed = follows_push a a lines line (Seen p k v) is (record {
+  same = record { passes = refl; guard_max = refl };
+  allowed = allowed;
+  notes = λ q. seen_notes lines line p k v q (get nat_eq a.notes q) (is.notes q);
+  holds = λ q r. refl;
+  keys = omega arith;
+})
+
 pub takes_gone : (a : Audit) (lines : List (ℕ × Entry)) (line p k : ℕ) → Follows a lines
     → Allowed a.passes a.guard_max (entries_in lines) (Gone p k) → Follows a (lines ++ (line, Gone p k) ∷ [])
 takes_gone a lines line p k is allowed = follows_push a a lines line (Gone p k) is (record {

@@ -2,7 +2,7 @@
 use Rattle.std.specs.Prelude.{ℕ, Bool, false, ◌==◌, if◌then◌else◌, List, [], ◌∷◌, Option, Some, None, map}
 use Rattle.sh_history.specs.History.{is_removal_of}
 use Rattle.sh_history.specs.declared.entry.Entry.{Entry}
-use Rattle.sh_history.specs.declared.entry.Entry.TheVariants.{Insert, Got, Gone, Crowded, Removed, Released}
+use Rattle.sh_history.specs.declared.entry.Entry.TheVariants.{Insert, Got, Gone, Crowded, Removed, Released, Seen}
 use Rattle.sh_history.specs.declared.checker.Why.{Why}
 use Rattle.sh_history.specs.declared.checker.Why.TheVariants.{NotNew, OtherValue, AfterRemoval, StillThere}
 
@@ -33,6 +33,7 @@ key_of (Gone pass key) = key
 key_of (Crowded pass key) = key
 key_of (Removed pass key) = key
 key_of (Released pass key) = key
+key_of (Seen pass key value) = key
 
 -- the line that an entry on the key clashes with for this reason: that of the insert, that of the removal, or none, if
 -- the reason is that something is missing

@@ -8,7 +8,7 @@ ghost use Rattle.history_audit.specs.Lines.{entries_in};
 ghost use Rattle.history_audit.specs.Noted.{IsJudged};
 ghost use Rattle.history_audit.specs.Followed.{Follows};
 
-use crate::clash::{Clash, of_crowded, of_gone, of_got, of_insert, of_released, of_removed};
+use crate::clash::{Clash, of_crowded, of_gone, of_insert, of_read, of_released, of_removed};
 use crate::holds::Holds;
 use crate::note::Note;
 use sh_history::Entry;
@@ -87,7 +87,8 @@ impl Audit {
     {
         match entry {
             Entry::Insert(_, key, _) => of_insert(self.notes.get(key)),
-            Entry::Got(_, key, value) => of_got(self.notes.get(key), value),
+            Entry::Got(_, key, value) => of_read(self.notes.get(key), value),
+            Entry::Seen(_, key, value) => of_read(self.notes.get(key), value),
             Entry::Gone(_, key) => of_gone(self.notes.get(key)),
             Entry::Crowded(_, key) => {
                 of_crowded(self.notes.get(key), self.passes, self.guard_max)
@@ -170,6 +171,7 @@ impl Audit {
             Entry::Got(pass, key, _) => self.note_got(*pass, *key)?,
             Entry::Gone(_, _) => {}
             Entry::Crowded(_, _) => {}
+            Entry::Seen(_, _, _) => {}
             Entry::Removed(_, key) => self.note_removed(line, *key),
             Entry::Released(pass, key) => self.note_released(*pass, *key)?,
         }

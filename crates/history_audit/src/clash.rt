@@ -4,6 +4,7 @@ ghost use Rattle.std.specs.Option.{option_copied};
 ghost use Rattle.sh_history.specs.History.{holds_by};
 ghost use Rattle.sh_history.specs.declared.entry.Entry.{Entry};
 ghost use Rattle.sh_history.specs.declared.entry.Entry.TheVariants.{Insert, Got, Gone, Crowded, Removed, Released};
+ghost use Rattle.sh_history.specs.declared.entry.Entry.TheVariants.{Seen};
 ghost use Rattle.sh_history.specs.declared.checker.Why.TheVariants.{AfterRemoval};
 ghost use Rattle.history_audit.specs.Lines.{entries_in};
 ghost use Rattle.history_audit.specs.Noted.{IsNote, IsJudged};
@@ -62,11 +63,14 @@ pub fn of_insert(note: Option<&Note>) -> Option<Clash>
     }
 }
 
-/// Why a get may not give this value.
-pub fn of_got(note: Option<&Note>, value: &Value) -> Option<Clash>
-    ensures { (passes guard_max : ℕ) (lines : List (ℕ × Entry)) (pass key : ℕ)
+/// Why a get or a look may not give this value.
+pub fn of_read(note: Option<&Note>, value: &Value) -> Option<Clash>
+    ensures got { (passes guard_max : ℕ) (lines : List (ℕ × Entry)) (pass key : ℕ)
         → IsNote lines key (option_copied note.entry)
         → IsJudged passes guard_max lines (Got pass key value.now) result }
+    ensures seen { (passes guard_max : ℕ) (lines : List (ℕ × Entry)) (pass key : ℕ)
+        → IsNote lines key (option_copied note.entry)
+        → IsJudged passes guard_max lines (Seen pass key value.now) result }
 {
     match note {
         None => missing(Why::NotIssued),

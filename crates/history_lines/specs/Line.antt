@@ -32,6 +32,7 @@ kind_named w =
     else if bytes_eq w (codes "Crowded") then Some kind.Crowded
     else if bytes_eq w (codes "Removed") then Some kind.Removed
     else if bytes_eq w (codes "Released") then Some kind.Released
+    else if bytes_eq w (codes "Seen") then Some kind.Seen
     else None
 
 -- what is there, or this fault
@@ -70,7 +71,7 @@ value_said ws =
 abbrev pub bare_said : Entry → List Word → Result Said Cause
 bare_said e ws = if length ws == 0 then Ok (said.Known e) else Err cause.Count
 
--- what an answer of this kind to the pass says of the key; a get may leave its value out
+-- what an answer of this kind to the pass says of the key; a get may leave its value out, and a look may not
 unfoldable pub said_by : Kind → ℕ → ℕ → List Word → Result Said Cause
 said_by kind.Insert pass key ws = value_said ws >>= λ v. Ok (said.Known (entry.Insert pass key v))
 said_by kind.Got pass key ws =
@@ -80,6 +81,7 @@ said_by kind.Gone pass key ws = bare_said (entry.Gone pass key) ws
 said_by kind.Crowded pass key ws = bare_said (entry.Crowded pass key) ws
 said_by kind.Removed pass key ws = bare_said (entry.Removed pass key) ws
 said_by kind.Released pass key ws = bare_said (entry.Released pass key) ws
+said_by kind.Seen pass key ws = value_said ws >>= λ v. Ok (said.Known (entry.Seen pass key v))
 
 -- the pass, which is below the number of passes, and the words after it
 abbrev pub pass_at : ℕ → List Word → Result (ℕ × List Word) Cause

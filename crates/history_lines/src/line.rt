@@ -47,6 +47,8 @@ pub enum Kind {
     Removed,
     /// `Released`
     Released,
+    /// `Seen`
+    Seen,
 }
 
 // The most bytes of a line, without its newline.
@@ -67,6 +69,8 @@ fn kind_named(word: &[u8]) -> Option<Kind>
         Some(Kind::Removed)
     } else if word == b"Released".as_slice() {
         Some(Kind::Released)
+    } else if word == b"Seen".as_slice() {
+        Some(Kind::Seen)
     } else {
         None
     }
@@ -160,6 +164,7 @@ fn said_by(kind: Kind, pass: u32, key: u64, words: &[&[u8]]) -> Result<Said, Cau
         Kind::Crowded => bare(Entry::Crowded(pass, key), words),
         Kind::Removed => bare(Entry::Removed(pass, key), words),
         Kind::Released => bare(Entry::Released(pass, key), words),
+        Kind::Seen => Ok(Said::Known(Entry::Seen(pass, key, value(words)?))),
     }
 }
 

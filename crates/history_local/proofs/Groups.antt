@@ -7,7 +7,7 @@ use Rattle.std.proofs.lemmas.List.{append-nil}
 use Rattle.std.proofs.lemmas.List.Elements.{filter-append}
 use Rattle.std.proofs.lemmas.Bool.{false≢true}
 use Rattle.sh_history.specs.declared.entry.Entry.{Entry}
-use Rattle.sh_history.specs.declared.entry.Entry.TheVariants.{Insert, Got, Gone, Crowded, Removed, Released}
+use Rattle.sh_history.specs.declared.entry.Entry.TheVariants.{Insert, Got, Gone, Crowded, Removed, Released, Seen}
 use Rattle.sh_history.specs.History.{Allowed, LegalAfter, Legal}
 use Rattle.history_local.specs.Groups.{key_of, entries_on, entries_in, IsWithin}
 use Rattle.history_local.specs.Laws.{LegalityIsLocal, GroupsAreLegal, OneHistoryOfAll}
@@ -23,6 +23,7 @@ module _ (passes guard_max : ℕ) where
   judged c xs (Crowded pass key) chosen =
       rw (value_on c key chosen xs, removed_on c key chosen xs, holds_on_on c key chosen xs) refl
   judged c xs (Removed pass key) chosen = rw (value_on c key chosen xs, removed_on c key chosen xs) refl
+  judged c xs (Seen pass key value) chosen = rw (value_on c key chosen xs, removed_on c key chosen xs) refl
   judged c xs (Released pass key) chosen = rw (holds_by_on c key chosen xs pass) refl
 
   -- the chosen entries of a legal list are legal

@@ -5,7 +5,7 @@ use Rattle.std.specs.Prelude.{◌==◌, ◌&&◌, count_by}
 use Rattle.std.specs.List.{list_any}
 use Rattle.std.proofs.lemmas.Bool.{false≢true}
 use Rattle.sh_history.specs.declared.entry.Entry.{Entry}
-use Rattle.sh_history.specs.declared.entry.Entry.TheVariants.{Insert, Got, Gone, Crowded, Removed, Released}
+use Rattle.sh_history.specs.declared.entry.Entry.TheVariants.{Insert, Got, Gone, Crowded, Removed, Released, Seen}
 use Rattle.sh_history.specs.History.{value_of, is_removed, is_removal_of, is_got_of, is_release_of, is_got_by}
 use Rattle.sh_history.specs.History.{is_release_by, holds_on, holds_by, Allowed, LegalAfter}
 use Rattle.sh_history.proofs.LogLaws.{count_by-cons}
@@ -90,6 +90,7 @@ module _ (name : ℕ → ℕ) (one : IsOneToOne name) where
     judged_renamed xs (Crowded pass key) =
         rw (value_renamed key xs, removed_renamed key xs, holds_on_renamed key xs) refl
     judged_renamed xs (Removed pass key) = rw (value_renamed key xs, removed_renamed key xs) refl
+    judged_renamed xs (Seen pass key value) = rw (value_renamed key xs, removed_renamed key xs) refl
     judged_renamed xs (Released pass key) = rw (holds_by_renamed key pass xs) refl
 
     push_renamed : (xs : List Entry) (e : Entry) → map (renamed name) (xs ++ e ∷ [])

@@ -1,7 +1,7 @@
 -- The entries of a history on some of its keys, interleavings of two histories, and keys with other names.
 use Rattle.std.specs.Prelude.{◌≡◌, ℕ, Bool, ◌==◌, ◌⊎◌, List, [], ◌∷◌, filter}
 use Rattle.sh_history.specs.declared.entry.Entry.{Entry}
-use Rattle.sh_history.specs.declared.entry.Entry.TheVariants.{Insert, Got, Gone, Crowded, Removed, Released}
+use Rattle.sh_history.specs.declared.entry.Entry.TheVariants.{Insert, Got, Gone, Crowded, Removed, Released, Seen}
 
 -- the key that the entry is on
 abbrev pub key_of : Entry → ℕ
@@ -11,6 +11,7 @@ key_of (Gone pass key) = key
 key_of (Crowded pass key) = key
 key_of (Removed pass key) = key
 key_of (Released pass key) = key
+key_of (Seen pass key value) = key
 
 -- the entries on the keys that are chosen
 abbrev pub entries_on : (ℕ → Bool) → List Entry → List Entry
@@ -47,6 +48,7 @@ renamed name (Gone pass key) = Gone pass (name key)
 renamed name (Crowded pass key) = Crowded pass (name key)
 renamed name (Removed pass key) = Removed pass (name key)
 renamed name (Released pass key) = Released pass (name key)
+renamed name (Seen pass key value) = Seen pass (name key) value
 
 -- no two keys get one name
 abbrev pub IsOneToOne : (ℕ → ℕ) → Type 0

@@ -1,18 +1,18 @@
 -- What a legal history has said before each entry.
 use Rattle.std.proofs.Common.{◌≡◌, ℕ, Bool, true, false, cond, List, [], ◌∷◌, ◌++◌, Some, None, zero, suc}
-use Rattle.std.proofs.Common.{refl, sym, subst, ap, take, append_assoc, eqb-true}
+use Rattle.std.proofs.Common.{refl, sym, ◌∙◌, subst, ap, take, append_assoc, eqb-true}
 use Rattle.std.specs.Prelude.{slice_get, IsSome, is_some, ◌==◌, ◌||◌}
 use Rattle.std.specs.List.{list_any}
 use Rattle.std.proofs.lemmas.List.{append-nil}
 use Rattle.std.proofs.lemmas.Bool.{true≢false}
 use Rattle.std.proofs.lemmas.Option.{none-some, same_Some}
 use Rattle.sh_history.specs.declared.entry.Entry.{Entry}
-use Rattle.sh_history.specs.declared.entry.Entry.TheVariants.{Insert, Got, Gone, Crowded, Removed, Released}
+use Rattle.sh_history.specs.declared.entry.Entry.TheVariants.{Insert, Got, Gone, Crowded, Removed, Released, Seen}
 use Rattle.sh_history.specs.History.{Allowed, LegalAfter, Legal, value_of, is_removed, is_removal_of}
 use Rattle.history_audit.specs.Lines.{is_insert_of}
 use Rattle.history_timed.specs.declared.call.Said.{Said}
 use Rattle.history_timed.specs.declared.call.Said.TheVariants.{Known, Unread}
-use Rattle.history_timed.specs.Calls.{MayBe, inserts, uses, removes}
+use Rattle.history_timed.specs.Calls.{MayBe, inserts, uses, returned, removes}
 
 -- the value of a key comes from an insert at some place
 pub value_at : (xs : List Entry) (key : ℕ) (value : List ℕ) → value_of xs key ≡ Some value
@@ -33,6 +33,7 @@ value_at (Gone p k ∷ xs) key value is = let r = value_at xs key value is in (s
 value_at (Crowded p k ∷ xs) key value is = let r = value_at xs key value is in (suc r.0, r.1, r.2)
 value_at (Removed p k ∷ xs) key value is = let r = value_at xs key value is in (suc r.0, r.1, r.2)
 value_at (Released p k ∷ xs) key value is = let r = value_at xs key value is in (suc r.0, r.1, r.2)
+value_at (Seen p k v ∷ xs) key value is = let r = value_at xs key value is in (suc r.0, r.1, r.2)
 
 -- a key without a value has no insert
 pub none_inserted : (xs : List Entry) (key : ℕ) → value_of xs key ≡ None → list_any (is_insert_of key) xs ≡ false
@@ -47,6 +48,7 @@ none_inserted (Gone p k ∷ xs) key is = none_inserted xs key is
 none_inserted (Crowded p k ∷ xs) key is = none_inserted xs key is
 none_inserted (Removed p k ∷ xs) key is = none_inserted xs key is
 none_inserted (Released p k ∷ xs) key is = none_inserted xs key is
+none_inserted (Seen p k v ∷ xs) key is = none_inserted xs key is
 
 module _ (passes guard_max : ℕ) where
   allowed_after : (before xs : List Entry) (i : ℕ) (e : Entry) → LegalAfter passes guard_max before xs
@@ -74,6 +76,7 @@ module _ (passes guard_max : ℕ) where
     inserts_new (Known (Crowded p k)) is here = absurd (true≢false (sym here))
     inserts_new (Known (Removed p k)) is here = absurd (true≢false (sym here))
     inserts_new (Known (Released p k)) is here = absurd (true≢false (sym here))
+    inserts_new (Known (Seen p k v)) is here = absurd (true≢false (sym here))
     inserts_new (Unread p k) is here = absurd (true≢false (sym here))
 
     -- a key whose value is used was inserted and not removed
@@ -91,6 +94,10 @@ module _ (passes guard_max : ℕ) where
         (may.0, may.1)
     uses_present (Known (Removed p k)) is here = absurd (true≢false (sym here))
     uses_present (Known (Released p k)) is here = absurd (true≢false (sym here))
+    uses_present (Known (Seen p k v)) is here =
+        let may : Allowed passes guard_max before (Seen p k v) = subst (Allowed passes guard_max before) is allowed in
+        subst (λ (q : ℕ). IsSome (value_of before q) × (is_removed before q ≡ false)) (eqb-true k key here)
+        (ap is_some may.0, may.1)
     uses_present (Unread p k) is here =
         let may : Allowed passes guard_max before (Got p k is.0) =
         subst (Allowed passes guard_max before) is.1 allowed in
@@ -108,7 +115,31 @@ module _ (passes guard_max : ℕ) where
         let may : Allowed passes guard_max before (Removed p k) = subst (Allowed passes guard_max before) is allowed in
         subst (λ (q : ℕ). IsSome (value_of before q) × (is_removed before q ≡ false)) (eqb-true k key here) may
     removes_present (Known (Released p k)) is here = absurd (true≢false (sym here))
+    removes_present (Known (Seen p k v)) is here = absurd (true≢false (sym here))
     removes_present (Unread p k) is here = absurd (true≢false (sym here))
+
+    returned_is : (k : ℕ) (v value : List ℕ) → value_of before k ≡ Some v
+        → cond (k == key) (Some v) None ≡ Some value → value_of before key ≡ Some value
+    returned_is k v value issued = go (k == key) refl where
+      go : (b : Bool) → (k == key) ≡ b → cond b (Some v) None ≡ Some value → value_of before key ≡ Some value
+      go true same here = subst (λ (q : ℕ). value_of before q ≡ Some value) (eqb-true k key same) (issued ∙ here)
+      go false other here = absurd (none-some value here)
+
+    -- a value that is returned is the one that its key was inserted with
+    pub returns_inserted : (value : List ℕ) (s : Said) → MayBe s e → returned key s ≡ Some value
+        → value_of before key ≡ Some value
+    returns_inserted value (Known (Insert p k v)) is here = absurd (none-some value here)
+    returns_inserted value (Known (Got p k v)) is here =
+        let may : Allowed passes guard_max before (Got p k v) = subst (Allowed passes guard_max before) is allowed in
+        returned_is k v value may.0 here
+    returns_inserted value (Known (Gone p k)) is here = absurd (none-some value here)
+    returns_inserted value (Known (Crowded p k)) is here = absurd (none-some value here)
+    returns_inserted value (Known (Removed p k)) is here = absurd (none-some value here)
+    returns_inserted value (Known (Released p k)) is here = absurd (none-some value here)
+    returns_inserted value (Known (Seen p k v)) is here =
+        let may : Allowed passes guard_max before (Seen p k v) = subst (Allowed passes guard_max before) is allowed in
+        returned_is k v value may.0 here
+    returns_inserted value (Unread p k) is here = absurd (none-some value here)
 
 -- the entry of a call that inserts or removes, and back
 pub insert_said : (s : Said) (e : Entry) (key : ℕ) → MayBe s e → inserts key s ≡ true → is_insert_of key e ≡ true
@@ -118,6 +149,7 @@ insert_said (Known (Gone p k)) e key is here = absurd (true≢false (sym here))
 insert_said (Known (Crowded p k)) e key is here = absurd (true≢false (sym here))
 insert_said (Known (Removed p k)) e key is here = absurd (true≢false (sym here))
 insert_said (Known (Released p k)) e key is here = absurd (true≢false (sym here))
+insert_said (Known (Seen p k v)) e key is here = absurd (true≢false (sym here))
 insert_said (Unread p k) e key is here = absurd (true≢false (sym here))
 
 pub removal_said : (s : Said) (e : Entry) (key : ℕ) → MayBe s e → removes key s ≡ true → is_removal_of key e ≡ true
@@ -127,6 +159,7 @@ removal_said (Known (Gone p k)) e key is here = absurd (true≢false (sym here))
 removal_said (Known (Crowded p k)) e key is here = absurd (true≢false (sym here))
 removal_said (Known (Removed p k)) e key is here = rw is here
 removal_said (Known (Released p k)) e key is here = absurd (true≢false (sym here))
+removal_said (Known (Seen p k v)) e key is here = absurd (true≢false (sym here))
 removal_said (Unread p k) e key is here = absurd (true≢false (sym here))
 
 pub said_removal : (s : Said) (e : Entry) (key : ℕ) → MayBe s e → is_removal_of key e ≡ true → removes key s ≡ true
@@ -136,4 +169,5 @@ said_removal (Known (Gone p k)) e key is here = absurd (true≢false (sym (rw is
 said_removal (Known (Crowded p k)) e key is here = absurd (true≢false (sym (rw is at here)))
 said_removal (Known (Removed p k)) e key is here = rw is at here
 said_removal (Known (Released p k)) e key is here = absurd (true≢false (sym (rw is at here)))
+said_removal (Known (Seen p k v)) e key is here = absurd (true≢false (sym (rw is at here)))
 said_removal (Unread p k) e key is here = absurd (true≢false (sym (rw is.1 at here)))

@@ -9,7 +9,7 @@ use Rattle.sh_history.specs.declared.checker.Why.{Why}
 use Rattle.sh_history.specs.declared.checker.Why.TheVariants.{NotNew, NotIssued, OtherValue, AfterRemoval, StillThere}
 use Rattle.sh_history.specs.declared.checker.Why.TheVariants.{NotCrowded, NotHeld}
 use Rattle.sh_history.specs.declared.entry.Entry.{Entry}
-use Rattle.sh_history.specs.declared.entry.Entry.TheVariants.{Insert, Got, Gone, Crowded, Released}
+use Rattle.sh_history.specs.declared.entry.Entry.TheVariants.{Insert, Gone, Crowded, Released}
 use Rattle.sh_history.specs.History.{Allowed, is_removed, holds_by, is_got_by, is_got_of, is_release_by, is_release_of}
 use Rattle.sh_history.proofs.Laws.{some_value}
 use Rattle.history_timed.specs.declared.call.Call.{Call}
@@ -22,7 +22,7 @@ use Rattle.history_timed.specs.Clashes.{AtLine, IsInsertedTwice, IsNeverIssued, 
 use Rattle.history_timed.specs.Clashes.{IsRemovedTwice, IsNotGone, IsHeldByNone, IsUncrowded, ClashesOn, IsClash}
 use Rattle.history_timed.specs.Clashes.{inserts_value, StaysThere}
 use Rattle.history_timed.proofs.ListLemmas.{any_at, all_holds, contained, not_first}
-use Rattle.history_timed.proofs.HistoryLemmas.{inserts_new, uses_present, removes_present}
+use Rattle.history_timed.proofs.HistoryLemmas.{inserts_new, uses_present, returns_inserted, removes_present}
 use Rattle.history_timed.proofs.PlaceLemmas.{Here, here, place_of, is_call, earlier, inserted_by, removed_by, inserter}
 use Rattle.history_timed.proofs.PlaceLemmas.{remover, needs_value, found_by}
 use Rattle.history_timed.proofs.CountLemmas.{most_is_most, least_is_least, got_by_said, got_said, released_by_said}
@@ -89,11 +89,9 @@ module _ (passes guard_max : ℕ) (calls ordered : List Call) (history : List En
 
   no_other_value : HasNoSuchInsert calls key c by → ⊥
   no_other_value is =
-      let e : at.entry ≡ Got is.pass key is.value =
-      subst (λ (s : Said). MayBe s at.entry) is.says at.says in
-      let may : Allowed passes guard_max (take i history) (Got is.pass key is.value) =
-      subst (Allowed passes guard_max (take i history)) e at.allowed in
-      let x = inserter passes guard_max calls ordered history o i key is.value may.0 in
+      let issued = returns_inserted passes guard_max (take i history) at.entry key at.allowed is.value c.said
+      at.says is.says in
+      let x = inserter passes guard_max calls ordered history o i key is.value issued in
       let call = is_call passes guard_max calls ordered history o x.0 x.2 x.4 in
       true≢false (sym (all_holds _ calls x.2 is.none call)
       ∙ ap not (said_insert x.2.said x.1 key is.value x.5).1)

@@ -1,9 +1,9 @@
 -- What calls say of a key.
-use Rattle.std.specs.Prelude.{◌≡◌, ℕ, ◌==◌, ◌&&◌, ◌||◌, Bool, false, List, []}
+use Rattle.std.specs.Prelude.{◌≡◌, ℕ, ◌==◌, ◌&&◌, ◌||◌, Bool, false, if◌then◌else◌, List, [], Option, Some, None}
 use Rattle.std.specs.Option.{unwrap_or}
 use Rattle.sh_history.specs.History.{value_of, is_got_of, is_got_by, is_release_of, is_release_by}
 use Rattle.sh_history.specs.declared.entry.Entry.{Entry}
-use Rattle.sh_history.specs.declared.entry.Entry.TheVariants.{Insert, Got, Crowded, Removed}
+use Rattle.sh_history.specs.declared.entry.Entry.TheVariants.{Insert, Got, Crowded, Removed, Seen}
 use Rattle.sh_history.specs.Log.{pass_of}
 use Rattle.history_audit.specs.Lines.{key_of}
 use Rattle.history_timed.specs.declared.call.Said.{Said}
@@ -36,8 +36,15 @@ inserts key _ = false
 abbrev pub uses : ℕ → Said → Bool
 uses key (Known (Got pass k value)) = k == key
 uses key (Known (Crowded pass k)) = k == key
+uses key (Known (Seen pass k value)) = k == key
 uses key (Unread pass k) = k == key
 uses key _ = false
+
+-- the value of the key that a get of it or a look at it returned
+abbrev pub returned : ℕ → Said → Option (List ℕ)
+returned key (Known (Got pass k value)) = if k == key then Some value else None
+returned key (Known (Seen pass k value)) = if k == key then Some value else None
+returned key _ = None
 
 abbrev pub removes : ℕ → Said → Bool
 removes key (Known (Removed pass k)) = k == key

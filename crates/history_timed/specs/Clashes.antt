@@ -4,13 +4,14 @@ use Rattle.std.specs.Prelude.{Some}
 use Rattle.std.specs.Prelude.{None, count_by}
 use Rattle.std.specs.List.{Contains, list_all, list_any}
 use Rattle.std.specs.Str.{bytes_eq}
-use Rattle.sh_history.specs.declared.entry.Entry.TheVariants.{Insert, Got, Gone, Crowded, Released}
+use Rattle.sh_history.specs.declared.entry.Entry.TheVariants.{Insert, Gone, Crowded, Released}
 use Rattle.sh_history.specs.declared.checker.Why.{Why}
 use Rattle.sh_history.specs.declared.checker.Why.TheVariants as why
 use Rattle.history_timed.specs.declared.call.Call.{Call}
 use Rattle.history_timed.specs.declared.call.Said.{Said}
 use Rattle.history_timed.specs.declared.call.Said.TheVariants.{Known}
-use Rattle.history_timed.specs.Calls.{key_said, inserts, uses, removes, finds, gets, releases, gets_by, releases_by}
+use Rattle.history_timed.specs.Calls.{key_said, inserts, uses, returned, removes, finds, gets, releases, gets_by}
+use Rattle.history_timed.specs.Calls.{releases_by}
 use Rattle.history_timed.specs.Times.{is_ended, ends_before}
 
 -- a call of this line is as wanted
@@ -39,11 +40,10 @@ abbrev pub inserts_value : ℕ → List ℕ → Said → Bool
 inserts_value key value (Known (Insert pass k v)) = (k == key) && bytes_eq v value
 inserts_value key value _ = false
 
--- a get of a value with which no call inserted the key
+-- a get or a look of a value with which no call inserted the key
 pub record HasNoSuchInsert (calls : List Call) (key : ℕ) (call : Call) (by : Option ℕ) : Type 0 where
-  pub pass : ℕ
   pub value : List ℕ
-  pub says : call.said ≡ Known (Got pass key value)
+  pub says : returned key call.said ≡ Some value
   pub none : list_all (λ (o : Call). not (inserts_value key value o.said)) calls ≡ true
   pub other : AtLine calls by (λ o. inserts key o.said ≡ true)
 

@@ -1,10 +1,11 @@
 //! Answers, with the times of their calls.
 ghost use Rattle.std.specs.Prelude.{◌≡◌, ◌↔◌, ℕ, List, IsTrue};
+ghost use Rattle.std.specs.Option.{option_copied};
 ghost use Rattle.history_audit.specs.Followed.{Follows};
 ghost use Rattle.history_audit.specs.Lines.{entries_in};
 ghost use Rattle.sh_history.specs.declared.entry.Entry.{Entry as Answer};
 ghost use Rattle.history_timed.specs.Calls.{entry_said, key_said, pass_said, inserts, uses, removes, finds, gets};
-ghost use Rattle.history_timed.specs.Calls.{releases};
+ghost use Rattle.history_timed.specs.Calls.{releases, returned};
 ghost use Rattle.history_timed.specs.Calls.{gets_by, releases_by};
 ghost use Rattle.history_timed.specs.Clashes.{inserts_value, IsAnother};
 
@@ -65,7 +66,8 @@ impl Said {
                 | Entry::Gone(_, key)
                 | Entry::Crowded(_, key)
                 | Entry::Removed(_, key)
-                | Entry::Released(_, key) => *key,
+                | Entry::Released(_, key)
+                | Entry::Seen(_, key, _) => *key,
             },
             Said::Unread(_, key) => *key,
         }
@@ -82,7 +84,8 @@ impl Said {
                 | Entry::Gone(pass, _)
                 | Entry::Crowded(pass, _)
                 | Entry::Removed(pass, _)
-                | Entry::Released(pass, _) => *pass,
+                | Entry::Released(pass, _)
+                | Entry::Seen(pass, _, _) => *pass,
             },
             Said::Unread(pass, _) => *pass,
         }
@@ -110,9 +113,20 @@ impl Said {
         ensures { result ≡ uses key self.now }
     {
         match self {
-            Said::Known(Entry::Got(_, used, _) | Entry::Crowded(_, used)) | Said::Unread(_, used) =>
-                { *used == key }
+            Said::Known(Entry::Got(_, used, _) | Entry::Seen(_, used, _) | Entry::Crowded(_, used))
+            | Said::Unread(_, used) => *used == key,
             _ => false,
+        }
+    }
+
+    /// The value of the key that it returned, if it is a get of the key or a look at it, and the value was read.
+    pub fn returned(&self, key: u64) -> Option<&Value>
+        ensures { option_copied result ≡ returned key self.now }
+    {
+        match self {
+            Said::Known(Entry::Got(_, found, value) | Entry::Seen(_, found, value))
+                if *found == key => Some(value),
+            _ => None,
         }
     }
 

@@ -194,10 +194,8 @@ fn other_value(calls: &[Call], key: u64, call: &Call) -> Option<Clash>
     ensures { IfSome result (λ clash. (clash.why ≡ Why.OtherValue)
         × HasNoSuchInsert calls.now key call.now clash.by) }
 {
-    let Said::Known(Entry::Got(_, got, value)) = &call.said else {
-        return None;
-    };
-    if *got != key || !has_no_such_insert(calls, key, value) {
+    let value = call.said.returned(key)?;
+    if !has_no_such_insert(calls, key, value) {
         return None;
     }
     let by = any_insert(calls, key)?;

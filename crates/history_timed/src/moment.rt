@@ -14,7 +14,7 @@ pub enum Rank {
     Early,
     /// An insert.
     Insert,
-    /// A get.
+    /// A get or a look.
     Get,
     /// A get that is refused as crowded.
     Crowded,
@@ -58,7 +58,9 @@ fn wish(course: &Course, holding: &Holding, call: &Call) -> (u64, Rank) {
     let inserted = course.inserted().unwrap_or(0);
     match &call.said {
         Said::Known(Entry::Insert(_, _, _)) => (inserted, Rank::Insert),
-        Said::Known(Entry::Got(_, _, _)) | Said::Unread(_, _) => (inserted, Rank::Get),
+        Said::Known(Entry::Got(_, _, _) | Entry::Seen(_, _, _)) | Said::Unread(_, _) => {
+            (inserted, Rank::Get)
+        }
         Said::Known(Entry::Crowded(_, _)) => (crowded(course, holding, call), Rank::Crowded),
         Said::Known(Entry::Gone(_, _)) => gone(course, call.times.begin()),
         Said::Known(Entry::Removed(_, _)) => (course.removed().unwrap_or(0), Rank::Remove),

@@ -8,7 +8,7 @@ use Rattle.script_models.specs.Refusal.{Refusal}
 use Rattle.script_models.specs.Refusal.TheVariants as refusal
 use Rattle.script_models.specs.Layout.{unpacked}
 use Rattle.script_models.specs.Entry.{Entry}
-use Rattle.script_models.specs.Entry.TheVariants.{Insert, Got, Gone, Crowded, Removed, Released}
+use Rattle.script_models.specs.Entry.TheVariants.{Insert, Got, Gone, Crowded, Removed, Released, Seen}
 use Rattle.script_models.specs.LogEntry.{LogEntry}
 use Rattle.script_models.specs.LogEntry.TheVariants.{Known, Unread}
 use Rattle.script_models.specs.History.{value_of, present_value, hold_count, holds_on}
@@ -43,6 +43,7 @@ got_is pass key (Known (Gone p k)) e is h = absurd is
 got_is pass key (Known (Crowded p k)) e is h = absurd is
 got_is pass key (Known (Removed p k)) e is h = absurd is
 got_is pass key (Known (Released p k)) e is h = absurd is
+got_is pass key (Known (Seen p k value)) e is h = absurd is
 
 module _ (t : Turn) (r : Reference) (a : Answer) (ready : Ready t (call.Get r) a) where
   -- the answer of mode plain to this get of this key

@@ -7,7 +7,7 @@ use Rattle.std.proofs.lemmas.Bool.Decides.{nat_tests}
 use Rattle.script_models.specs.Refusal.{Refusal}
 use Rattle.script_models.specs.Refusal.TheVariants as refusal
 use Rattle.script_models.specs.Entry.{Entry}
-use Rattle.script_models.specs.Entry.TheVariants.{Insert, Got, Gone, Crowded, Removed, Released}
+use Rattle.script_models.specs.Entry.TheVariants.{Insert, Got, Gone, Crowded, Removed, Released, Seen}
 use Rattle.script_models.specs.LogEntry.{LogEntry}
 use Rattle.script_models.specs.LogEntry.TheVariants.{Known, Unread}
 use Rattle.script_models.specs.History.{Legal, value_of, holds_by, is_got_by, got_count_by}
@@ -61,6 +61,7 @@ read_here pass key value given x (Gone p k) is agrees has has_given = absurd (le
 read_here pass key value given x (Crowded p k) is agrees has has_given = absurd (let z : false ≡ true = is in cc)
 read_here pass key value given x (Removed p k) is agrees has has_given = absurd (let z : false ≡ true = is in cc)
 read_here pass key value given x (Released p k) is agrees has has_given = absurd (let z : false ≡ true = is in cc)
+read_here pass key value given x (Seen p k u) is agrees has has_given = absurd (let z : false ≡ true = is in cc)
 
 value_read : (pass key : ℕ) (value given : List ℕ) (log : List LogEntry) (es : List Entry) → AllZip Agrees log es
     → AllHaveValue key value log → AllHaveValue key given (map Known es) → 0 < count_by (is_got_by pass key) es

@@ -5,7 +5,7 @@ use Rattle.std.proofs.Common.{ne_eqb, eqb-true}
 use Rattle.std.specs.Prelude.{count_by}
 use Rattle.std.proofs.lemmas.Bool.{eqb-false}
 use Rattle.script_models.specs.Entry.{Entry}
-use Rattle.script_models.specs.Entry.TheVariants.{Insert, Got, Gone, Crowded, Removed, Released}
+use Rattle.script_models.specs.Entry.TheVariants.{Insert, Got, Gone, Crowded, Removed, Released, Seen}
 use Rattle.script_models.specs.History.{value_of, is_removed, present_value, is_got_of, is_release_of, is_got_by}
 use Rattle.script_models.specs.History.{is_release_by, is_got_from, is_release_from, is_insert, insert_count}
 use Rattle.script_models.specs.History.{hold_count}
@@ -47,6 +47,7 @@ given_append (Gone p k ∷ es) fs = given_append es fs
 given_append (Crowded p k ∷ es) fs = given_append es fs
 given_append (Removed p k ∷ es) fs = given_append es fs
 given_append (Released p k ∷ es) fs = given_append es fs
+given_append (Seen p k v ∷ es) fs = given_append es fs
 
 none_some : (v : List ℕ) → Some v ≡ None → ⊥
 none_some v e = let h : ⊥ = cc in h
@@ -73,6 +74,7 @@ place_now (Gone p k ∷ es) key later e = place_now es key later e ∙ sym (skip
 place_now (Crowded p k ∷ es) key later e = place_now es key later e ∙ sym (skips (Crowded p k) es refl)
 place_now (Removed p k ∷ es) key later e = place_now es key later e ∙ sym (skips (Removed p k) es refl)
 place_now (Released p k ∷ es) key later e = place_now es key later e ∙ sym (skips (Released p k) es refl)
+place_now (Seen p k v ∷ es) key later e = place_now es key later e ∙ sym (skips (Seen p k v) es refl)
 
 -- ---- entries under other numbers
 
@@ -83,6 +85,7 @@ renumbered f (Gone p k) = Gone p (f k)
 renumbered f (Crowded p k) = Crowded p (f k)
 renumbered f (Removed p k) = Removed p (f k)
 renumbered f (Released p k) = Released p (f k)
+renumbered f (Seen p k v) = Seen p (f k) v
 
 module _ (f : ℕ → ℕ) (one : (i j : ℕ) → f i ≡ f j → i ≡ j) where
   same_test : (k j : ℕ) → (f k == f j) ≡ (k == j)
@@ -103,6 +106,7 @@ module _ (f : ℕ → ℕ) (one : (i j : ℕ) → f i ≡ f j → i ≡ j) where
   same_value (Crowded p k ∷ es) key = same_value es key
   same_value (Removed p k ∷ es) key = same_value es key
   same_value (Released p k ∷ es) key = same_value es key
+  same_value (Seen p k v ∷ es) key = same_value es key
 
   same_removed : (es : List Entry) (key : ℕ) → is_removed (all es) (f key) ≡ is_removed es key
   same_removed [] key = refl
@@ -112,6 +116,7 @@ module _ (f : ℕ → ℕ) (one : (i j : ℕ) → f i ≡ f j → i ≡ j) where
   same_removed (Gone p k ∷ es) key = same_removed es key
   same_removed (Crowded p k ∷ es) key = same_removed es key
   same_removed (Released p k ∷ es) key = same_removed es key
+  same_removed (Seen p k v ∷ es) key = same_removed es key
 
   pub same_present : (es : List Entry) (key : ℕ) → present_value (all es) (f key) ≡ present_value es key
   same_present es key = (λ i. cond (same_removed es key i) None (same_value es key i))
@@ -134,6 +139,7 @@ module _ (f : ℕ → ℕ) (one : (i j : ℕ) → f i ≡ f j → i ≡ j) where
   got_of key (Crowded p k) = refl
   got_of key (Removed p k) = refl
   got_of key (Released p k) = refl
+  got_of key (Seen p k v) = refl
 
   release_of : (key : ℕ) (e : Entry) → is_release_of (f key) (renumbered f e) ≡ is_release_of key e
   release_of key (Released p k) = same_test k key
@@ -142,6 +148,7 @@ module _ (f : ℕ → ℕ) (one : (i j : ℕ) → f i ≡ f j → i ≡ j) where
   release_of key (Gone p k) = refl
   release_of key (Crowded p k) = refl
   release_of key (Removed p k) = refl
+  release_of key (Seen p k v) = refl
 
   got_by : (pass key : ℕ) (e : Entry) → is_got_by pass (f key) (renumbered f e) ≡ is_got_by pass key e
   got_by pass key (Got p k v) = ap (λ (b : Bool). (p == pass) && b) (same_test k key)
@@ -150,6 +157,7 @@ module _ (f : ℕ → ℕ) (one : (i j : ℕ) → f i ≡ f j → i ≡ j) where
   got_by pass key (Crowded p k) = refl
   got_by pass key (Removed p k) = refl
   got_by pass key (Released p k) = refl
+  got_by pass key (Seen p k v) = refl
 
   release_by : (pass key : ℕ) (e : Entry) → is_release_by pass (f key) (renumbered f e) ≡ is_release_by pass key e
   release_by pass key (Released p k) = ap (λ (b : Bool). (p == pass) && b) (same_test k key)
@@ -158,6 +166,7 @@ module _ (f : ℕ → ℕ) (one : (i j : ℕ) → f i ≡ f j → i ≡ j) where
   release_by pass key (Gone p k) = refl
   release_by pass key (Crowded p k) = refl
   release_by pass key (Removed p k) = refl
+  release_by pass key (Seen p k v) = refl
 
   got_from : (pass : ℕ) (e : Entry) → is_got_from pass (renumbered f e) ≡ is_got_from pass e
   got_from pass (Got p k v) = refl
@@ -166,6 +175,7 @@ module _ (f : ℕ → ℕ) (one : (i j : ℕ) → f i ≡ f j → i ≡ j) where
   got_from pass (Crowded p k) = refl
   got_from pass (Removed p k) = refl
   got_from pass (Released p k) = refl
+  got_from pass (Seen p k v) = refl
 
   release_from : (pass : ℕ) (e : Entry) → is_release_from pass (renumbered f e) ≡ is_release_from pass e
   release_from pass (Released p k) = refl
@@ -174,6 +184,7 @@ module _ (f : ℕ → ℕ) (one : (i j : ℕ) → f i ≡ f j → i ≡ j) where
   release_from pass (Gone p k) = refl
   release_from pass (Crowded p k) = refl
   release_from pass (Removed p k) = refl
+  release_from pass (Seen p k v) = refl
 
   inserts : (e : Entry) → is_insert (renumbered f e) ≡ is_insert e
   inserts (Insert p k v) = refl
@@ -182,6 +193,7 @@ module _ (f : ℕ → ℕ) (one : (i j : ℕ) → f i ≡ f j → i ≡ j) where
   inserts (Crowded p k) = refl
   inserts (Removed p k) = refl
   inserts (Released p k) = refl
+  inserts (Seen p k v) = refl
 
   pub same_inserts : (es : List Entry) → insert_count (all es) ≡ insert_count es
   same_inserts es = same_count is_insert is_insert inserts es

@@ -20,17 +20,17 @@ use Rattle.sh_core.specs.Moves.{row, row_of}
 use Rattle.sh_core.specs.Operations.{operate}
 use Rattle.sh_core.specs.Parts.{newcomer}
 use Rattle.sh_core.specs.Plans.{Plan}
-use Rattle.sh_core.specs.Rows.{Row, hand, own}
+use Rattle.sh_core.specs.Rows.{Row, hand, own, look_place}
 use Rattle.sh_core.specs.Outcomes.{row_of_event}
 use Rattle.sh_core.specs.Slots.{live_at, has_room, is_reusable_after, slot_ref_of}
 use Rattle.sh_core.specs.Trails.{trail_of}
-use Rattle.sh_core.specs.Words.{put, read, write}
+use Rattle.sh_core.specs.Words.{Words, put, read, write}
 use Rattle.sh_core.specs.Worlds.{World, apply, run, open_world}
 use Rattle.sh_core.proofs.ConditionLaws.{move_of_row}
 use Rattle.sh_core.proofs.FootstepLaws.{counts_grow}
 use Rattle.sh_core.proofs.Sums.Tests.{cond_either}
 use Rattle.sh_core.proofs.Sums.Totals.{get_set}
-use Rattle.sh_core.proofs.Sums.Writes.{put_same, put_other}
+use Rattle.sh_core.proofs.Sums.Writes.{put_same, put_other, write_same}
 use Rattle.sh_core.proofs.WaitFree.{skipped}
 use Rattle.sh_core.proofs.Words.Stepping.{row_of_past}
 use Rattle.sh_core.proofs.Words.Steps.{run_none, run_snoc, step_moves, row_of_at, trail_grows, skips_leave_trails}
@@ -143,6 +143,7 @@ module _ (plan : Plan) (w : World) (q : ℕ) (t : List Footstep) (p : Body) (old
   set_after (move.SetClass r c) may = sets_page r c may.0 may.4 (r == q) refl
   set_after (move.ReadPage r) may = inl (same_word w.words.class_at r q)
   set_after (move.ReadClass k x) may = inl (same_word w.words.class_at x.page q)
+  set_after (move.LookOn k x s) may = inl (ap (λ (W : Words). W.class_at q) (write_same w.words (look_place x s)))
   set_after m may = inl refl
 
 -- ---- all events

@@ -22,6 +22,7 @@ use Rattle.sh_core.specs.Words.{read}
 use Rattle.sh_core.specs.Worlds.{World, entry_of, value_at_place}
 use Rattle.sh_core.specs.Outcomes.{outcome_of, done}
 use Rattle.sh_core.specs.Refines.{FillsAreKeys}
+use Rattle.sh_core.specs.Looks.{HandSees, LooksAreTrue}
 use Rattle.sh_step.specs.Conditions.{May}
 use Rattle.sh_step.proofs.ConditionLaws.{move_of_row}
 use Rattle.sh_core.proofs.Words.Steps.{row_of_at}
@@ -36,6 +37,7 @@ ReplyWithin bound (Some (reply.Gone k)) = k < bound
 ReplyWithin bound (Some (reply.Crowded k)) = k < bound
 ReplyWithin bound (Some (reply.Removed k)) = k < bound
 ReplyWithin bound (Some (reply.Released k)) = k < bound
+ReplyWithin bound (Some (reply.Seen k v)) = k < bound
 ReplyWithin bound None = Unit {0}
 
 joins : (bound a : ℕ) (v : List ℕ) (o : Option Reply) → ReplyWithin bound o → KeysWithin bound (done (entry_of a v o))
@@ -45,6 +47,7 @@ joins bound a v (Some (reply.Gone k)) h = h
 joins bound a v (Some (reply.Crowded k)) h = h
 joins bound a v (Some (reply.Removed k)) h = h
 joins bound a v (Some (reply.Released k)) h = h
+joins bound a v (Some (reply.Seen k u)) h = h
 joins bound a v None h = tt
 
 entered : (bound k : ℕ) (b c : Bool) → k < bound → ReplyWithin bound
@@ -61,8 +64,17 @@ marked : (bound k : ℕ) (b : Bool) → k < bound → ReplyWithin bound (Some (c
 marked bound k true h = h
 marked bound k false h = h
 
+past : (bound k : ℕ) (b : Bool) → k < bound → ReplyWithin bound (cond b (Some (reply.Gone k)) None)
+past bound k true h = h
+past bound k false h = tt
+
+looked : (bound k : ℕ) (v : List ℕ) (b : Bool) → k < bound → ReplyWithin bound
+    (Some (cond b (reply.Seen k v) (reply.Gone k)))
+looked bound k v true h = h
+looked bound k v false h = h
+
 module _ (bound : ℕ) (plan : Plan) (w : World) (below : (k : ℕ) (n : KeyRef) → plan.keys.unpack k ≡ Some n → k < bound)
-    (fills : FillsAreKeys plan w) where
+    (fills : FillsAreKeys plan w) (looks : LooksAreTrue plan w) where
   -- the row's reply to the word that it meets
   abbrev Within : Row → Type 0
   Within m = ReplyWithin bound (m.reply (read w.words m.place))
@@ -73,6 +85,10 @@ module _ (bound : ℕ) (plan : Plan) (w : World) (below : (k : ℕ) (n : KeyRef)
   row_within a p (move.Mark k x) at may = marked bound k _ (below k x may.1.unpacks)
   row_within a p (move.DropHold k x) at may = below k x may.1.unpacks
   row_within a p (move.Publish x v) at may = below _ _ (fills a p x v may.0 at may.1)
+  row_within a p (move.Look k x) at may = past bound k _ (below k x may.1.unpacks)
+  row_within a p (move.LookAgain k x s) at may =
+      let named = (subst (HandSees plan w.words.class_at w.log) may.0 (looks a p at)).named in
+      looked bound k _ _ (below k x named.unpacks)
   row_within a p _ at may = tt
 
   -- the outcome of an event
@@ -105,9 +121,10 @@ unpacks layout shape k n h = go (unpacked layout k) refl h where
   go None e h = absurd (let z : None ≡ Some n = h in cc)
 
 pub keys_within : (layout : Layout) (shape : Numbers) (w : World) (e : Event) (o : Outcome) → KeysAreConsecutive layout
-    → FillsAreKeys (plan_of layout shape) w → o ≡ outcome_of (plan_of layout shape) w e
+    → FillsAreKeys (plan_of layout shape) w → LooksAreTrue (plan_of layout shape) w
+    → o ≡ outcome_of (plan_of layout shape) w e
     → KeysWithin (first_key layout + key_count layout) o
-keys_within layout shape w e o laws fills is =
+keys_within layout shape w e o laws fills looks is =
     let bound : ℕ = first_key layout + key_count layout in
     subst (λ (o : Outcome). KeysWithin bound o) (sym is) (outcome_within bound (plan_of layout shape) w
-    (λ k n h. ((laws k).0 (unpacks layout shape k n h)).1) fills e)
+    (λ k n h. ((laws k).0 (unpacks layout shape k n h)).1) fills looks e)

@@ -3,7 +3,7 @@
 use Rattle.std.specs.Prelude.{ℕ, List, [], ◌∷◌, ◌++◌, Bool, cond, codes, decimal, Option, Some, None, option_map}
 use Rattle.std.specs.List.{filter_map}
 use Rattle.sh_history.specs.declared.entry.Entry.{Entry}
-use Rattle.sh_history.specs.declared.entry.Entry.TheVariants.{Insert, Got, Gone, Crowded, Removed, Released}
+use Rattle.sh_history.specs.declared.entry.Entry.TheVariants.{Insert, Got, Gone, Crowded, Removed, Released, Seen}
 use Rattle.sh_key.specs.Layout.{Layout}
 use Rattle.sh_shape.specs.Shape.{Numbers}
 use Rattle.sh_step.specs.declared.action.Action.{Action}
@@ -29,6 +29,7 @@ action_shown tag (action.DropHold k) = option_map action.DropHold (key_shown tag
 action_shown tag (action.ReadClass k) = option_map action.ReadClass (key_shown tag k)
 action_shown tag (action.ReadLength k) = option_map action.ReadLength (key_shown tag k)
 action_shown tag (action.ReadWord k i) = option_map (λ j. action.ReadWord j i) (key_shown tag k)
+action_shown tag (action.Look k) = option_map action.Look (key_shown tag k)
 action_shown tag a = Some a
 
 abbrev pub event_shown : Option ℕ → Event → Option Event
@@ -47,6 +48,7 @@ entry_name (Gone a k) = codes "Gone"
 entry_name (Crowded a k) = codes "Crowded"
 entry_name (Removed a k) = codes "Removed"
 entry_name (Released a k) = codes "Released"
+entry_name (Seen a k v) = codes "Seen"
 
 abbrev pub entry_key : Entry → ℕ
 entry_key (Insert a k v) = k
@@ -55,9 +57,11 @@ entry_key (Gone a k) = k
 entry_key (Crowded a k) = k
 entry_key (Removed a k) = k
 entry_key (Released a k) = k
+entry_key (Seen a k v) = k
 
 -- the value of an entry that has one
 abbrev pub entry_value : Entry → List ℕ
+entry_value (Seen a k v) = codes " " ++ value_text v
 entry_value (Insert a k v) = codes " " ++ value_text v
 entry_value (Got a k v) = codes " " ++ value_text v
 entry_value _ = []

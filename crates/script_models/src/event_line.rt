@@ -20,6 +20,7 @@ fn entry_name(entry: &Entry) -> &'static str
         Entry::Crowded(_, _) => "Crowded",
         Entry::Removed(_, _) => "Removed",
         Entry::Released(_, _) => "Released",
+        Entry::Seen(_, _, _) => "Seen",
     }
 }
 
@@ -32,7 +33,8 @@ fn entry_key(entry: &Entry) -> u64
         | Entry::Gone(_, key)
         | Entry::Crowded(_, key)
         | Entry::Removed(_, key)
-        | Entry::Released(_, key) => *key,
+        | Entry::Released(_, key)
+        | Entry::Seen(_, key, _) => *key,
     }
 }
 
@@ -40,7 +42,7 @@ fn push_entry_value(out: &mut Vec<u8>, entry: &Entry) -> Result<(), AllocError>
     ensures { OnOk result (out.new.items ≡ out.old.items ++ entry_value entry.now) }
 {
     match entry {
-        Entry::Insert(_, _, value) | Entry::Got(_, _, value) => {
+        Entry::Insert(_, _, value) | Entry::Got(_, _, value) | Entry::Seen(_, _, value) => {
             out.extend_from_slice(b" ")?;
             push_value(out, value)
         }

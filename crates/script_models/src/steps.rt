@@ -29,6 +29,7 @@ fn action_shown(tag: Option<u8>, action: Action) -> Option<Action>
         Action::ReadClass(key) => key_shown(tag, key).map(Action::ReadClass),
         Action::ReadLength(key) => key_shown(tag, key).map(Action::ReadLength),
         Action::ReadWord(key, i) => key_shown(tag, key).map(|key| Action::ReadWord(key, i)),
+        Action::Look(key) => key_shown(tag, key).map(Action::Look),
         other => Some(other),
     }
 }

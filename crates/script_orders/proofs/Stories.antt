@@ -2,9 +2,11 @@
 use Rattle.std.proofs.Common.{◌≡◌, ℕ, Bool, true, false, cond, ◌&&◌, ◌==◌, List, [], ◌∷◌, ◌++◌, refl, sym, ap, ◌∙◌}
 use Rattle.std.proofs.Common.{subst, arith, Some}
 use Rattle.sh_slots.specs.declared.enter.GetAnswer.TheVariants.{Got, Crowded, Gone}
-use Rattle.sh_slots.specs.declared.hand.Hand.TheVariants.{Finishing, Idle, Leaving, Removing, ToPut}
+use Rattle.sh_slots.specs.declared.hand.Hand.TheVariants.{Finishing, Idle, Leaving, Looking, Removing, ToPut}
+use Rattle.sh_slots.specs.declared.hand.Sight.TheVariants.{Bare}
 use Rattle.sh_slots.specs.declared.hand.SlotRef.{SlotRef}
-use Rattle.sh_slots.specs.Slots.{live_at, has_room, answer_to_get, after_drop, slot_ref_of, is_reusable_after}
+use Rattle.sh_slots.specs.Slots.{live_at, past_at, has_room, answer_to_get, after_drop, slot_ref_of}
+use Rattle.sh_slots.specs.Slots.{is_reusable_after}
 use Rattle.sh_step.specs.Fields.{fields_of}
 use Rattle.sh_step.specs.declared.action.Event.{Event}
 use Rattle.sh_step.specs.declared.body.Body.{Body}
@@ -23,6 +25,18 @@ bit_decides true true h = refl
 bit_decides false false h = refl
 bit_decides true false h = absurd (omega (arith, h))
 bit_decides false true h = absurd (omega (arith, h))
+
+-- a look goes on exactly if the value is there
+abbrev look_seen : (live past : Bool) → ℕ
+look_seen live past = cond live 1 (cond past 2 0)
+
+look_decides : (a b past was : Bool) → look_seen a past ≡ look_seen b was → a ≡ b
+look_decides true true past was h = refl
+look_decides false false past was h = refl
+look_decides true false past true h = absurd (omega (arith, h))
+look_decides true false past false h = absurd (omega (arith, h))
+look_decides false true true was h = absurd (omega (arith, h))
+look_decides false true false was h = absurd (omega (arith, h))
 
 -- a get takes a hold exactly if it got the value
 got_is : (live room : Bool) → is_got (cond live (cond room Got Crowded) Gone) ≡ (live && room)
@@ -59,6 +73,12 @@ seen_decides plan p (move.EnterGet k x) m n e =
 seen_decides plan p (move.EnterRemove k x) m n e =
     ap (λ (b : Bool). hand p (cond b (Removing k) (Leaving (slot_ref_of x))))
     (bit_decides (live_at x.generation m) (live_at x.generation n) e)
+seen_decides plan p (move.Look k x) m n e =
+    ap (λ (b : Bool). hand p (cond b (Looking k x Bare) Idle))
+    (look_decides (live_at x.generation m) (live_at x.generation n) (past_at x.generation m) (past_at x.generation n) e)
+seen_decides plan p (move.LookOn k x s) m n e = ap (row_of plan p (move.LookOn k x s)).part e
+seen_decides plan p (move.LookAgain k x s) m n e = refl
+seen_decides plan p (move.Peek x) m n e = refl
 seen_decides plan p (move.Mark k x) m n e = refl
 seen_decides plan p (move.Drop x) m n e = ap (hand p) (drop_decides x m n e)
 seen_decides plan p (move.DropHold k x) m n e = ap (hand (freed p k)) (drop_decides (slot_ref_of x) m n e)

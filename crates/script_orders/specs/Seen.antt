@@ -4,7 +4,7 @@ use Rattle.sh_slots.specs.declared.enter.GetAnswer.{GetAnswer}
 use Rattle.sh_slots.specs.declared.enter.GetAnswer.TheVariants.{Got, Crowded, Gone}
 use Rattle.sh_slots.specs.declared.hand.Hand.{Hand}
 use Rattle.sh_slots.specs.declared.hand.Hand.TheVariants.{Finishing}
-use Rattle.sh_slots.specs.Slots.{live_at, answer_to_get, after_drop, is_reusable_after}
+use Rattle.sh_slots.specs.Slots.{live_at, past_at, answer_to_get, after_drop, is_reusable_after}
 use Rattle.sh_step.specs.declared.action.Event.{Event}
 use Rattle.sh_step.specs.declared.body.Body.{Body}
 use Rattle.sh_step.specs.declared.moves.Move.{Move}
@@ -28,10 +28,17 @@ ended_by _ = 0
 abbrev pub bit : Bool → ℕ
 bit b = cond b 1 0
 
--- the word that a move's step found, as far as what it leaves of the part depends on it
+-- 1 if the value of this generation is there, 2 if it was removed, and 0 if it was not there yet
+abbrev pub seen_by_look : (g found : ℕ) → ℕ
+seen_by_look g n = cond (live_at g n) 1 (cond (past_at g n) 2 0)
+
+-- The word that a move's step found, as far as what it leaves of the part depends on it. A look also has what it is
+-- replied, and a peek the word itself
 abbrev pub seen_in : Plan → Move → (found : ℕ) → ℕ
 seen_in plan (move.EnterGet k x) n = bit (is_got (answer_to_get x.generation plan.keys.guard_max n))
 seen_in plan (move.EnterRemove k x) n = bit (live_at x.generation n)
+seen_in plan (move.Look k x) n = seen_by_look x.generation n
+seen_in plan (move.LookAgain k x s) n = bit (live_at x.generation n)
 seen_in plan (move.Drop x) n = ended_by (after_drop (record { page = 0; slot = 0 }) n)
 seen_in plan (move.DropHold k x) n = ended_by (after_drop (record { page = 0; slot = 0 }) n)
 seen_in plan (move.Finish x g) n = bit (is_reusable_after g plan.keys.gen_max n)

@@ -4,6 +4,7 @@ use crate::view::View;
 use sh_history::Entry;
 use sh_slots::{Hand, SlotRef};
 use sh_step::Part;
+use sh_step::operands::is_read;
 use std::alloc::AllocError;
 use std::fmt::Write;
 
@@ -70,6 +71,15 @@ fn push_hand(out: &mut String, view: &View<'_>, hand: &Hand) -> Result<(), Alloc
             let words = value.words().len() as u64;
             let next = if *done < words { "Fill" } else { "Publish" };
             write!(out, " with {done} of {words} words, next {next}")
+        }
+        Hand::Looking(key, name, sight) => {
+            let key = view.key(*key);
+            let next = if is_read(*name, sight) {
+                "LookAgain"
+            } else {
+                "LookOn"
+            };
+            write!(out, "looks at {key}, next {next}")
         }
     }
 }

@@ -39,7 +39,10 @@ fn by_move(the_move: &Move) -> Touched
         | Move::DropHold(_, name)
         | Move::ReadClass(_, name)
         | Move::ReadLength(_, name)
-        | Move::ReadWord(_, name, _, _) => Touched::Page(name.page),
+        | Move::ReadWord(_, name, _, _)
+        | Move::Look(_, name)
+        | Move::LookOn(_, name, _)
+        | Move::LookAgain(_, name, _) => Touched::Page(name.page),
         Move::Drop(slot_ref)
         | Move::Finish(slot_ref, _)
         | Move::FillSlot(slot_ref, _)
@@ -47,7 +50,8 @@ fn by_move(the_move: &Move) -> Touched
         | Move::Publish(slot_ref, _)
         | Move::Put(slot_ref)
         | Move::PutSlot(slot_ref)
-        | Move::Tie(slot_ref, _, _) => Touched::Slot(*slot_ref),
+        | Move::Tie(slot_ref, _, _)
+        | Move::Peek(slot_ref) => Touched::Slot(*slot_ref),
         Move::ReadPage(page) | Move::SetClass(page, _) | Move::Take(page) | Move::Arm(page) =>
             Touched::Page(*page),
         Move::Follow(page, slot) => Touched::Link(*page, *slot),

@@ -44,7 +44,8 @@ fn why_no_get<L: KeyLayout>(shape: &Shape, part: &Part, key: u64) -> Result<(), 
     unless(part.may_get(), Reason::HoldsFull)
 }
 
-fn why_no_remove<L: KeyLayout>(shape: &Shape, part: &Part, key: u64) -> Result<(), Reason> {
+// Why a remove or a look does not begin.
+fn why_no_begin<L: KeyLayout>(shape: &Shape, part: &Part, key: u64) -> Result<(), Reason> {
     key_named::<L>(shape, key)?;
     unless(part.is_idle(), Reason::Busy)
 }
@@ -87,6 +88,11 @@ fn class_noted(part: &Part, page: u64) -> Result<u64, Reason> {
     let class_word = part.class_noted(page).ok_or(Reason::ClassNotNoted)?;
     unless(class_word > 0, Reason::Blank)?;
     Ok(class_word)
+}
+
+fn why_no_peek<L: KeyLayout>(shape: &Shape, part: &Part, name: SlotName) -> Result<(), Reason> {
+    unless(slot_of_name::<L>(shape, name).is_some(), Reason::NoSlot)?;
+    unless(part.is_idle(), Reason::Busy)
 }
 
 fn why_no_fill_of<L: KeyLayout>(
@@ -181,11 +187,12 @@ fn why_no_filling(part: &Part, otherwise: Reason) -> Result<(), Reason> {
 fn why_not<L: KeyLayout>(shape: &Shape, part: &Part, action: &Action) -> Result<(), Reason> {
     match action {
         Action::EnterGet(key) => why_no_get::<L>(shape, part, *key),
-        Action::EnterRemove(key) => why_no_remove::<L>(shape, part, *key),
+        Action::EnterRemove(key) | Action::Look(key) => why_no_begin::<L>(shape, part, *key),
         Action::DropHold(key) | Action::ReadClass(key) | Action::ReadLength(key) => {
             why_no_use::<L>(shape, part, *key)
         }
         Action::ReadWord(key, number) => why_no_word::<L>(shape, part, *key, *number),
+        Action::Peek(name) => why_no_peek::<L>(shape, part, *name),
         Action::FillSlot(name, value) => why_no_fill_of::<L>(shape, part, *name, value),
         Action::PutSlot(name) => slot_touched::<L>(shape, part, *name).map(|_| ()),
         Action::ReadPage(name) => page_touched::<L>(shape, part, *name).map(|_| ()),
@@ -205,7 +212,9 @@ fn why_not<L: KeyLayout>(shape: &Shape, part: &Part, action: &Action) -> Result<
         | Action::Put
         | Action::Tie
         | Action::Ring
-        | Action::RingTie => Err(Reason::NothingBegun),
+        | Action::RingTie
+        | Action::LookOn
+        | Action::LookAgain => Err(Reason::NothingBegun),
     }
 }
 

@@ -5,7 +5,7 @@ use Rattle.std.specs.List.{list_any}
 use Rattle.sh_word.specs.Kinds.{kind_by as state_kind}
 use Rattle.sh_slots.specs.declared.hand.Hand.{Hand as HandOf}
 use Rattle.sh_slots.specs.declared.hand.Hand.TheVariants.{Idle, Removing, Leaving, Finishing, ToPut, Tying, Ringing}
-use Rattle.sh_slots.specs.declared.hand.Hand.TheVariants.{RingTying, Filling}
+use Rattle.sh_slots.specs.declared.hand.Hand.TheVariants.{RingTying, Filling, Looking}
 use Rattle.sh_slots.specs.declared.hand.SlotRef.{SlotRef}
 use Rattle.sh_slots.specs.Slots.{same_slot}
 use Rattle.sh_step.specs.Collections.{total, if1, has}
@@ -66,6 +66,7 @@ hand_some x p = go p.hand where
   go (Tying y n r) e = absurd (let z : false ≡ true = e in cc)
   go (Ringing q) e = absurd (let z : false ≡ true = e in cc)
   go (RingTying q n) e = absurd (let z : false ≡ true = e in cc)
+  go (Looking k y s) e = absurd (let z : false ≡ true = e in cc)
 
 hand_none : (x : SlotRef) (p : Body) → has_in_hand x p ≡ false → in_hand x p ≡ 0
 hand_none x p = go p.hand where
@@ -80,6 +81,7 @@ hand_none x p = go p.hand where
   go (Tying y n r) e = refl
   go (Ringing q) e = refl
   go (RingTying q n) e = refl
+  go (Looking k y s) e = refl
 
 -- all passes
 some_mine : (x : SlotRef) (ps : List Body) → list_any (λ p. has (same_slot x) p.mine) ps ≡ true

@@ -5,7 +5,7 @@ use Rattle.std.proofs.lemmas.Nat.{div-mul-add}
 use Rattle.std.proofs.lemmas.List.Elements.{All-head, All-tail}
 use Rattle.std.proofs.lemmas.Bool.{false≢true}
 use Rattle.history_local.specs.Entry.{Entry}
-use Rattle.history_local.specs.Entry.TheVariants.{Insert, Got, Gone, Crowded, Removed, Released}
+use Rattle.history_local.specs.Entry.TheVariants.{Insert, Got, Gone, Crowded, Removed, Released, Seen}
 use Rattle.history_local.specs.Groups.{key_of, entries_in, IsWithin, renamed, IsOneToOne}
 use Rattle.history_local.proofs.Groups.{one_history_of_all}
 use Rattle.history_local.proofs.Renaming.{keys_may_be_renamed}
@@ -19,6 +19,7 @@ is_renamed name (Gone pass key) = refl
 is_renamed name (Crowded pass key) = refl
 is_renamed name (Removed pass key) = refl
 is_renamed name (Released pass key) = refl
+is_renamed name (Seen pass key value) = refl
 
 module _ (chunk : ℕ) where
   is_of_chunk : (key : ℕ) → key < 2 ^ 56 → chunk_of (with_chunk key chunk) ≡ chunk

@@ -5,11 +5,11 @@ use Rattle.std.proofs.Common.{eqb-true, eq-eqb, ne_eqb}
 use Rattle.std.specs.Prelude.{not, nat_lt, IsSome, if◌then◌else◌}
 use Rattle.std.proofs.lemmas.Bool.Decides.{nat_tests}
 use Rattle.sh_history.specs.declared.entry.Entry.{Entry}
-use Rattle.sh_history.specs.declared.entry.Entry.TheVariants.{Insert, Got, Gone, Crowded, Removed, Released}
+use Rattle.sh_history.specs.declared.entry.Entry.TheVariants.{Insert, Got, Gone, Crowded, Removed, Released, Seen}
 use Rattle.sh_history.specs.History.{value_of, is_removed, present_value, Allowed, Legal}
 use Rattle.sh_history.proofs.Laws.{legal_after_parts}
 use Rattle.sh_slots.specs.declared.hand.KeyRef.{KeyRef}
-use Rattle.sh_slots.specs.Slots.{live_at, has_room, published_name}
+use Rattle.sh_slots.specs.Slots.{live_at, past_at, has_room, published_name, value_seen}
 use Rattle.sh_slots.specs.declared.reply.Reply.{Reply}
 use Rattle.sh_slots.specs.declared.reply.Reply.TheVariants as reply
 use Rattle.sh_step.specs.declared.body.Body.{Body}
@@ -23,9 +23,11 @@ use Rattle.sh_step.specs.Plans.{Plan, plan_of}
 use Rattle.sh_step.specs.Rows.{Row}
 use Rattle.sh_step.specs.Fields.{Fields, fields_of}
 use Rattle.sh_core.specs.AtomicMap.{map_of, Finds, made_by, IsOneOperation, EventsAreOperations, OpensEmpty}
+use Rattle.sh_core.specs.AtomicMap.{StatesTell}
 use Rattle.sh_core.specs.Lists.{PutLists, lists_of}
 use Rattle.sh_core.specs.Outcomes.{row_of_event, outcome_of, done}
 use Rattle.sh_core.specs.Refines.{Refines, KeyMatchesLog}
+use Rattle.sh_core.specs.Looks.{HandSees}
 use Rattle.sh_core.specs.Words.{read}
 use Rattle.sh_core.specs.Worlds.{World, apply, run, run_from, open_world, entry, entry_of, joined, value_at}
 use Rattle.sh_core.specs.Worlds.{value_at_place}
@@ -102,6 +104,37 @@ module _ (plan : Plan) (w : World) (l : PutLists) (all : Refines plan w l) (k : 
     go true is = of_its_generation (eqb-true st.generation n.generation is)
     go false is = of_another is (less (nat_lt n.generation st.generation) refl is)
 
+  -- the flag of the slot's own generation says whether the key was removed, and a later generation that it was
+  pub removal_is_past : is_removed w.log k ≡ past_at n.generation (w.words.state_at n.page n.slot)
+  removal_is_past = go (st.generation == n.generation) (nat_lt n.generation st.generation) refl refl where
+    go : (b c : Bool) → (st.generation == n.generation) ≡ b → nat_lt n.generation st.generation ≡ c
+        → is_removed w.log k ≡ past_at n.generation (w.words.state_at n.page n.slot)
+    go b true test less =
+        let before : n.generation < st.generation = grind (arith, nat_tests, less) in
+        rw less (all.past k n names before).1
+    go true false test less = rw (less, test) (told.removed (sym (eqb-true st.generation n.generation test)))
+    go false false test less =
+        let after : st.generation < n.generation = grind (arith, nat_tests, less, test) in
+        rw (less, test) (told.later after).1
+
+  -- a word that is neither live nor past comes before the key was issued
+  pub issued_later : live_at n.generation (w.words.state_at n.page n.slot) ≡ false
+      → past_at n.generation (w.words.state_at n.page n.slot) ≡ false → value_of w.log k ≡ None
+  issued_later off early = go (st.generation == n.generation) (nat_lt n.generation st.generation) refl refl where
+    absent : (p m : Bool) → st.present ≡ p → st.marked ≡ m → (st.generation == n.generation) ≡ true
+        → nat_lt n.generation st.generation ≡ false → (p || m) ≡ false
+    absent p true a b test less = absurd (let z : true ≡ false = rw (less, test, b) at early in cc)
+    absent true false a b test less = absurd (let z : true ≡ false = rw (a, b, test) at off in cc)
+    absent false false a b test less = refl
+
+    go : (b c : Bool) → (st.generation == n.generation) ≡ b → nat_lt n.generation st.generation ≡ c
+        → value_of w.log k ≡ None
+    go b true test less = absurd (let z : true ≡ false = rw less at early in cc)
+    go true false test less = told.empty (sym (eqb-true st.generation n.generation test))
+        (absent st.present st.marked refl refl test less)
+    go false false test less =
+        let after : st.generation < n.generation = grind (arith, nat_tests, less, test) in (told.later after).0
+
 -- ---- the keys of entries are keys of the heap
 
 reply_key : Reply → ℕ
@@ -111,6 +144,7 @@ reply_key (reply.Gone k) = k
 reply_key (reply.Crowded k) = k
 reply_key (reply.Removed k) = k
 reply_key (reply.Released k) = k
+reply_key (reply.Seen k v) = k
 
 entry_key : Entry → ℕ
 entry_key (Insert a k v) = k
@@ -119,6 +153,7 @@ entry_key (Gone a k) = k
 entry_key (Crowded a k) = k
 entry_key (Removed a k) = k
 entry_key (Released a k) = k
+entry_key (Seen a k v) = k
 
 entry_keeps_key : (a : ℕ) (v : List ℕ) (r : Reply) → entry_key (entry a v r) ≡ reply_key r
 unfolding reply_key entry_key
@@ -128,6 +163,7 @@ entry_keeps_key a v (reply.Gone k) = refl
 entry_keeps_key a v (reply.Crowded k) = refl
 entry_keeps_key a v (reply.Removed k) = refl
 entry_keeps_key a v (reply.Released k) = refl
+entry_keeps_key a v (reply.Seen k u) = refl
 
 IsNamed : Plan → ℕ → Type 0
 IsNamed plan k = (x : KeyRef) × (plan.keys.unpack k ≡ Some x)
@@ -178,6 +214,24 @@ named_reply plan w l all a p (move.Publish x v) at may has r is =
         generation = (fields_of n).generation;
       })) s u,
     )
+named_reply plan w l all a p (move.Look k x) at may has r is =
+    go (past_at x.generation (w.words.state_at x.page x.slot)) is where
+      go : (b : Bool) → cond b (Some (reply.Gone k)) None ≡ Some r
+          → (x : KeyRef) × (plan.keys.unpack (reply_key r) ≡ Some x)
+      go true e = let s : reply.Gone k ≡ r = cc in
+          (x, subst (λ z. plan.keys.unpack (reply_key z) ≡ Some x) s may.1.unpacks)
+      go false e = absurd (let z : None ≡ Some r = e in cc)
+named_reply plan w l all a p (move.LookAgain k x u) at may has r is =
+    go (live_at x.generation (w.words.state_at x.page x.slot)) is where
+      named : plan.keys.unpack k ≡ Some x
+      named = (subst (HandSees plan w.words.class_at w.log) may.0 (all.looks a p at)).named.unpacks
+
+      go : (b : Bool) → Some (cond b (reply.Seen k (value_seen u)) (reply.Gone k)) ≡ Some r
+          → (x : KeyRef) × (plan.keys.unpack (reply_key r) ≡ Some x)
+      go true e = let s : reply.Seen k (value_seen u) ≡ r = cc in
+          (x, subst (λ z. plan.keys.unpack (reply_key z) ≡ Some x) s named)
+      go false e = let s : reply.Gone k ≡ r = cc in
+          (x, subst (λ z. plan.keys.unpack (reply_key z) ≡ Some x) s named)
 named_reply plan w l all a p m at may has r is = absurd (let z : None ≡ Some r = is in cc)
 
 -- ---- an event
@@ -190,6 +244,7 @@ finds_same (Gone a k) m u same f = sym same ∙ f
 finds_same (Crowded a k) m u same f = subst (λ (o : Option (List ℕ)). IsSome o) same f
 finds_same (Removed a k) m u same f = subst (λ (o : Option (List ℕ)). IsSome o) same f
 finds_same (Released a k) m u same f = tt
+finds_same (Seen a k v) m u same f = sym same ∙ f
 
 made_same : (t : Entry) (m u : ℕ → Option (List ℕ)) (j : ℕ) → m j ≡ u j → made_by m t j ≡ made_by u t j
 made_same (Insert a k v) m u j same = ap (λ o. cond (k == j) (Some v) o) same
@@ -198,6 +253,7 @@ made_same (Got a k v) m u j same = same
 made_same (Gone a k) m u j same = same
 made_same (Crowded a k) m u j same = same
 made_same (Released a k) m u j same = same
+made_same (Seen a k v) m u j same = same
 
 made_none : (t : Entry) (m : ℕ → Option (List ℕ)) (j : ℕ) → m j ≡ None → entry_key t ≢ j → made_by m t j ≡ None
 unfolding entry_key
@@ -207,6 +263,7 @@ made_none (Got a k v) m j none other = none
 made_none (Gone a k) m j none other = none
 made_none (Crowded a k) m j none other = none
 made_none (Released a k) m j none other = none
+made_none (Seen a k v) m j none other = none
 
 unnamed : (plan : Plan) (w : World) (k : ℕ) → plan.keys.unpack k ≡ None → map_of plan w.words k ≡ None
 unnamed plan w k is = ap (λ (o : Option KeyRef). elim o as (λ _. Option (List ℕ)) [
@@ -260,6 +317,7 @@ is_new plan w l all (Gone a k) named may = tt
 is_new plan w l all (Crowded a k) named may = tt
 is_new plan w l all (Removed a k) named may = tt
 is_new plan w l all (Released a k) named may = tt
+is_new plan w l all (Seen a k v) named may = tt
 
 words_same : (plan : Plan) (w v : World) (l j : PutLists) → Refines plan w l → Refines plan v j → v.log ≡ w.log
     → (k : ℕ) → map_of plan v.words k ≡ map_of plan w.words k
@@ -378,3 +436,19 @@ opens_empty layout shape k = go ((plan_of layout shape).keys.unpack k) where
   ]) ≡ None
   go (Some n) = refl
   go None = refl
+
+-- the word of a slot tells what became of its keys
+pub states_tell : StatesTell
+states_tell layout shape a b c es k x is =
+    let plan = plan_of layout shape in
+    let w = run plan es in
+    let all = theorem layout shape a b c es in record {
+      there = sym (present_is plan w (lists_of plan es) all k x is)
+          ∙ ap (λ (o : Option KeyRef). elim o as (λ _. Option (List ℕ)) [
+            | Some n ↦ cond (live_at n.generation (w.words.state_at n.page n.slot))
+                (Some (value_at w.words n.page n.slot)) None
+            | None ↦ None
+          ]) is;
+      removed = removal_is_past plan w (lists_of plan es) all k x is;
+      unissued = issued_later plan w (lists_of plan es) all k x is;
+    }

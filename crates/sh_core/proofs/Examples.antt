@@ -3,4 +3,5 @@ pub mod Worked
 pub mod WrongRows
 pub mod NoRing
 pub mod MoreWrongRows
+pub mod LookRows
 pub mod EveryTable

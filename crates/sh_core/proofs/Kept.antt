@@ -9,3 +9,4 @@ pub mod LastGenerations
 pub mod Flags
 pub mod PlacesInHeap
 pub mod RowsFit
+pub mod Looks

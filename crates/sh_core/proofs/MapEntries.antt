@@ -3,7 +3,7 @@ use Rattle.std.proofs.Common.{◌≡◌, ℕ, ◌==◌, ◌||◌, inl, inr, Bool
 use Rattle.std.proofs.Common.{◌∙◌, subst, Option, Some, None, eqb-true}
 use Rattle.std.specs.Prelude.{IsSome, if◌then◌else◌}
 use Rattle.sh_history.specs.declared.entry.Entry.{Entry}
-use Rattle.sh_history.specs.declared.entry.Entry.TheVariants.{Insert, Got, Gone, Crowded, Removed, Released}
+use Rattle.sh_history.specs.declared.entry.Entry.TheVariants.{Insert, Got, Gone, Crowded, Removed, Released, Seen}
 use Rattle.sh_history.specs.History.{value_of, is_removed, is_removal_of, present_value, Allowed}
 use Rattle.sh_history.proofs.LogLaws.{value_of-append_none, value_stays}
 use Rattle.sh_core.specs.AtomicMap.{Finds, made_by}
@@ -71,6 +71,7 @@ after_entry log (Got a k v) new j = stays log (Got a k v) j refl refl
 after_entry log (Gone a k) new j = stays log (Gone a k) j refl refl
 after_entry log (Crowded a k) new j = stays log (Crowded a k) j refl refl
 after_entry log (Released a k) new j = stays log (Released a k) j refl refl
+after_entry log (Seen a k v) new j = stays log (Seen a k v) j refl refl
 
 none_either : (r : Bool) (v : Option (List ℕ)) → v ≡ None → (if r then None else v) ≡ None
 none_either true v is = refl
@@ -90,3 +91,5 @@ finds passes guard_max log (Crowded a k) may =
 finds passes guard_max log (Removed a k) may =
     subst (λ b. IsSome (if b then None else value_of log k)) (sym may.1) may.0
 finds passes guard_max log (Released a k) may = tt
+finds passes guard_max log (Seen a k v) may =
+    ap (λ b. if b then None else value_of log k) may.1 ∙ may.0

@@ -3,6 +3,7 @@
 pub mod ByMove
 pub mod AllSlots
 pub mod AllReads
+pub mod AllLooks
 pub mod AllStacks
 pub mod AllBells
 pub mod RunAll

@@ -8,7 +8,7 @@ use Rattle.sh_shape.specs.declared.places.Place.TheVariants.{Class, Head, PageLi
 use Rattle.sh_shape.specs.declared.places.Place.TheVariants.{Bell}
 use Rattle.sh_slots.specs.declared.hand.Hand.{Hand}
 use Rattle.sh_slots.specs.declared.hand.Hand.TheVariants.{Removing, Leaving, Finishing, ToPut, Tying, Ringing}
-use Rattle.sh_slots.specs.declared.hand.Hand.TheVariants.{RingTying, Filling}
+use Rattle.sh_slots.specs.declared.hand.Hand.TheVariants.{RingTying, Filling, Looking}
 use Rattle.sh_slots.specs.declared.hand.KeyRef.{KeyRef}
 use Rattle.sh_slots.specs.declared.hand.SlotRef.{SlotRef}
 use Rattle.sh_step.specs.declared.action.Action.{Action}
@@ -38,6 +38,7 @@ HandWithin plan (Tying x l r) = SlotWithin plan x
 HandWithin plan (Ringing q) = q < heap_pages plan
 HandWithin plan (RingTying q l) = q < heap_pages plan
 HandWithin plan (Filling x v i) = SlotWithin plan x
+HandWithin plan (Looking k x s) = Named plan k x
 HandWithin plan _ = Unit {0}
 
 -- the hand, the pass's own shard and its armed pages are within the heap

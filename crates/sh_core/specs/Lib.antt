@@ -12,6 +12,8 @@ pub mod Placed
 pub mod LinkWords
 pub mod Opening
 pub mod Kept
+pub mod Looks
+pub mod LookRows
 pub mod Refines
 pub mod Reads
 pub mod InHeap
@@ -28,6 +30,7 @@ pub use Rattle.sh_shape.specs.Shape
 pub use Rattle.sh_history.specs.declared.entry.Entry
 pub use Rattle.sh_slots.specs.declared.hand.Hand
 pub use Rattle.sh_slots.specs.declared.hand.KeyRef
+pub use Rattle.sh_slots.specs.declared.hand.Sight
 pub use Rattle.sh_slots.specs.declared.hand.SlotRef
 pub use Rattle.sh_slots.specs.Slots
 pub use Rattle.sh_step.specs.declared.action.Action

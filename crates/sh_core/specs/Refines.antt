@@ -12,6 +12,7 @@ use Rattle.sh_step.specs.Moves.{row}
 use Rattle.sh_step.specs.Rows.{own, unpoint}
 use Rattle.sh_step.specs.Ends.{HandNames, ComesNearer, HasNext}
 use Rattle.sh_core.specs.Variants.{Table}
+use Rattle.sh_core.specs.Looks.{LooksAreTrue}
 use Rattle.sh_core.specs.InHeap.{StepsWithin, CountsFit, BellsAreSmall, ValuesFit, StoresWords, IssuesKeys}
 use Rattle.sh_slots.specs.declared.hand.Hand.TheVariants.{Idle, Filling}
 use Rattle.sh_slots.specs.Slots.{name_at}
@@ -259,6 +260,7 @@ pub record Refines (plan : Plan) (w : World) (l : PutLists) : Type 0 where
   pub held : HeldKeysAreValid plan w
   pub reads : ReadsWithin plan w
   pub notes : NotesAreTrue plan w
+  pub looks : LooksAreTrue plan w
   pub holds : HoldsMatchLog w
   pub counted : Counted plan w
   pub few : CountIsFew plan w

@@ -15,7 +15,7 @@ use Rattle.sh_step.specs.Rows.{Row}
 use Rattle.sh_step.specs.Operations.{operate}
 use Rattle.sh_slots.specs.declared.reply.Reply.{Reply}
 use Rattle.sh_slots.specs.declared.reply.Reply.TheVariants as reply
-use Rattle.sh_history.specs.declared.entry.Entry.TheVariants.{Insert, Got, Gone, Crowded, Removed, Released}
+use Rattle.sh_history.specs.declared.entry.Entry.TheVariants.{Insert, Got, Gone, Crowded, Removed, Released, Seen}
 
 pub record World : Type 0 where
   pub words : Words
@@ -42,6 +42,7 @@ entry a v (reply.Gone k) = Gone a k
 entry a v (reply.Crowded k) = Crowded a k
 entry a v (reply.Removed k) = Removed a k
 entry a v (reply.Released k) = Released a k
+entry a v (reply.Seen k u) = Seen a k u
 
 abbrev pub entry_of : ℕ → List ℕ → Option Reply → Option Entry
 entry_of a v (Some r) = Some (entry a v r)

@@ -6,6 +6,7 @@ ghost use Rattle.sh_core.specs.LinkWords.{EachLinked};
 ghost use Rattle.sh_core.specs.InHeap.{StepsWithin, CountsFit, BellsAreSmall, ValuesFit, StoresWords, IssuesKeys};
 ghost use Rattle.sh_core.specs.Refines.{Always, OneKind, KindsAddUp, Filled, ClassesAreKnown, HeldKeysAreValid};
 ghost use Rattle.sh_core.specs.Refines.{ReadsWithin};
+ghost use Rattle.sh_core.specs.Looks.{LooksAreTrue};
 ghost use Rattle.sh_core.specs.Refines.{NotesAreTrue, HoldsMatchLog, Counted, CountIsFew};
 ghost use Rattle.sh_core.specs.Refines.{PastIsRemoved, KeysMatchLog, EntriesAreOurs, GenerationsEnd, RetiredIsLast};
 ghost use Rattle.sh_core.specs.Refines.{Finished, OneOwner, Armed, LeftEmpty, ShardlessHaveNothing, Linked};
@@ -30,6 +31,7 @@ pub fn refines_map()
     ensures held { Always (λ plan w l. HeldKeysAreValid plan w) }
     ensures reads { Always (λ plan w l. ReadsWithin plan w) }
     ensures notes { Always (λ plan w l. NotesAreTrue plan w) }
+    ensures looks { Always (λ plan w l. LooksAreTrue plan w) }
     ensures holds { Always (λ plan w l. HoldsMatchLog w) }
     ensures few_holds { Always (λ plan w l. HoldsAreFew plan w) }
 

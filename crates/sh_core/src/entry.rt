@@ -61,5 +61,6 @@ pub fn entry(shape: &Shape, words: &[u64], pass: u32, place: Place, reply: Reply
         Reply::Crowded(key) => Entry::Crowded(pass, key),
         Reply::Removed(key) => Entry::Removed(pass, key),
         Reply::Released(key) => Entry::Released(pass, key),
+        Reply::Seen(key, value) => Entry::Seen(pass, key, value),
     }
 }

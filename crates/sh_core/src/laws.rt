@@ -2,7 +2,7 @@
 ghost use Rattle.sh_core.specs.Outcomes.{DecidingEventsReply};
 ghost use Rattle.sh_core.specs.Trails.{TrailGrows, OthersTrailsStay, SkipsLeaveTrails, StepsMakeParts};
 ghost use Rattle.sh_core.specs.Trails.{StepsMakeEntries};
-ghost use Rattle.sh_core.specs.AtomicMap.{EventsAreOperations, OpensEmpty};
+ghost use Rattle.sh_core.specs.AtomicMap.{EventsAreOperations, OpensEmpty, StatesTell};
 ghost use Rattle.sh_core.specs.WaitFree.{WaitFree};
 ghost use Rattle.sh_core.specs.Quiet.{QuietLosesNothing, CollectingFindsAll};
 ghost use Rattle.sh_core.specs.InHeap.{PlansHaveShapesPlaces, CountsLeaveRoom};
@@ -59,4 +59,7 @@ pub fn steps_are_wait_free()
 pub fn words_are_an_atomic_map()
     ensures opens { OpensEmpty }
     ensures events { EventsAreOperations }
+    // The state word of a slot, which a peek loads, tells of each key of the slot whether it is there, was removed, or
+    // was never issued.
+    ensures tells { StatesTell }
 {}

@@ -12,7 +12,7 @@ use crate::entry::{entry, word_at};
 use sh_history::Entry;
 use sh_key::KeyLayout;
 use sh_shape::Shape;
-use sh_slots::is_live_at;
+use sh_slots::{is_live_at, is_past_at};
 use sh_step::{Move, Part, steps_look_at_no_part};
 use sh_value::Refusal;
 
@@ -22,8 +22,12 @@ fn has_reply(the_move: &Move, found: u64) -> bool
 {
     match the_move {
         Move::EnterRemove(_, name) => !is_live_at(name.generation, found),
-        Move::EnterGet(_, _) | Move::Mark(_, _) | Move::DropHold(_, _) | Move::Publish(_, _) =>
-            true,
+        Move::Look(_, name) => is_past_at(name.generation, found),
+        Move::EnterGet(_, _)
+        | Move::Mark(_, _)
+        | Move::DropHold(_, _)
+        | Move::Publish(_, _)
+        | Move::LookAgain(_, _, _) => true,
         _ => false,
     }
 }

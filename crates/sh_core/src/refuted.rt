@@ -21,6 +21,8 @@ ghost use Rattle.sh_core.specs.MoreWrongRows.{retires_early, skips_generation, a
 ghost use Rattle.sh_core.specs.MoreWrongRows.{publishes_next, keeps_hold, fills_any_slot, reads_wrong_class};
 ghost use Rattle.sh_core.specs.MoreWrongRows.{reads_wrong_length, enters_uncounted, fits_any_length, rings_far};
 ghost use Rattle.sh_core.specs.MoreWrongRows.{leaves_elsewhere, ties_ring_as_end, ends_whole_word};
+ghost use Rattle.sh_core.specs.LookRows.{trusts_the_first_load, sees_at_once, looks_at_a_head, is_gone_early};
+ghost use Rattle.sh_core.specs.Looks.{LooksAreTrue};
 ghost use Rattle.sh_step.specs.Deciding.{DecidingReplies};
 
 /// The theorem does not hold of every table of actions. Each of these tables differs from the right one in an action or
@@ -85,6 +87,13 @@ pub fn refutes_more_wrong_tables()
     ensures reads_wrong_class_words { ¬ AlwaysBy reads_wrong_class (λ plan w l. ReadsWithin plan w) }
     ensures never_retires_issues { ¬ AlwaysBy never_retires (λ plan w l. IssuesKeys plan w) }
     ensures ends_whole_word { ¬ AlwaysBy ends_whole_word (λ plan w l. StoresWords plan w) }
+
+    // Looks.
+    ensures trusts_the_first_load { ¬ AlwaysBy trusts_the_first_load
+        (λ plan w l. Legal plan.passes plan.keys.guard_max w.log) }
+    ensures sees_at_once { ¬ AlwaysBy sees_at_once (λ plan w l. Legal plan.passes plan.keys.guard_max w.log) }
+    ensures looks_at_a_head { ¬ AlwaysBy looks_at_a_head (λ plan w l. LooksAreTrue plan w) }
+    ensures is_gone_early { ¬ DecidingReplies is_gone_early }
 {}
 
 /// The two clauses of the theorem that hold by every table of actions, so that no table breaks them.

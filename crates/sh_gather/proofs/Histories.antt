@@ -9,7 +9,7 @@ use Rattle.std.proofs.lemmas.List.Elements.{All-head, All-tail}
 use mathlib.Core.Logic.{dite}
 use native.Mathlib.Decide.{ℕ_discrete}
 use Rattle.sh_table.specs.Entry.{Entry}
-use Rattle.sh_table.specs.Entry.TheVariants.{Insert, Got, Gone, Crowded, Removed, Released}
+use Rattle.sh_table.specs.Entry.TheVariants.{Insert, Got, Gone, Crowded, Removed, Released, Seen}
 use Rattle.sh_table.specs.LogEntry.{LogEntry}
 use Rattle.sh_table.specs.LogEntry.TheVariants.{Known, Unread}
 use Rattle.sh_table.specs.History.{value_of, is_removed, is_removal_of, is_got_of, is_release_of, got_count}
@@ -153,6 +153,7 @@ issued_is j (Gone a i ∷ xs) = zero_more (is_some (value_of xs j)) (total (inse
 issued_is j (Crowded a i ∷ xs) = zero_more (is_some (value_of xs j)) (total (inserted_in j) xs) (issued_is j xs)
 issued_is j (Removed a i ∷ xs) = zero_more (is_some (value_of xs j)) (total (inserted_in j) xs) (issued_is j xs)
 issued_is j (Released a i ∷ xs) = zero_more (is_some (value_of xs j)) (total (inserted_in j) xs) (issued_is j xs)
+issued_is j (Seen a i u ∷ xs) = zero_more (is_some (value_of xs j)) (total (inserted_in j) xs) (issued_is j xs)
 
 -- ---- so they agree
 

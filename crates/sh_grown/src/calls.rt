@@ -142,7 +142,7 @@ impl Caller {
         release_guard_at(&mut self.met[chunk], guard)
     }
 
-    /// The value of a key: a get, a read and a release in one. Refused as a get is. It leaves the holds as they were.
+    /// The value of a key, by a look. Refused as the `look` of a reader is. It leaves the holds as they were.
     #[inline(never)]
     pub fn fetch(&mut self, key: u64) -> Result<Value, Refusal>
         ensures does { GrownDoes (SideDoes chunked (FetchDoes chunked (key_within key)))

@@ -8,7 +8,7 @@ use Rattle.std.proofs.lemmas.Bool.{true≢false}
 use Rattle.std.proofs.lemmas.List.{append-nil, take_more, take-append-drop}
 use Rattle.std.proofs.lemmas.Slice.Eq.{bytes_eq-Decides}
 use Rattle.sh_history.specs.declared.entry.Entry.{Entry}
-use Rattle.sh_history.specs.declared.entry.Entry.TheVariants.{Insert, Got, Gone, Crowded, Removed, Released}
+use Rattle.sh_history.specs.declared.entry.Entry.TheVariants.{Insert, Got, Gone, Crowded, Removed, Released, Seen}
 use Rattle.sh_history.specs.declared.checker.Why.{Why}
 use Rattle.sh_history.specs.declared.checker.Why.TheVariants.{NotNew, NotIssued, OtherValue, AfterRemoval, StillThere}
 use Rattle.sh_history.specs.declared.checker.Why.TheVariants.{NotCrowded, NotHeld}
@@ -62,6 +62,9 @@ module _ (passes guard_max : ℕ) where
   why_excludes before (Removed pass key) NotIssued is allowed = let h = rw is at allowed.0 in search rules
   why_excludes before (Removed pass key) AfterRemoval is allowed = cc
   why_excludes before (Released pass key) NotHeld is allowed = omega arith
+  why_excludes before (Seen pass key value) NotIssued is allowed = cc
+  why_excludes before (Seen pass key value) OtherValue is allowed = is.1 allowed.0
+  why_excludes before (Seen pass key value) AfterRemoval is allowed = cc
   why_excludes before _ _ is allowed = is
 
   -- one more entry of a list that is legal so far

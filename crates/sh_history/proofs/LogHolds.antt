@@ -5,7 +5,7 @@ use Rattle.std.specs.Prelude.{count_by, filter}
 use Rattle.std.specs.List.{AllZip}
 use Rattle.std.proofs.lemmas.Bool.{and_parts, false_from_ne_true, true≢false}
 use Rattle.sh_history.specs.declared.entry.Entry.{Entry}
-use Rattle.sh_history.specs.declared.entry.Entry.TheVariants.{Insert, Got, Gone, Crowded, Removed, Released}
+use Rattle.sh_history.specs.declared.entry.Entry.TheVariants.{Insert, Got, Gone, Crowded, Removed, Released, Seen}
 use Rattle.sh_history.specs.declared.log.LogEntry.{LogEntry}
 use Rattle.sh_history.specs.declared.log.LogEntry.TheVariants.{Known, Unread}
 use Rattle.sh_history.specs.History.{is_got_by, is_release_by, is_got_from, is_release_from, hold_count, holds_by}
@@ -48,6 +48,7 @@ got_own a k (Gone p j) e = cc
 got_own a k (Crowded p j) e = cc
 got_own a k (Removed p j) e = cc
 got_own a k (Released p j) e = cc
+got_own a k (Seen p j v) e = cc
 
 release_own : (a k : ℕ) (e : Entry) → is_release_by a k e ≡ true → (pass_of e == a) ≡ true
 release_own a k (Released p j) e = (and_parts (p == a) (j == k) e).0
@@ -56,6 +57,7 @@ release_own a k (Got p j v) e = cc
 release_own a k (Gone p j) e = cc
 release_own a k (Crowded p j) e = cc
 release_own a k (Removed p j) e = cc
+release_own a k (Seen p j v) e = cc
 
 got_from_own : (a : ℕ) (e : Entry) → is_got_from a e ≡ true → (pass_of e == a) ≡ true
 got_from_own a (Got p j v) e = e
@@ -64,6 +66,7 @@ got_from_own a (Gone p j) e = cc
 got_from_own a (Crowded p j) e = cc
 got_from_own a (Removed p j) e = cc
 got_from_own a (Released p j) e = cc
+got_from_own a (Seen p j v) e = cc
 
 release_from_own : (a : ℕ) (e : Entry) → is_release_from a e ≡ true → (pass_of e == a) ≡ true
 release_from_own a (Released p j) e = e
@@ -72,6 +75,7 @@ release_from_own a (Got p j v) e = cc
 release_from_own a (Gone p j) e = cc
 release_from_own a (Crowded p j) e = cc
 release_from_own a (Removed p j) e = cc
+release_from_own a (Seen p j v) e = cc
 
 pub own_count : (g h : Entry → Bool) → ((e : Entry) → g e ≡ true → h e ≡ true) → (es : List Entry)
     → count_by g (filter h es) ≡ count_by g es

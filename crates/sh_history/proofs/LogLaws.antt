@@ -7,7 +7,7 @@ use Rattle.std.proofs.lemmas.List.{append-nil}
 use Rattle.std.proofs.lemmas.List.Sums.{sum_by-append, sum_by-cons}
 use Rattle.sh_history.proofs.Laws.{legal_after_parts}
 use Rattle.sh_history.specs.declared.entry.Entry.{Entry}
-use Rattle.sh_history.specs.declared.entry.Entry.TheVariants.{Insert, Got, Released}
+use Rattle.sh_history.specs.declared.entry.Entry.TheVariants.{Insert, Got, Released, Seen}
 use Rattle.sh_history.specs.History.{value_of, holds_by, is_got_by, is_release_by, got_count_by, released_count_by}
 use Rattle.sh_history.specs.History.{Allowed, LegalAfter, Legal}
 use Rattle.sh_history.specs.declared.log.LogEntry.{LogEntry}
@@ -185,6 +185,13 @@ module _ (passes guard_max : ℕ) where
   value_of_got front rest p key value legal =
       let parts = legal_after_parts passes guard_max [] front (Got p key value ∷ rest) legal in
       value_of-append_some front (Got p key value ∷ rest) key value parts.1.0.0
+
+  pub value_of_seen : (front rest : List Entry) (p key : ℕ) (value : List ℕ)
+      → Legal passes guard_max (front ++ Seen p key value ∷ rest)
+      → value_of (front ++ Seen p key value ∷ rest) key ≡ Some value
+  value_of_seen front rest p key value legal =
+      let parts = legal_after_parts passes guard_max [] front (Seen p key value ∷ rest) legal in
+      value_of-append_some front (Seen p key value ∷ rest) key value parts.1.0.0
 
 -- an entry of a log is one of the history
 pub zip_splits : (front rest : List LogEntry) (e : Entry) (es : List Entry) → AllZip Agrees (front ++ Known e ∷ rest) es

@@ -7,11 +7,12 @@ use Rattle.std.proofs.lemmas.List.Elements.{Contains-append_left, Contains-appen
 use Rattle.std.proofs.lemmas.List.{take-append-drop, append-nil, map-append}
 use Rattle.std.proofs.lemmas.List.Folds.{list_any_at}
 use Rattle.sh_history.specs.declared.entry.Entry.{Entry}
-use Rattle.sh_history.specs.declared.entry.Entry.TheVariants.{Insert, Got, Removed}
+use Rattle.sh_history.specs.declared.entry.Entry.TheVariants.{Insert, Got, Removed, Seen}
 use Rattle.sh_history.specs.History.{value_of, is_removed, is_removal_of, Allowed, LegalAfter}
 use Rattle.sh_history.specs.Laws.{IsIssuedWith, HasRemoval, ValueIsInserted, GetsGiveInserted, RemovedHasRemoval}
-use Rattle.sh_history.specs.Laws.{RemovedOnce, ReleasesAreGot}
-use Rattle.sh_history.proofs.LogLaws.{value_of_insert, value_of_got, releases_le, count_by-cons, count_by-push}
+use Rattle.sh_history.specs.Laws.{RemovedOnce, ReleasesAreGot, LooksGiveInserted}
+use Rattle.sh_history.proofs.LogLaws.{value_of_insert, value_of_got, value_of_seen, releases_le, count_by-cons}
+use Rattle.sh_history.proofs.LogLaws.{count_by-push}
 
 first_stands : (x : Entry) (xs : List Entry) → Contains (x ∷ xs) x
 first_stands x xs = Contains-append_left (x ∷ []) xs x (Contains-push [] x)
@@ -66,6 +67,11 @@ pub gets_give_inserted : GetsGiveInserted
 gets_give_inserted passes guard_max history legal pass key value h =
     let s = splits_at history (Got pass key value) h in
     issued_with history key value (rw s.2 (value_of_got passes guard_max s.0 s.1 pass key value (rw (← s.2) legal)))
+
+pub looks_give_inserted : LooksGiveInserted
+looks_give_inserted passes guard_max history legal pass key value h =
+    let s = splits_at history (Seen pass key value) h in
+    issued_with history key value (rw s.2 (value_of_seen passes guard_max s.0 s.1 pass key value (rw (← s.2) legal)))
 
 removed_later : (x : Entry) (xs : List Entry) (key : ℕ) → HasRemoval xs key → HasRemoval (x ∷ xs) key
 removed_later x xs key h = (h.0, later_stands x (Removed h.0 key) xs h.1)

@@ -3,7 +3,7 @@ use Rattle.std.specs.Prelude.{◌≡◌, ℕ, ◌+◌, ◌-◌, ◌<◌, Bool, t
 use Rattle.std.specs.Prelude.{◌++◌, Option, Some, None, IsSome, count_by}
 use Rattle.std.specs.List.{list_any}
 use Rattle.sh_history.specs.declared.entry.Entry.{Entry}
-use Rattle.sh_history.specs.declared.entry.Entry.TheVariants.{Insert, Got, Gone, Crowded, Removed, Released}
+use Rattle.sh_history.specs.declared.entry.Entry.TheVariants.{Insert, Got, Gone, Crowded, Removed, Released, Seen}
 
 -- the value that the key was issued with
 abbrev pub value_of : List Entry → ℕ → Option (List ℕ)
@@ -78,11 +78,15 @@ holds_on history key = got_count history key - released_count history key
 abbrev pub holds_by : List Entry → ℕ → ℕ → ℕ
 holds_by history pass key = got_count_by history pass key - released_count_by history pass key
 
+-- the key has this value, and was not removed
+abbrev pub MayRead : List Entry → ℕ → List ℕ → Type 0
+MayRead before key value = (value_of before key ≡ Some value) × (is_removed before key ≡ false)
+
 -- the entry may follow these
 abbrev pub Allowed : (passes guard_max : ℕ) → List Entry → Entry → Type 0
 Allowed passes guard_max before (Insert pass key value) = value_of before key ≡ None
-Allowed passes guard_max before (Got pass key value) =
-    (value_of before key ≡ Some value) × (is_removed before key ≡ false)
+Allowed passes guard_max before (Got pass key value) = MayRead before key value
+Allowed passes guard_max before (Seen pass key value) = MayRead before key value
 Allowed passes guard_max before (Gone pass key) =
     (value_of before key ≡ None) ⊎ (is_removed before key ≡ true)
 Allowed passes guard_max before (Crowded pass key) =

@@ -2,7 +2,7 @@
 use Rattle.std.specs.Prelude.{◌≡◌, ℕ, ◌≤◌, ◌↔◌, true, List, Some, count_by}
 use Rattle.std.specs.List.{Contains}
 use Rattle.sh_history.specs.declared.entry.Entry.{Entry}
-use Rattle.sh_history.specs.declared.entry.Entry.TheVariants.{Insert, Got, Removed}
+use Rattle.sh_history.specs.declared.entry.Entry.TheVariants.{Insert, Got, Removed, Seen}
 use Rattle.sh_history.specs.History.{value_of, is_removed, is_removal_of, got_count_by, released_count_by, Legal}
 
 -- some pass inserted the value, which has this key
@@ -24,6 +24,12 @@ abbrev pub GetsGiveInserted : Type 0
 GetsGiveInserted =
     (passes guard_max : ℕ) (history : List Entry) → Legal passes guard_max history
     → (pass key : ℕ) (value : List ℕ) → Contains history (Got pass key value) → IsIssuedWith history key value
+
+-- a look at a key returned the value that was inserted with it
+abbrev pub LooksGiveInserted : Type 0
+LooksGiveInserted =
+    (passes guard_max : ℕ) (history : List Entry) → Legal passes guard_max history
+    → (pass key : ℕ) (value : List ℕ) → Contains history (Seen pass key value) → IsIssuedWith history key value
 
 -- a key counts as removed exactly if the history has a removal of it
 abbrev pub RemovedHasRemoval : Type 0

@@ -4,7 +4,7 @@ use Rattle.std.specs.List.{AllZip}
 use Rattle.sh_history.specs.declared.entry.Entry.{Entry}
 use Rattle.sh_history.specs.declared.log.LogEntry.{LogEntry}
 use Rattle.sh_history.specs.declared.log.LogEntry.TheVariants.{Known, Unread}
-use Rattle.sh_history.specs.declared.entry.Entry.TheVariants.{Insert, Got, Gone, Crowded, Removed, Released}
+use Rattle.sh_history.specs.declared.entry.Entry.TheVariants.{Insert, Got, Gone, Crowded, Removed, Released, Seen}
 use Rattle.sh_history.specs.History.{is_got_by, is_release_by, is_got_from, is_release_from, Legal}
 
 -- the log entry is the entry, or it is a get whose value is not read yet and the entry is that get
@@ -19,6 +19,7 @@ pass_of (Gone pass key) = pass
 pass_of (Crowded pass key) = pass
 pass_of (Removed pass key) = pass
 pass_of (Released pass key) = pass
+pass_of (Seen pass key value) = pass
 
 -- the entries of these passes
 abbrev pub entries_of : (ℕ → Bool) → List Entry → List Entry

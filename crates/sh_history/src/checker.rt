@@ -1,10 +1,11 @@
 //! The checker of histories.
 ghost use Rattle.std.specs.Prelude.{◌≡◌, ◌↔◌, IsOk, IfErr, MatchOption};
-ghost use Rattle.sh_history.specs.History.{Allowed, Legal};
-ghost use Rattle.sh_history.specs.FirstFault.{IsWhy, IsFirstFault};
+ghost use Rattle.sh_history.specs.History.{Allowed, Legal, MayRead};
+ghost use Rattle.sh_history.specs.FirstFault.{IsWhy, IsWhyUnread, IsFirstFault};
 
 use crate::Entry;
 use crate::look::{is_crowded, is_held_by, is_removed, value_of};
+use sh_value::Value;
 
 /// Why an entry may not follow those before it.
 #[derive(Clone, Copy, Debug, PartialEq, Eq)]
@@ -13,7 +14,7 @@ pub enum Why {
     NotNew,
     /// The key was not inserted.
     NotIssued,
-    /// A get gives another value than the key was inserted with.
+    /// A get or a look gives another value than the key was inserted with.
     OtherValue,
     /// The key was removed.
     AfterRemoval,
@@ -23,6 +24,25 @@ pub enum Why {
     NotCrowded,
     /// The pass releases a key on which it has no hold.
     NotHeld,
+}
+
+// Why the key may not be read as this value after these: the first reason of the list above that holds, or `None` if
+// it may.
+fn why_not_read(before: &[Entry], key: u64, value: &Value) -> Option<Why>
+    ensures { MatchOption result (MayRead before.now key value.now) (IsWhyUnread before.now key value.now) }
+{
+    match value_of(before, key) {
+        None => Some(Why::NotIssued),
+        Some(issued) => {
+            if issued != value {
+                Some(Why::OtherValue)
+            } else if is_removed(before, key) {
+                Some(Why::AfterRemoval)
+            } else {
+                None
+            }
+        }
+    }
 }
 
 // Why the entry may not follow these: the first reason of the list above that holds, or `None` if it may follow.
@@ -35,18 +55,8 @@ fn why_not(before: &[Entry], entry: &Entry, passes: u32, guard_max: u32) -> Opti
             None => None,
             Some(_) => Some(Why::NotNew),
         },
-        Entry::Got(_, key, value) => match value_of(before, *key) {
-            None => Some(Why::NotIssued),
-            Some(issued) => {
-                if issued != value {
-                    Some(Why::OtherValue)
-                } else if is_removed(before, *key) {
-                    Some(Why::AfterRemoval)
-                } else {
-                    None
-                }
-            }
-        },
+        Entry::Got(_, key, value) => why_not_read(before, *key, value),
+        Entry::Seen(_, key, value) => why_not_read(before, *key, value),
         Entry::Gone(_, key) => match value_of(before, *key) {
             None => None,
             Some(_) => {

@@ -18,6 +18,8 @@ pub enum Entry {
     Removed(u32, u64),
     /// The pass released a hold on the key.
     Released(u32, u64),
+    /// The pass looked at the key, which has this value. It got no hold.
+    Seen(u32, u64, Value),
 }
 
 impl Entry {
@@ -32,6 +34,7 @@ impl Entry {
             Entry::Crowded(pass, key) => Entry::Crowded(*pass, *key),
             Entry::Removed(pass, key) => Entry::Removed(*pass, *key),
             Entry::Released(pass, key) => Entry::Released(*pass, *key),
+            Entry::Seen(pass, key, value) => Entry::Seen(*pass, *key, value.copy()),
         }
     }
 }

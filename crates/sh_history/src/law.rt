@@ -1,11 +1,13 @@
 //! Laws of histories.
 ghost use Rattle.sh_history.specs.Laws.{ValueIsInserted, GetsGiveInserted, RemovedHasRemoval, RemovedOnce};
-ghost use Rattle.sh_history.specs.Laws.{ReleasesAreGot};
+ghost use Rattle.sh_history.specs.Laws.{ReleasesAreGot, LooksGiveInserted};
 
-/// In a legal history a key has one value: it was inserted with this value, and each get of it returned this value.
+/// In a legal history a key has one value: it was inserted with this value, and each get of it and each
+/// look at it returned this value.
 pub fn one_value_a_key()
     ensures issued { ValueIsInserted }
     ensures got { GetsGiveInserted }
+    ensures seen { LooksGiveInserted }
 {}
 
 /// A key was removed exactly if a removal of it is in the history.

@@ -1,6 +1,6 @@
 -- What is left after a get, a read and a release in a row.
-use Rattle.std.proofs.Common.{◌≡◌, ℕ, ◌+◌, ◌≤◌, Bool, true, cond, List, [], ◌∷◌, ◌++◌, map, length, refl, sym, ◌∙◌, ap}
-use Rattle.std.proofs.Common.{subst, arith, eq-eqb, append_assoc, inr, Option, Some, None, IsSome}
+use Rattle.std.proofs.Common.{◌≡◌, ℕ, ◌+◌, true, cond, List, [], ◌∷◌, ◌++◌, map, length, refl, sym, ◌∙◌, ap}
+use Rattle.std.proofs.Common.{subst, arith, eq-eqb, append_assoc, inr, Option, None, IsSome}
 use Rattle.std.specs.Prelude.{◌==◌, Ok, Err, false}
 use Rattle.std.proofs.lemmas.List.{map-append}
 use Rattle.sh_table.specs.Entry.TheVariants as entry
@@ -9,7 +9,6 @@ use Rattle.sh_table.specs.LogEntry.{LogEntry}
 use Rattle.sh_key.specs.Layout.{Layout}
 use Rattle.sh_table.specs.Moves.{place_named}
 use Rattle.sh_table.specs.Plans.{plan_of}
-use Rattle.sh_table.specs.Shape.{Numbers}
 use Rattle.sh_value.specs.declared.hold.Hold.{Hold}
 use Rattle.sh_value.specs.declared.refusal.Refusal.{Refusal}
 use Rattle.sh_value.specs.declared.refusal.Refusal.TheVariants as refusal
@@ -22,7 +21,7 @@ use Rattle.sh_pass.specs.Deciding.{InOneStep, DropsHold, RemovalDecided}
 use Rattle.sh_pass.specs.Passes.{Caller, holds, CallAdds, CallReads, GetDoes, ReadDoes, ReleaseDoes, RemoveDoes}
 use Rattle.sh_pass.specs.Passes.{plan_for}
 use Rattle.sh_pass.specs.Remaining.{Remains}
-use Rattle.sh_member.specs.Readers.{ReadsAndAdds, FetchDoes, TakeDoes}
+use Rattle.sh_member.specs.Readers.{ReadsAndAdds, GetsAndReads, TakeDoes}
 use Rattle.sh_member.proofs.Holding.{without_first}
 
 pub remains_along : (layout : Layout) (u v w : Caller) → Remains layout u v → Remains layout v w → Remains layout u w
@@ -122,7 +121,7 @@ takes k value E First Mid Last v a b c d got removed read released =
 
 pub fetch_does : (layout : Layout) (k : ℕ) (hold : Hold) (value : List ℕ) (v a b c : Caller)
     → GetDoes layout k v (Ok hold) a → ReadDoes hold.key a (Ok value) b → ReleaseDoes layout hold.key b (Ok tt) c
-    → FetchDoes layout k v (Ok value) c
+    → GetsAndReads layout k v (Ok value) c
 fetch_does layout k hold value v a b c got read released =
     let R : ℕ → Type 0 = λ n. ReadDoes n a (Ok value) b in
     let S : ℕ → Type 0 = λ n. ReleaseDoes layout n b (Ok tt) c in

@@ -1,5 +1,5 @@
 -- A hold at the front of the list is held, and without it the other holds are left.
-use Rattle.std.proofs.Common.{◌≡◌, refl, ap, ℕ, ◌==◌, ◌||◌, Bool, true, cond, List, ◌∷◌, eq-eqb}
+use Rattle.std.proofs.Common.{◌≡◌, refl, ap, ℕ, ◌==◌, ◌||◌, true, cond, List, ◌∷◌, eq-eqb}
 use Rattle.sh_table.specs.Collections.{has, without}
 
 pub has_first : (k : ℕ) (ks : List ℕ) → has (λ n. n == k) (k ∷ ks) ≡ true

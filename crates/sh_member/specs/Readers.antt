@@ -1,14 +1,18 @@
 -- What the calls do that end what they begin.
-use Rattle.std.specs.Prelude.{◌≡◌, ℕ, ◌+◌, ◌<◌, ◌≤◌, ◌⊎◌, List, [], ◌∷◌, ◌++◌, map, length, Result, Ok, Err}
+use Rattle.std.specs.Prelude.{◌≡◌, ℕ, ◌+◌, ◌<◌, ◌≤◌, ◌⊎◌, List, [], ◌∷◌, ◌++◌, map, length, None, Result, Ok, Err}
 use Rattle.sh_table.specs.Entry.TheVariants as entry
 use Rattle.sh_table.specs.LogEntry.{LogEntry}
 use Rattle.sh_table.specs.LogEntry.TheVariants.{Known}
 use Rattle.sh_table.specs.Log.{filled, AllHaveValue}
+use Rattle.sh_pass.specs.Views.{HeardOfInsert}
 use Rattle.sh_key.specs.Layout.{Layout}
 use Rattle.sh_value.specs.declared.refusal.Refusal.{Refusal}
 use Rattle.sh_value.specs.declared.refusal.Refusal.TheVariants as refusal
 use Rattle.sh_pass.specs.Growing.{SameTale}
-use Rattle.sh_pass.specs.Passes.{Caller, holds, GetDoes, IsKeyOfHeap}
+use Rattle.sh_table.specs.Moves.{place_named}
+use Rattle.sh_table.specs.Plans.{plan_of}
+use Rattle.sh_pass.specs.declared.looking.Glance.TheVariants.{Seen, Gone, Early}
+use Rattle.sh_pass.specs.Passes.{Caller, holds, GetDoes, LookAdds, IsKeyOfHeap}
 
 -- the value of the key was read, which is then that of each get of the key, and these entries were added, in at most
 -- `most` steps; the holds are as they were
@@ -23,12 +27,28 @@ pub record ReadsAndAdds (key : ℕ) (value : List ℕ) (es : List LogEntry) (mos
 abbrev pub MayGet : Layout → ℕ → Caller → Type 0
 MayGet layout key v = IsKeyOfHeap layout v key × (length (holds v) < 16)
 
--- a fetch got, read and released the key, or is refused as the get is
-abbrev pub FetchDoes : Layout → ℕ → Caller → Result (List ℕ) Refusal → Caller → Type 0
-FetchDoes layout key v (Ok value) w =
+-- the key was got, read and released, or was refused as the get is
+abbrev pub GetsAndReads : Layout → ℕ → Caller → Result (List ℕ) Refusal → Caller → Type 0
+GetsAndReads layout key v (Ok value) w =
     MayGet layout key v × ReadsAndAdds key value
     (Known (entry.Got v.view.pass key value) ∷ Known (entry.Released v.view.pass key) ∷ []) (length value + 9) v w
-FetchDoes layout key v (Err why) w = GetDoes layout key v (Err why) w
+GetsAndReads layout key v (Err why) w = GetDoes layout key v (Err why) w
+
+-- a look at the key found its value, or that it was removed, or that the number is no key of the heap
+abbrev pub LookDoes : Layout → ℕ → Caller → Result (List ℕ) Refusal → Caller → Type 0
+LookDoes layout key v (Ok value) w =
+    LookAdds layout key Seen (Known (entry.Seen v.view.pass key value) ∷ []) (length value + 4) v w
+LookDoes layout key v (Err refusal.Gone) w =
+    LookAdds layout key Gone (Known (entry.Gone v.view.pass key) ∷ []) 20 v w
+LookDoes layout key v (Err refusal.BadKey) w = (place_named (plan_of layout v.heap.shape) key ≡ None) × (w ≡ v)
+LookDoes layout key v (Err _) w = ⊥
+
+-- A fetch looks at the key. If the slot is as it was before the key's value was there, the look is one load that
+-- decides nothing, and the fetch gets, reads and releases the key. So it is only of a key whose insert the caller
+-- neither did nor heard of
+abbrev pub FetchDoes : Layout → ℕ → Caller → Result (List ℕ) Refusal → Caller → Type 0
+FetchDoes layout key v answer w = LookDoes layout key v answer w ⊎ ((early : Caller)
+    × LookAdds layout key Early [] 1 v early × (¬ HeardOfInsert v.view key) × GetsAndReads layout key early answer w)
 
 -- the same for a fetch into a value of the caller's, replacing the one before; a refusal leaves it
 abbrev pub FetchIntoDoes : Layout → ℕ → Caller → (before : List ℕ) → Result (Unit {0}) Refusal → (after : List ℕ)
@@ -36,11 +56,11 @@ abbrev pub FetchIntoDoes : Layout → ℕ → Caller → (before : List ℕ) →
 FetchIntoDoes layout key v before (Ok _) after w = FetchDoes layout key v (Ok after) w
 FetchIntoDoes layout key v before (Err why) after w = FetchDoes layout key v (Err why) w × (after ≡ before)
 
--- a fetch whose value was passed to a call that returned this, or that is refused as the get is
+-- a fetch whose value was passed to a call that returned this, or that is refused
 abbrev pub WithDoes : {T : Type 0} → (gives : List ℕ → T → Type 0) → Layout → ℕ → Caller → Result T Refusal → Caller
     → Type 0
 WithDoes gives layout key v (Ok given) w = (value : List ℕ) × FetchDoes layout key v (Ok value) w × gives value given
-WithDoes gives layout key v (Err why) w = GetDoes layout key v (Err why) w
+WithDoes gives layout key v (Err why) w = FetchDoes layout key v (Err why) w
 
 -- the key was got, another had removed it, and it was released
 abbrev pub ComesLate : Layout → ℕ → Caller → Caller → Type 0
@@ -57,10 +77,10 @@ TakeDoes layout key v (Ok value) w =
 TakeDoes layout key v (Err refusal.Gone) w = GetDoes layout key v (Err refusal.Gone) w ⊎ ComesLate layout key v w
 TakeDoes layout key v (Err why) w = GetDoes layout key v (Err why) w
 
--- a take of a value that has at most `most` words; a longer one is fetched, and its key is not removed
+-- a take of a value that has at most `most` words; a longer one is read, and its key is not removed
 abbrev pub TakeFitsDoes : Layout → (key most : ℕ) → Caller → Result (List ℕ) Refusal → Caller → Type 0
 TakeFitsDoes layout key most v (Ok value) w = ((length value ≤ most) × TakeDoes layout key v (Ok value) w)
-    ⊎ ((most < length value) × FetchDoes layout key v (Ok value) w)
+    ⊎ ((most < length value) × GetsAndReads layout key v (Ok value) w)
 TakeFitsDoes layout key most v (Err why) w = TakeDoes layout key v (Err why) w
 
 -- the same into a value of the caller's

@@ -13,7 +13,7 @@ use Rattle.sh_pass.specs.Receipts.{heeded, receipt_by}
 use Rattle.sh_pass.specs.Remaining.{Remains}
 use Rattle.sh_pass.specs.declared.next_key.NextKey.{NextKey}
 use Rattle.sh_shard.specs.Pages.{Paged}
-use Rattle.sh_shard.specs.Shards.{Sharded, StaysOwner, InsertServes, AdoptServes, LeaveServes, PrepareServes}
+use Rattle.sh_shard.specs.Shards.{StaysOwner, InsertServes, AdoptServes, LeaveServes, PrepareServes}
 use Rattle.sh_shard.specs.Shards.{value_class, HoldsShard, shard_heeded}
 use Rattle.sh_shard.specs.RemoteFrees.{CollectServes}
 use Rattle.sh_member.specs.OwnKeys.{NextOwnKeyDoes, StepsForPlaces}

@@ -1,16 +1,19 @@
-//! A get, a read and a release in one.
+//! Reading a key that is not kept.
+ghost use Rattle.std.specs.Prelude.{◌≡◌, Ok, Err, IfOk, IfErr};
 ghost use Rattle.std.specs.Fn.{FnOnceReturnsAt};
 ghost use Rattle.sh_pass.specs.Remaining.{Remains};
-ghost use Rattle.sh_member.specs.Readers.{FetchDoes, FetchIntoDoes, WithDoes};
+ghost use Rattle.sh_member.specs.Readers.{FetchDoes, FetchIntoDoes, WithDoes, GetsAndReads};
 
 use crate::reader::Reader;
+use sh_pass::Glance;
 use sh_value::{Refusal, Value};
 
-/// The value of a key, replacing what the value was. Refused as a get is, and then the value stays as it was. No hold
-/// is left behind, whatever it returns.
+// A get, a read and a release in one. Refused as a get is, and then the value stays as it was.
 #[tactic(auto, using(crate::proofs::Holding::has_first, crate::proofs::Holding::without_first))]
-pub fn fetch_into<R: Reader>(reader: &mut R, key: u64, value: &mut Value) -> Result<(), Refusal>
-    ensures does { FetchIntoDoes R.layout key (R.caller reader.old) value.old result value.new (R.caller reader.new) }
+fn get_and_read<R: Reader>(reader: &mut R, key: u64, value: &mut Value) -> Result<(), Refusal>
+    ensures ok { IfOk result (λ _. GetsAndReads R.layout key (R.caller reader.old) (Ok value.new) (R.caller reader.new)) }
+    ensures err { IfErr result (λ why. GetsAndReads R.layout key (R.caller reader.old) (Err why) (R.caller reader.new)
+        × (value.new ≡ value.old)) }
     ensures remains { Remains R.layout (R.caller reader.old) (R.caller reader.new) }
 {
     let hold = reader.get(key)?;
@@ -23,7 +26,20 @@ pub fn fetch_into<R: Reader>(reader: &mut R, key: u64, value: &mut Value) -> Res
     Ok(())
 }
 
-/// The value of a key. Refused as a get is. No hold is left behind, whatever it returns.
+/// The value of a key, replacing what the value was: by a look, and if that decides nothing by a get. A refusal leaves
+/// the value as it was. No hold is left behind, whatever it returns.
+pub fn fetch_into<R: Reader>(reader: &mut R, key: u64, value: &mut Value) -> Result<(), Refusal>
+    ensures does { FetchIntoDoes R.layout key (R.caller reader.old) value.old result value.new (R.caller reader.new) }
+    ensures remains { Remains R.layout (R.caller reader.old) (R.caller reader.new) }
+{
+    match reader.glance(key, value)? {
+        Glance::Seen => Ok(()),
+        Glance::Gone => Err(Refusal::Gone),
+        Glance::Early => get_and_read(reader, key, value),
+    }
+}
+
+/// The value of a key. No hold is left behind, whatever it returns.
 pub fn fetch<R: Reader>(reader: &mut R, key: u64) -> Result<Value, Refusal>
     ensures does { FetchDoes R.layout key (R.caller reader.old) result (R.caller reader.new) }
     ensures remains { Remains R.layout (R.caller reader.old) (R.caller reader.new) }
@@ -34,7 +50,7 @@ pub fn fetch<R: Reader>(reader: &mut R, key: u64) -> Result<Value, Refusal>
     Ok(value)
 }
 
-/// What the call returns for the value of a key. Refused as a get is, and then nothing is called.
+/// What the call returns for the value of a key. If the fetch is refused, nothing is called.
 pub fn with<R: Reader, T, F: FnOnce(&Value) -> T>(
     reader: &mut R,
     key: u64,

@@ -2,7 +2,7 @@
 use crate::reader::Reader;
 use sh_key::KeyLayout;
 use sh_pass::pass::PassOn;
-use sh_pass::{KeepsHeap, Receipt};
+use sh_pass::{Glance, KeepsHeap, Receipt};
 use sh_value::{Hold, Refusal, Value};
 
 impl<L: KeyLayout, H: KeepsHeap<L>> Reader for PassOn<L, H> {
@@ -16,6 +16,10 @@ impl<L: KeyLayout, H: KeepsHeap<L>> Reader for PassOn<L, H> {
 
     fn warm_value(&self, key: u64) {
         PassOn::warm_value(self, key);
+    }
+
+    fn glance(&mut self, key: u64, value: &mut Value) -> Result<Glance, Refusal> {
+        PassOn::glance(self, key, value)
     }
 
     fn get(&mut self, key: u64) -> Result<Hold, Refusal> {

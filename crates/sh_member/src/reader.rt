@@ -1,7 +1,7 @@
 //! What a pass and a shard have in common.
 ghost use Rattle.std.specs.Prelude.{◌≡◌, ℕ, Result, length};
 ghost use Rattle.sh_key.specs.Layout.{Layout};
-ghost use Rattle.sh_pass.specs.Passes.{Caller, GetDoes, ReadDoes, ReadIntoDoes, RemoveDoes, ReleaseDoes};
+ghost use Rattle.sh_pass.specs.Passes.{Caller, GetDoes, ReadDoes, ReadIntoDoes, RemoveDoes, ReleaseDoes, GlanceDoes};
 ghost use Rattle.sh_pass.specs.Receipts.{heeded, receipt_by};
 ghost use Rattle.sh_member.specs.Batches.{GetsEach, FetchesEach, RemainsAfter};
 ghost use Rattle.sh_pass.specs.Remaining.{Remains};
@@ -12,17 +12,17 @@ use crate::batches::{fetch_each, get_each};
 use crate::fetching::{fetch, fetch_into, with};
 use crate::taking::take;
 use crate::taking_into::take_into;
-use sh_pass::Receipt;
+use sh_pass::{Glance, Receipt};
 use sh_value::{Hold, Refusal, Value};
 
 /// A caller that may look keys up: a pass, or a shard by its owner's pass.
 ///
 /// ```text
-/// let value = pass.fetch(key)?;   // read, and held no longer
+/// let value = pass.look(key)?;    // read, without a hold
 /// let value = pass.take(key)?;    // read and removed: no one else gets it by `take`
 /// ```
 ///
-/// The first seven calls are those of `Pass` and of `Shard`, with the same contracts. `fetch` and `take` end what they
+/// The first eight calls are those of `Pass` and of `Shard`, with the same contracts. `look` and `take` end what they
 /// begin: whatever they return, they leave the holds as they were.
 pub trait Reader {
     // How keys are numbered.
@@ -39,6 +39,13 @@ pub trait Reader {
     /// The same, and the words that a read of the key's value needs: its page's class, its length, and its word if it
     /// has one.
     fn warm_value(&self, key: u64);
+
+    /// Looks at a key once, in loads alone: at most w + 4 for a value of w words. A value that it sees replaces the
+    /// caller's; otherwise the caller's value stays. Refused as `BadKey`. `look_into` is this, and a get where this
+    /// decides nothing.
+    fn glance(&mut self, key: u64, value: &mut Value) -> Result<Glance, Refusal>
+        ensures does { GlanceDoes layout key (caller self.old) value.old result value.new (caller self.new) }
+        ensures remains { Remains layout (caller self.old) (caller self.new) };
 
     /// Takes a hold on a key, so that its value stays readable. Refused as `BadKey`, `HoldsFull`, `Gone` or `Crowded`,
     /// tried in that order.
@@ -80,8 +87,36 @@ pub trait Reader {
         ensures heeds { caller self.new ≡ heeded (caller self.old) receipt }
         ensures remains { Remains layout (caller self.old) (caller self.new) };
 
-    /// The value of a key: a get, a read and a release in one, in at most w + 9 steps for w words. Refused as a get is:
-    /// `BadKey`, `HoldsFull`, `Gone` or `Crowded`. No hold is left behind, whatever it returns.
+    /// The value of a key, in w + 4 loads for w words. It writes nothing to shared memory, needs no room for a hold and
+    /// leaves none. Refused as `BadKey`, or as `Gone` if the key was removed.
+    ///
+    /// If its first load comes before the value was there, it gets, reads and releases the key instead. That takes at
+    /// most w + 9 steps more, and may be refused as `HoldsFull` or `Crowded` too. It is so only of a key whose insert
+    /// the caller neither did nor heard of by a receipt.
+    ///
+    /// ```text
+    /// let value = pass.look(key)?;
+    /// ```
+    final fn look(&mut self, key: u64) -> Result<Value, Refusal>
+    where
+        Self: Sized,
+        ensures does { FetchDoes layout key (caller self.old) result (caller self.new) }
+        ensures remains { Remains layout (caller self.old) (caller self.new) }
+    {
+        fetch(self, key)
+    }
+
+    /// The same into a value of the caller's, replacing what that was. A refusal leaves the caller's value as it was.
+    final fn look_into(&mut self, key: u64, value: &mut Value) -> Result<(), Refusal>
+    where
+        Self: Sized,
+        ensures does { FetchIntoDoes layout key (caller self.old) value.old result value.new (caller self.new) }
+        ensures remains { Remains layout (caller self.old) (caller self.new) }
+    {
+        fetch_into(self, key, value)
+    }
+
+    /// The value of a key: the same as `look`.
     final fn fetch(&mut self, key: u64) -> Result<Value, Refusal>
     where
         Self: Sized,
@@ -91,8 +126,7 @@ pub trait Reader {
         fetch(self, key)
     }
 
-    /// The same into a value of the caller's, replacing what that was, so that it is copied nowhere. A refusal leaves
-    /// the caller's value as it was.
+    /// The same as `look_into`.
     final fn fetch_into(&mut self, key: u64, value: &mut Value) -> Result<(), Refusal>
     where
         Self: Sized,
@@ -102,9 +136,8 @@ pub trait Reader {
         fetch_into(self, key, value)
     }
 
-    /// What a call returns for the value of a key, as `pass.with(key, |value| value.words().len())`: a fetch whose
-    /// value need not be kept. Refused as a get is: `BadKey`, `HoldsFull`, `Gone` or `Crowded`, and then nothing is
-    /// called. No hold is left behind, and there is none while the call runs.
+    /// What a call returns for the value of a key, as `pass.with(key, |value| value.words().len())`: a look whose value
+    /// need not be kept. Refused as `look` is, and then nothing is called. There is no hold while the call runs.
     final fn with<T, F: FnOnce(&Value) -> T>(&mut self, key: u64, call: F) -> Result<T, Refusal>
     where
         Self: Sized,
@@ -158,8 +191,8 @@ pub trait Reader {
         get_each(self, keys, results)
     }
 
-    /// A fetch of each key, in order; `results[i]` is what the fetch of `keys[i]` returned. A refused fetch stops
-    /// nothing, and no hold is left behind. The keys are warmed eight at a time, as `get_each` does.
+    /// A look at each key, in order; `results[i]` is what the look at `keys[i]` returned. A refused look stops nothing.
+    /// The keys are warmed eight at a time, as `get_each` does.
     ///
     /// A value that is in the results before the call is read into, so that nothing is copied. So a loop has one list
     /// of results for all its batches, which begins as `Ok(Value::from(0))` at each place:

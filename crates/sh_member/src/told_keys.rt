@@ -3,7 +3,7 @@ ghost use Rattle.std.specs.Prelude.{◌≡◌, IfOk};
 ghost use Rattle.sh_pass.specs.Receipts.{heeded, receipt_by};
 ghost use Rattle.sh_shard.specs.Shards.{InsertServes, StaysOwner, value_class};
 ghost use Rattle.sh_pass.specs.Remaining.{Remains};
-ghost use Rattle.sh_member.specs.Readers.{FetchDoes};
+ghost use Rattle.sh_member.specs.Readers.{FetchDoes, LookDoes};
 ghost use Rattle.sh_member.specs.ToldKeys.{CoversInsert, TellsOfInsert, IsAsInserted, GoneIfRemoved, key_told};
 
 use crate::reader::Reader;
@@ -43,12 +43,15 @@ pub fn insert_told<L: KeyLayout, H: KeepsHeap<L>>(
     })
 }
 
-/// The value of a key that came with a receipt: the reader heeds the receipt and fetches the key. If the receipt covers
-/// the insert, it returns the inserted value, or `Gone` only if the key was removed. Refused as a fetch is.
+/// The value of a key that came with a receipt: the reader heeds the receipt and looks at the key. If the receipt
+/// covers the insert, it returns the inserted value, or `Gone` only if the key was removed. Refused as a look is; as
+/// `HoldsFull` or `Crowded` only if the receipt does not cover the insert.
 pub fn fetch_told<R: Reader>(reader: &mut R, told: ToldKey) -> Result<Value, Refusal>
     requires { told.receipt.heap ≡ (R.caller reader.old).heap }
     ensures does { FetchDoes R.layout told.key (heeded (R.caller reader.old) told.receipt) result
         (R.caller reader.new) }
+    ensures told { TellsOfInsert told.key told.receipt
+        → LookDoes R.layout told.key (heeded (R.caller reader.old) told.receipt) result (R.caller reader.new) }
     ensures value { IfOk result (λ value. IsAsInserted told.key value told.receipt) }
     ensures gone { TellsOfInsert told.key told.receipt → GoneIfRemoved R.layout told.key result (R.caller reader.new) }
     ensures remains { Remains R.layout (R.caller reader.old) (R.caller reader.new) }

@@ -28,7 +28,7 @@ use Rattle.sh_pass.specs.Deciding.{EntryOrMarkDecides, InOneStep}
 
 -- ---- one step, and more of them
 
-stepped : {layout : Layout} {heap : Heap} {n : ℕ} (t u : Seat (Unit {0}) View) (x : Action) (m : Move)
+pub stepped : {layout : Layout} {heap : Heap} {n : ℕ} (t u : Seat (Unit {0}) View) (x : Action) (m : Move)
     (IsSo : List Footstep → Type 0) → Did layout heap x m n t u
     → IsSo (footstep_of x (row_by layout t.me.0 m) n ∷ []) → Stepped IsSo t.me.0 u.me.0
 stepped {layout} {n = n} t u x m IsSo d is = (
@@ -37,7 +37,7 @@ stepped {layout} {n = n} t u x m IsSo d is = (
   is,
 )
 
-stepped_then : (v w u : View) (Was Then IsSo : List Footstep → Type 0) → Stepped Was v w → Stepped Then w u
+pub stepped_then : (v w u : View) (Was Then IsSo : List Footstep → Type 0) → Stepped Was v w → Stepped Then w u
     → ((xs ys : List Footstep) → Was xs → Then ys → IsSo (xs ++ ys)) → Stepped IsSo v u
 stepped_then v w u Was Then IsSo s r on = (
   s.0 ++ r.0,
@@ -46,12 +46,13 @@ stepped_then v w u Was Then IsSo s r on = (
 )
 
 -- steps that the pass does afterwards keep it
-stepped_on : {b : Body} {es : List LogEntry} {j : ℕ} (v w u : View) (IsSo : List Footstep → Type 0)
+pub stepped_on : {b : Body} {es : List LogEntry} {j : ℕ} (v w u : View) (IsSo : List Footstep → Type 0)
     → Stepped IsSo v w → Grows b es j w u → ((xs ys : List Footstep) → IsSo xs → IsSo (xs ++ ys)) → Stepped IsSo v u
 stepped_on v w u IsSo s g on = stepped_then v w u IsSo (λ ys. Unit {0}) IsSo s (g.steps, g.trail, tt)
     (λ xs ys d e. on xs ys d)
 
-begins_on : (x : Action) (name : KeyRef) (xs ys : List Footstep) (b : Begins x name xs) → (c : Begins x name (xs ++ ys))
+pub begins_on : (x : Action) (name : KeyRef) (xs ys : List Footstep) (b : Begins x name xs)
+    → (c : Begins x name (xs ++ ys))
     × (c.found ≡ b.found)
 begins_on x name xs ys b = (
   record { found = b.found; rest = b.rest ++ ys; steps = ap (λ (l : List Footstep). l ++ ys) b.steps },

@@ -1,16 +1,18 @@
 -- Which word decides a call: one that its own steps really found.
-use Rattle.std.specs.Prelude.{◌≡◌, ℕ, Bool, true, false, List, [], ◌∷◌, ◌++◌, length, Some}
+use Rattle.std.specs.Prelude.{◌≡◌, ℕ, ◌⊎◌, Bool, true, false, List, [], ◌∷◌, ◌++◌, length, Some}
 use Rattle.sh_shape.specs.declared.places.Place.TheVariants.{State}
 use Rattle.sh_slots.specs.declared.enter.GetAnswer.{GetAnswer}
 use Rattle.sh_slots.specs.declared.enter.GetAnswer.TheVariants as answer
 use Rattle.sh_slots.specs.declared.hand.KeyRef.{KeyRef}
-use Rattle.sh_slots.specs.Slots.{answer_to_get, live_at, is_first_mark}
+use Rattle.sh_slots.specs.Slots.{answer_to_get, live_at, past_at, is_first_mark}
 use Rattle.sh_step.specs.declared.action.Action.{Action}
 use Rattle.sh_step.specs.declared.action.Action.TheVariants as action
 use Rattle.sh_step.specs.declared.footstep.Footstep.{Footstep}
 use Rattle.sh_step.specs.Moves.{place_named}
 use Rattle.sh_step.specs.Plans.{Plan}
 use Rattle.sh_table.specs.declared.view.View.{View}
+use Rattle.sh_pass.specs.declared.looking.Glance.{Glance}
+use Rattle.sh_pass.specs.declared.looking.Glance.TheVariants.{Seen, Gone, Early}
 
 -- IsSo holds of the steps that the pass did between two views
 abbrev pub Stepped : (List Footstep → Type 0) → View → View → Type 0
@@ -53,6 +55,33 @@ abbrev pub EntryOrMarkDecides : ℕ → KeyRef → Bool → List Footstep → Ty
 EntryOrMarkDecides key name removed new = (b : Begins (action.EnterRemove key) name new)
     × AfterEntry name removed (live_at name.generation b.found) b.rest
 
+-- what a word that a look found says of the value of this name: that it is there, that it was removed, or neither
+abbrev pub IsLive : KeyRef → ℕ → Type 0
+IsLive name n = live_at name.generation n ≡ true
+
+abbrev pub IsPast : KeyRef → ℕ → Type 0
+IsPast name n = past_at name.generation n ≡ true
+
+abbrev pub IsEarly : KeyRef → ℕ → Type 0
+IsEarly name n = (live_at name.generation n ≡ false) × (past_at name.generation n ≡ false)
+
+-- the first of these steps looks at the slot, and the word found there is so
+abbrev pub FirstFinds : ℕ → KeyRef → (ℕ → Type 0) → List Footstep → Type 0
+FirstFinds key name IsSo new = (b : Begins (action.Look key) name new) × IsSo b.found
+
+-- the last of these steps looks at the slot again, and the word found there is so
+abbrev pub LastFinds : KeyRef → (ℕ → Type 0) → List Footstep → Type 0
+LastFinds name IsSo new = (front : List Footstep) × (n : ℕ)
+    × (new ≡ front ++ step_at_slot action.LookAgain name n ∷ []) × IsSo n
+
+-- A value is seen if it was there at the first look and at the last one. A key is gone if one of the two found it past.
+-- A first word of before the value was there decides nothing
+abbrev pub LooksDecide : ℕ → KeyRef → Glance → List Footstep → Type 0
+LooksDecide key name Seen new = FirstFinds key name (IsLive name) new × LastFinds name (IsLive name) new
+LooksDecide key name Gone new = FirstFinds key name (IsPast name) new
+    ⊎ (FirstFinds key name (IsLive name) new × LastFinds name (IsPast name) new)
+LooksDecide key name Early new = FirstFinds key name (IsEarly name) new
+
 -- ---- of the slot of a key
 
 -- a get is decided by the word that it found as it entered the slot of its key
@@ -72,3 +101,8 @@ RemovalDecided plan key removed new = (name : KeyRef) × (place_named plan key �
 -- a release drops a hold on its key first, at the slot of the key
 abbrev pub DropsHold : Plan → ℕ → List Footstep → Type 0
 DropsHold plan key new = (name : KeyRef) × (place_named plan key ≡ Some name) × Begins (action.DropHold key) name new
+
+-- a look is decided by the words that it found first and last at the slot of its key
+abbrev pub LookDecided : Plan → ℕ → Glance → List Footstep → Type 0
+LookDecided plan key answer new = (name : KeyRef) × (place_named plan key ≡ Some name)
+    × LooksDecide key name answer new

@@ -4,12 +4,14 @@ ghost use Rattle.std.specs.Prelude.{◌≡◌, None};
 ghost use Rattle.sh_slots.specs.declared.hand.Hand.TheVariants.{Idle};
 ghost use Rattle.sh_table.specs.Seats.{IsSeat};
 ghost use Rattle.sh_pass.specs.Passes.{GetDoes, ReadDoes, ReadIntoDoes, RemoveDoes, ReleaseDoes, HoldsKept, caller_of};
+ghost use Rattle.sh_pass.specs.Passes.{GlanceDoes};
 ghost use Rattle.sh_pass.specs.Owners.{CallLeaves};
 
 use crate::entering::{get_at, release_at, remove_at};
 use crate::guard::Guard;
 use crate::held_keys::{is_held, remove_one};
 use crate::holding::Holding;
+use crate::looking::{Glance, look_at};
 use crate::reading::read_at;
 use arrayvec::ArrayVec;
 use sh_key::KeyLayout;
@@ -181,4 +183,25 @@ pub(crate) fn read_value<L: KeyLayout, K: Holding<L>>(
     let mut value = Value::from(0);
     read_key(table, seat, held, hold, &mut value)?;
     Ok(value)
+}
+
+/// Looks at a key once: reads its value into a value of the caller's, without a hold.
+#[inline(always)]
+pub(crate) fn look_key<L: KeyLayout>(
+    table: &HeapTable<L>,
+    seat: &mut PassSeat,
+    key: u64,
+    value: &mut Value,
+) -> Result<Glance, Refusal>
+    requires seat { IsSeat L.layout table.now seat.old }
+    requires idle { seat.old.me.0.own.body.hand ≡ Idle }
+    ensures seat { IsSeat L.layout table.now seat.new }
+    ensures kept { seat.new.me.0.own.body.holds ≡ seat.old.me.0.own.body.holds }
+    ensures does { GlanceDoes L.layout key (caller_of seat.old) value.old result value.new (caller_of seat.new) }
+    ensures leaves { CallLeaves L.layout None (caller_of seat.old) (caller_of seat.new) }
+{
+    let Some(name) = place_of_key::<L>(table.shape(), key) else {
+        return Err(Refusal::BadKey);
+    };
+    Ok(look_at(table, seat, key, name, value))
 }

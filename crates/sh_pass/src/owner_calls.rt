@@ -1,13 +1,16 @@
 //! The calls of an owner: those of a pass, each with the slot of its shard that became its own, if any.
 ghost use Rattle.std.specs.Prelude.{◌≡◌, None};
 ghost use Rattle.sh_slots.specs.declared.hand.Hand.TheVariants.{Idle};
-ghost use Rattle.sh_pass.specs.Passes.{GetDoes, ReadDoes, ReadIntoDoes, RemoveDoes, ReleaseDoes};
+ghost use Rattle.sh_pass.specs.Passes.{GetDoes, ReadDoes, ReadIntoDoes, RemoveDoes, ReleaseDoes, GlanceDoes};
 ghost use Rattle.sh_pass.specs.Owners.{CallLeaves, own_body};
 ghost use Rattle.sh_pass.specs.Remaining.{Remains};
 
-use crate::calls::{get_guard_of, get_key, read_key, read_value, release_key, remove_key};
+use crate::calls::{
+    get_guard_of, get_key, look_key, read_key, read_value, release_key, remove_key,
+};
 use crate::guard::Guard;
 use crate::keeping::KeepsHeap;
+use crate::looking::Glance;
 use crate::owner::OwnerOn;
 use crate::seated::Seated;
 use crate::warming::{warm_key, warm_value_of};
@@ -133,5 +136,17 @@ impl<L: KeyLayout, H: KeepsHeap<L>> OwnerOn<L, H> {
         let heap = self.heap.kept();
         let Seated { seat, held, .. } = &mut self.seated;
         read_key(&heap.table, seat, held, guard, value)
+    }
+
+    /// Looks at a key once, as a pass does.
+    #[inline(always)]
+    pub fn glance(&mut self, key: u64, value: &mut Value) -> Result<Glance, Refusal>
+        requires idle { (own_body self.old).hand ≡ Idle }
+        ensures does { GlanceDoes L.layout key self.old value.old result value.new self.new }
+        ensures leaves { CallLeaves L.layout None self.old self.new }
+        ensures remains { Remains L.layout self.old self.new }
+    {
+        let heap = self.heap.kept();
+        look_key(&heap.table, &mut self.seated.seat, key, value)
     }
 }

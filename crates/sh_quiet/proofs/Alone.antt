@@ -7,7 +7,9 @@ use Rattle.std.specs.Prelude.{count_by, slice_set, drop}
 use Rattle.std.proofs.lemmas.Bool.{cases_eq, false≢true}
 use Rattle.sh_core.specs.Hand.{Hand}
 use Rattle.sh_core.specs.Hand.TheVariants.{Idle, Removing, Leaving, Finishing, ToPut, Tying, Ringing}
-use Rattle.sh_core.specs.Hand.TheVariants.{RingTying}
+use Rattle.sh_core.specs.Hand.TheVariants.{RingTying, Looking}
+use Rattle.sh_core.specs.Sight.{Sight}
+use Rattle.sh_core.specs.Sight.TheVariants.{Bare, Classed, Measured}
 use Rattle.sh_core.specs.SlotRef.{SlotRef}
 use Rattle.sh_core.specs.Slots.{same_slot, slot_ref_of, live_at, has_room, after_drop, is_reusable_after}
 use Rattle.sh_core.specs.Fields.{fields_of}
@@ -22,7 +24,8 @@ use Rattle.sh_core.specs.Footsteps.{meets_page, meets_bell, puts_slot, arms, arm
 use Rattle.sh_core.specs.Moves.{row_of}
 use Rattle.sh_core.specs.Operations.{operate}
 use Rattle.sh_core.specs.Plans.{Plan, shard_of, over_heap}
-use Rattle.sh_core.specs.Rows.{own, hand}
+use Rattle.sh_core.specs.Rows.{own, hand, look_place}
+use Rattle.sh_core.specs.KeyRef.{KeyRef}
 use Rattle.sh_core.proofs.FootstepLaws.{counts_grow}
 use Rattle.sh_core.proofs.PartTests.{owns_is}
 use Rattle.sh_core.specs.LinkWords.{LinksOn}
@@ -247,6 +250,13 @@ module _ (plan : Plan) (a : ℕ) (w : World) (l : PutLists) (all : Refines plan 
   heads_still q s h untaken same none = ⊎_elim (λ e. inl (unmoved (takes_page q) s untaken ∙ e))
       (λ z. inr (same ∙ z)) (old.heads q none)
 
+  -- a load of a look leaves the heads
+  look_leaves : (x : KeyRef) (s : Sight) (q : ℕ)
+      → (write w.words (look_place x s) (read w.words (look_place x s))).head_at q ≡ w.words.head_at q
+  look_leaves x Bare q = refl
+  look_leaves x (Classed c) q = refl
+  look_leaves x (Measured c m v) q = refl
+
   heads_after : (m : Move) → puts_slot (trod m) ≡ false → (q : ℕ) → arms (t ++ trod m ∷ []) ≡ arms t0
       → (takes q (t ++ trod m ∷ []) ≡ takes q t0) ⊎ (head_after m q ≡ 0)
   heads_after (move.Put x) none q same = absurd (false≢true (sym none))
@@ -264,6 +274,8 @@ module _ (plan : Plan) (a : ℕ) (w : World) (l : PutLists) (all : Refines plan 
         let apart : q ≢ r = λ e. false≢true (sym is ∙ eq-eqb r q (sym e)) in
         heads_still q (trod (move.Take r)) (put w.words.head_at r 0 q) is
         (put_other w.words.head_at r q 0 (ne_eqb q r apart)) (arms_before (trod (move.Take r)) same)
+  heads_after (move.LookOn k x s) none q same = heads_still q (trod (move.LookOn k x s))
+      (head_after (move.LookOn k x s) q) refl (look_leaves x s q) (arms_before (trod (move.LookOn k x s)) same)
   heads_after m none q same = heads_still q (trod m) (head_after m q) refl refl (arms_before (trod m) same)
 
   abbrev NoTies : Body → Type 0
@@ -292,6 +304,9 @@ module _ (plan : Plan) (a : ℕ) (w : World) (l : PutLists) (all : Refines plan 
   hand_after (move.Tie x k r) may none n = absurd (subst TiesNone may keep)
   hand_after (move.Ring q) may none n = absurd (subst TiesNone may keep)
   hand_after (move.RingTie q k) may none n = absurd (subst TiesNone may keep)
+  hand_after (move.Look k x) may none n = cond_either TiesNone (live_at x.generation n) (Looking k x Bare) Idle tt tt
+  hand_after (move.LookOn k x s) may none n = tt
+  hand_after (move.LookAgain k x s) may none n = tt
   hand_after m may none n = keep
 
   -- one step of the pass

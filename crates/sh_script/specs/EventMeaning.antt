@@ -75,6 +75,11 @@ IsAction words action.Ring = words ≡ codes "Ring" ∷ []
 IsAction words action.RingTie = words ≡ codes "RingTie" ∷ []
 IsAction words action.TakeBell = words ≡ codes "TakeBell" ∷ []
 IsAction words action.FollowBell = words ≡ codes "FollowBell" ∷ []
+-- no words say a load that leaves no mark in the heap: a peek or a step of a look
+IsAction words (action.Peek slot) = ⊥
+IsAction words (action.Look k) = ⊥
+IsAction words action.LookOn = ⊥
+IsAction words action.LookAgain = ⊥
 
 -- the words are the number of a pass below the passes, and an action
 pub record IsEventLine (passes : ℕ) (words : List Word) (event : Event) : Type 0 where

@@ -1,8 +1,12 @@
 -- Slots: which one, and what its state word says to a step.
-use Rattle.std.specs.Prelude.{ℕ, zero, suc, ◌+◌, ◌==◌, nat_lt, Bool, true, false, cond, not, ◌&&◌, List, [], ◌∷◌}
+use Rattle.std.specs.Prelude.{ℕ, zero, suc, ◌+◌, ◌==◌, nat_lt, Bool, true, false, cond, not, ◌&&◌, ◌||◌, List, []}
+use Rattle.std.specs.Prelude.{◌∷◌, ◌++◌}
+use Rattle.std.specs.Prelude.{length}
 use Rattle.sh_word.specs.Fields.{fields_of, word_of}
 use Rattle.sh_slots.specs.declared.hand.Hand.{Hand}
-use Rattle.sh_slots.specs.declared.hand.Hand.TheVariants.{Idle, Removing, Leaving, Finishing}
+use Rattle.sh_slots.specs.declared.hand.Hand.TheVariants.{Idle, Removing, Leaving, Finishing, Looking}
+use Rattle.sh_slots.specs.declared.hand.Sight.{Sight}
+use Rattle.sh_slots.specs.declared.hand.Sight.TheVariants.{Bare, Classed, Measured}
 use Rattle.sh_slots.specs.declared.hand.SlotRef.{SlotRef}
 use Rattle.sh_slots.specs.declared.hand.KeyRef.{KeyRef}
 use Rattle.sh_slots.specs.declared.enter.GetAnswer.{GetAnswer}
@@ -19,6 +23,10 @@ slot_refs q s (suc n) = record { page = q; slot = s } ∷ slot_refs q (s + 1) n
 -- the word found says Live, in this generation
 abbrev pub live_at : ℕ → ℕ → Bool
 live_at g n = (fields_of n).present && not (fields_of n).marked && ((fields_of n).generation == g)
+
+-- the word found says that the value of this generation was removed: its slot is marked in it, or is in a later one
+abbrev pub past_at : ℕ → ℕ → Bool
+past_at g n = nat_lt g (fields_of n).generation || (((fields_of n).generation == g) && (fields_of n).marked)
 
 -- what a drop leaves in the hand
 abbrev pub after_drop : SlotRef → ℕ → Hand
@@ -53,6 +61,22 @@ answer_to_get g guard_max n = cond (live_at g n) (cond (has_room guard_max n) Go
 -- what a removal of a key of this name has in hand, by the word that it found as it entered
 abbrev pub after_enter_remove : ℕ → KeyRef → ℕ → Hand
 after_enter_remove k x n = cond (live_at x.generation n) (Removing k) (Leaving (slot_ref_of x))
+
+-- what a look at a key of this name has in hand, by the word that its first load found
+abbrev pub after_look : ℕ → KeyRef → ℕ → Hand
+after_look k x n = cond (live_at x.generation n) (Looking k x Bare) Idle
+
+-- what a look has read, with the word of one more load; a value has no more than 16 words
+abbrev pub sight_with : Sight → ℕ → Sight
+sight_with Bare n = Classed n
+sight_with (Classed c) n = Measured c n []
+sight_with (Measured c m v) n = Measured c m (cond (nat_lt (length v) 16) (v ++ n ∷ []) v)
+
+-- the words of the value that it has read
+abbrev pub value_seen : Sight → List ℕ
+value_seen Bare = []
+value_seen (Classed c) = []
+value_seen (Measured c m v) = v
 
 -- no mark came before the one that found the word
 abbrev pub is_first_mark : ℕ → Bool

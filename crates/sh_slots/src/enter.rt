@@ -1,6 +1,6 @@
 //! What a pass learns as it enters a slot.
 ghost use Rattle.std.specs.Prelude.{◌≡◌};
-ghost use Rattle.sh_slots.specs.Slots.{slot_ref_of, live_at, answer_to_get, after_enter_remove};
+ghost use Rattle.sh_slots.specs.Slots.{slot_ref_of, live_at, past_at, answer_to_get, after_enter_remove};
 
 use crate::{Hand, KeyRef, SlotRef};
 use sh_word::{Kind, State};
@@ -34,6 +34,15 @@ pub fn is_live_at(generation: u32, word: u64) -> bool
 {
     let state = State::of(word);
     state.kind() == Kind::Live && state.generation == generation
+}
+
+/// Whether the state word says that the slot's value of this generation was removed: the slot is marked in it, or is in
+/// a later generation. A word that is neither live nor past comes before the value was there.
+pub fn is_past_at(generation: u32, word: u64) -> bool
+    ensures { result ≡ past_at generation word }
+{
+    let state = State::of(word);
+    generation < state.generation || state.generation == generation && state.marked
 }
 
 /// What a get of a key of this generation returns, by the state word that it found as it entered. A key may have

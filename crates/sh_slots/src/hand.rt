@@ -21,6 +21,17 @@ pub struct KeyRef {
     pub generation: u32,
 }
 
+/// What a look at a key has read so far.
+#[derive(Drop, Debug, PartialEq, Eq)]
+pub enum Sight {
+    /// Nothing.
+    Bare,
+    /// The class word of the page.
+    Classed(u64),
+    /// The class word of the page, the length of the value, and words of the value, from the first one on.
+    Measured(u64, u64, Value),
+}
+
 /// What a pass has begun and not ended yet. Pages are numbered over the whole heap.
 #[derive(Drop, Debug, PartialEq, Eq)]
 pub enum Hand {
@@ -42,4 +53,6 @@ pub enum Hand {
     RingTying(u64, u64),
     /// It fills the slot with the value, of which this many words are stored.
     Filling(SlotRef, Value, u64),
+    /// It looks at the slot of the key, and has read so much. It has no count on the slot.
+    Looking(u64, KeyRef, Sight),
 }

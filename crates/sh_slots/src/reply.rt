@@ -17,4 +17,6 @@ pub enum Reply {
     Removed(u64),
     /// A hold on the key was released.
     Released(u64),
+    /// The key has this value.
+    Seen(u64, Value),
 }

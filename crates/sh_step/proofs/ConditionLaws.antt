@@ -8,7 +8,7 @@ use Rattle.sh_slots.specs.declared.hand.SlotRef.{SlotRef}
 use Rattle.sh_slots.specs.declared.hand.KeyRef.{KeyRef}
 use Rattle.sh_slots.specs.declared.hand.Hand.{Hand}
 use Rattle.sh_slots.specs.declared.hand.Hand.TheVariants.{Idle, Removing, Leaving, Finishing, ToPut, Tying, Ringing}
-use Rattle.sh_slots.specs.declared.hand.Hand.TheVariants.{RingTying, Filling}
+use Rattle.sh_slots.specs.declared.hand.Hand.TheVariants.{RingTying, Filling, Looking}
 use Rattle.sh_slots.specs.Slots.{same_slot}
 use Rattle.sh_step.specs.declared.body.Body.{Body}
 use Rattle.sh_step.specs.declared.action.PageName.{PageName}
@@ -21,7 +21,7 @@ use Rattle.sh_step.specs.Collections.{has, noted}
 use Rattle.sh_step.specs.Conditions.{Named, HasPage, May, action_of, its_page, GivesWhatMayBe}
 use Rattle.sh_step.specs.Moves.{move_of, row_of, row, named}
 use Rattle.sh_step.specs.Plans.{Plan, page_of, slot_of}
-use Rattle.sh_step.specs.Rows.{Row, idle, own, class_word_noted, no_cursor, all_mine}
+use Rattle.sh_step.specs.Rows.{Row, idle, own, class_word_noted, no_cursor, all_mine, is_read}
 use Rattle.sh_step.proofs.ListLaws.{none_left}
 use Rattle.sh_step.proofs.LookupLaws.{named_of, paged_of, slotted_of}
 use Rattle.sh_step.proofs.PageLaws.{page_within, name_of_page, name_of_slot}
@@ -91,6 +91,19 @@ module _ (plan : Plan) (p : Body) where
   ring_tie_may (RingTying q l) m is e = as_this action.RingTie (move.RingTie q l) m (by_some (move.RingTie q l) m e)
       (is, refl)
   ring_tie_may _ m is e = no_some m e
+
+  look_on_may : (h : Hand) (m : Move) → p.hand ≡ h → (elim h as (λ _. Option Move)
+      [ Looking k x s ↦ then_some (not (is_read x s)) (move.LookOn k x s) | _ ↦ None ]) ≡ Some m → MayBe action.LookOn m
+  look_on_may (Looking k x s) m is e = let t = by_then (not (is_read x s)) (move.LookOn k x s) m e
+      in as_this action.LookOn (move.LookOn k x s) m t.1 ((is, not_of (is_read x s) t.0), refl)
+  look_on_may _ m is e = no_some m e
+
+  look_again_may : (h : Hand) (m : Move) → p.hand ≡ h → (elim h as (λ _. Option Move)
+      [ Looking k x s ↦ then_some (is_read x s) (move.LookAgain k x s) | _ ↦ None ]) ≡ Some m
+      → MayBe action.LookAgain m
+  look_again_may (Looking k x s) m is e = let t = by_then (is_read x s) (move.LookAgain k x s) m e
+      in as_this action.LookAgain (move.LookAgain k x s) m t.1 ((is, t.0), refl)
+  look_again_may _ m is e = no_some m e
 
   read_word_may : (k i : ℕ) (m : Move) (x : KeyRef) (o r : Option ℕ) → Named plan k x → noted k p.class_words ≡ o
       → noted k p.lengths ≡ r
@@ -266,6 +279,20 @@ module _ (plan : Plan) (p : Body) where
         | None ↦ None
       ]) m e in
       read_word_may k i m n.0 (noted k p.class_words) (noted k p.lengths) n.1 refl refl n.2
+  may_be (action.Peek y) m e =
+      let x : SlotRef = slot_of plan y in
+      let n = slotted_of plan y (λ x. then_some (idle p) (move.Peek x)) m e in
+      let t = by_then (idle p) (move.Peek x) m n.2 in
+      as_this (action.Peek y) (move.Peek x) m t.1 (
+        (idle_is p t.0, (page_within plan (its_page y) n.0, n.1)),
+        ap (λ (z : SlotName). action.Peek z) (name_of_slot plan y n.0),
+      )
+  may_be (action.Look k) m e =
+      let n = named_of plan k (λ x. then_some (idle p) (move.Look k x)) m e in
+      let t = by_then (idle p) (move.Look k n.0) m n.2
+      in as_this (action.Look k) (move.Look k n.0) m t.1 ((idle_is p t.0, n.1), refl)
+  may_be action.LookOn m e = look_on_may p.hand m refl e
+  may_be action.LookAgain m e = look_again_may p.hand m refl e
   may_be (action.ReadPage y) m e =
       let q : ℕ = page_of plan y in
       let n = paged_of plan y (λ q. then_some (idle p && own plan p q) (move.ReadPage q)) m e in

@@ -3,13 +3,13 @@ use Rattle.std.proofs.Common.{◌≡◌, ℕ, Bool, true, false, cond, refl, sym
 use Rattle.std.specs.Prelude.{not, is_some}
 use Rattle.sh_slots.specs.declared.hand.KeyRef.{KeyRef}
 use Rattle.sh_slots.specs.declared.reply.Reply.TheVariants.{Gone}
-use Rattle.sh_slots.specs.Slots.{live_at}
+use Rattle.sh_slots.specs.Slots.{live_at, past_at}
 use Rattle.sh_step.specs.declared.action.Action.{Action}
 use Rattle.sh_step.specs.declared.body.Body.{Body}
 use Rattle.sh_step.specs.declared.moves.Move.{Move}
-use Rattle.sh_step.specs.declared.moves.Move.TheVariants.{EnterRemove}
+use Rattle.sh_step.specs.declared.moves.Move.TheVariants.{EnterRemove, Look}
 use Rattle.sh_step.specs.Conditions.{May, action_of}
-use Rattle.sh_step.specs.Deciding.{is_live, decides, DecidingStepsReply}
+use Rattle.sh_step.specs.Deciding.{is_live, is_past, decides, DecidingStepsReply}
 use Rattle.sh_step.specs.Moves.{row_of}
 use Rattle.sh_step.specs.Plans.{Plan}
 use Rattle.sh_step.specs.Rows.{Row}
@@ -25,8 +25,17 @@ module _ (plan : Plan) (p : Body) (n : ℕ) where
   live k x e = sym (ap (λ (o : Option KeyRef). elim o as (λ _. Bool)
       [ Some y ↦ live_at y.generation n | None ↦ false ]) e)
 
+  told : (k : ℕ) (b : Bool) → is_some (cond b (Some (Gone k)) None) ≡ b
+  told k true = refl
+  told k false = refl
+
+  past : (k : ℕ) (x : KeyRef) → plan.keys.unpack k ≡ Some x → past_at x.generation n ≡ is_past plan k n
+  past k x e = sym (ap (λ (o : Option KeyRef). elim o as (λ _. Bool)
+      [ Some y ↦ past_at y.generation n | None ↦ false ]) e)
+
   replies : (m : Move) → May plan p m → is_some ((row_of plan p m).reply n) ≡ decides plan (action_of plan m) n
   replies (EnterRemove k x) may = gone k (live_at x.generation n) ∙ ap not (live k x may.1.unpacks)
+  replies (Look k x) may = told k (past_at x.generation n) ∙ past k x may.1.unpacks
   replies _ may = refl
 
 pub deciding_replies : DecidingStepsReply

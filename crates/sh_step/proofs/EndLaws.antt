@@ -1,26 +1,33 @@
 -- A pass that has begun something comes nearer to its end with each step, and can always continue.
 use Rattle.std.proofs.Common.{◌≡◌, ℕ, ◌<◌, ◌≤◌, ◌==◌, ◌&&◌, Bool, true, false, cond, ◌∷◌, length, refl, sym, subst}
-use Rattle.std.proofs.Common.{arith}
-use Rattle.std.specs.Prelude.{◌≢◌, nat_lt}
+use Rattle.std.proofs.Common.{arith, length-append}
+use Rattle.std.specs.Prelude.{◌≢◌, nat_lt, not, ◌-◌, ◌+◌, List, [], ◌++◌}
 use Rattle.std.proofs.lemmas.Bool.Decides.{nat_tests}
 use Rattle.sh_word.specs.Fields.{Fields, fields_of}
 use Rattle.sh_slots.specs.declared.hand.SlotRef.{SlotRef}
 use Rattle.sh_slots.specs.declared.hand.Hand.{Hand}
 use Rattle.sh_slots.specs.declared.hand.Hand.TheVariants.{Idle, Removing, Leaving, Finishing, ToPut, Tying, Ringing}
-use Rattle.sh_slots.specs.declared.hand.Hand.TheVariants.{RingTying, Filling}
+use Rattle.sh_slots.specs.declared.hand.Hand.TheVariants.{RingTying, Filling, Looking}
+use Rattle.sh_slots.specs.declared.hand.KeyRef.{KeyRef}
+use Rattle.sh_slots.specs.declared.hand.Sight.{Sight}
+use Rattle.sh_slots.specs.declared.hand.Sight.TheVariants.{Bare, Classed, Measured}
+use Rattle.sh_slots.specs.Slots.{sight_with}
 use Rattle.sh_slots.specs.Slots.{is_reusable_after}
 use Rattle.sh_bell.specs.Bell.{is_armed, top_of}
 use Rattle.sh_stack.specs.Stack.{link_over}
 use Rattle.sh_step.specs.declared.body.Body.{Body}
 use Rattle.sh_step.specs.declared.moves.Move.{Move}
 use Rattle.sh_step.specs.declared.moves.Move.TheVariants.{Mark, Drop, Finish, Fill, Publish, Put, Tie, Ring, RingTie}
+use Rattle.sh_step.specs.declared.moves.Move.TheVariants.{LookOn, LookAgain}
 use Rattle.sh_step.specs.Conditions.{May, action_of}
-use Rattle.sh_step.specs.Ends.{to_end, HandNames, HasNext, StepsComeNearer, StepsGoOn}
+use Rattle.sh_step.specs.Ends.{to_end, looks_left, HandNames, HasNext, StepsComeNearer, StepsGoOn}
 use Rattle.sh_step.specs.Moves.{row_of, row}
 use Rattle.sh_step.specs.Plans.{Plan}
-use Rattle.sh_step.specs.Rows.{Row, hand, own, class_word_noted}
+use Rattle.sh_step.specs.Rows.{Row, hand, own, class_word_noted, is_read, payload_word}
+use Rattle.sh_shape.specs.Places.{payload_words}
 use Rattle.sh_step.proofs.ConditionLaws.{move_of_row}
 use Rattle.sh_step.proofs.RowLaws.{row_of_may}
+use Rattle.sh_step.proofs.Truths.{lt_true}
 
 module _ (plan : Plan) (p : Body) (busy : p.hand ≢ Idle) where
   -- a pass that has begun something does nothing that asks for an idle hand
@@ -49,6 +56,27 @@ module _ (plan : Plan) (p : Body) (busy : p.hand ≢ Idle) where
   tied x l true = omega arith
   tied x l false = omega arith
 
+  few_seen : (v : List ℕ) (a b d : Bool) → nat_lt (length v) 16 ≡ b → not (a && b && d) ≡ false → length v < 16
+  few_seen v true true d e h = grind (arith, nat_tests)
+  few_seen v true false d e h = absurd (let z : true ≡ false = h in cc)
+  few_seen v false b d e h = absurd (let z : true ≡ false = h in cc)
+
+  more_seen : (v : List ℕ) (n : ℕ) → length v < 16
+      → 16 - length (cond (nat_lt (length v) 16) (v ++ n ∷ []) v) + 1 < 16 - length v + 1
+  more_seen v n less =
+      let long = length-append v (n ∷ []) in rw (lt_true (length v) 16 less) (omega arith)
+
+  looks_on : (x : KeyRef) (s : Sight) (n : ℕ) → is_read x s ≡ false → looks_left (sight_with s n) < looks_left s
+  looks_on x Bare n e = omega arith
+  looks_on x (Classed c) n e = omega arith
+  looks_on x (Measured c m v) n e = more_seen v n (few_seen v (nat_lt (length v) m) (nat_lt (length v) 16)
+      (nat_lt (payload_word x.slot c (length v)) payload_words) refl e)
+
+  look_ends : (s : Sight) → 0 < looks_left s
+  look_ends Bare = omega arith
+  look_ends (Classed c) = omega arith
+  look_ends (Measured c m v) = omega arith
+
   near : (m : Move) → May plan p m → (n : ℕ) → to_end ((row_of plan p m).part n).hand < to_end p.hand
   near (Mark k x) may n = nearer_by (Mark k x) n (Removing k) may.0 (omega arith)
   near (Drop x) may n = nearer_by (Drop x) n (Leaving x) may
@@ -61,6 +89,8 @@ module _ (plan : Plan) (p : Body) (busy : p.hand ≢ Idle) where
   near (Tie x l r) may n = nearer_by (Tie x l r) n (Tying x l r) may (tied x l r)
   near (Ring q) may n = nearer_by (Ring q) n (Ringing q) may (omega arith)
   near (RingTie q l) may n = nearer_by (RingTie q l) n (RingTying q l) may (omega arith)
+  near (LookOn k x s) may n = nearer_by (LookOn k x s) n (Looking k x s) may.0 (looks_on x s n may.1)
+  near (LookAgain k x s) may n = nearer_by (LookAgain k x s) n (Looking k x s) may.0 (look_ends s)
   -- each other action asks for an idle hand
   near m may n = no_idle (assumption may)
 
@@ -76,6 +106,10 @@ module _ (plan : Plan) (p : Body) (busy : p.hand ≢ Idle) where
   next (Tying x l r) is name = next_by (Tie x l r) is
   next (Ringing q) is name = next_by (Ring q) is
   next (RingTying q l) is name = next_by (RingTie q l) is
+  next (Looking k x s) is name = go (is_read x s) refl where
+    go : (b : Bool) → is_read x s ≡ b → HasNext (row plan p)
+    go true e = next_by (LookAgain k x s) (is, e)
+    go false e = next_by (LookOn k x s) (is, e)
   next (Filling x v i) is name = go (nat_lt i (length v)) refl where
     go : (b : Bool) → nat_lt i (length v) ≡ b → HasNext (row plan p)
     go true e = let less : i < length v = grind (arith, nat_tests)

@@ -48,6 +48,10 @@ module _ (plan : Plan) (p : Body) where
   given (move.ReadLength k x) h = rw (is_place plan k x h.1, is_idle p h.0, h.2) refl
   given (move.ReadWord k x c i) h =
       rw (is_place plan k x h.2, h.3, h.4, is_idle p h.1, h.5, lt_true i h.0 h.6) refl
+  given (move.Peek x) h = rw (slot_at x h.1, is_idle p h.0) refl
+  given (move.Look k x) h = rw (is_place plan k x h.1, is_idle p h.0) refl
+  given (move.LookOn k x s) h = rw (h.0, h.1) refl
+  given (move.LookAgain k x s) h = rw (h.0, h.1) refl
   given (move.ReadPage q) h = rw (page_at q h.1, is_idle p h.0, is_own plan p q h.2) refl
   given (move.SetClass q c) h =
       ap (option_and_then (λ q. elim (noted q p.classes) as (λ _. Option Move) [

@@ -5,7 +5,7 @@ use Rattle.sh_shape.specs.Places.{slot_places}
 use Rattle.sh_slots.specs.declared.hand.SlotRef.{SlotRef}
 use Rattle.sh_slots.specs.declared.hand.KeyRef.{KeyRef}
 use Rattle.sh_slots.specs.declared.hand.Hand.TheVariants.{Idle, Removing, Leaving, Finishing, ToPut, Tying, Ringing}
-use Rattle.sh_slots.specs.declared.hand.Hand.TheVariants.{RingTying, Filling}
+use Rattle.sh_slots.specs.declared.hand.Hand.TheVariants.{RingTying, Filling, Looking}
 use Rattle.sh_slots.specs.Slots.{same_slot}
 use Rattle.sh_step.specs.declared.body.Body.{Body}
 use Rattle.sh_step.specs.declared.action.PageName.{PageName}
@@ -17,7 +17,7 @@ use Rattle.sh_step.specs.declared.moves.Move.TheVariants as move
 use Rattle.sh_step.specs.Collections.{has, noted}
 use Rattle.sh_step.specs.Moves.{move_of}
 use Rattle.sh_step.specs.Plans.{Plan, heap_pages, shard_of, local}
-use Rattle.sh_step.specs.Rows.{class_word_noted, all_mine}
+use Rattle.sh_step.specs.Rows.{class_word_noted, all_mine, is_read}
 
 -- the key names this slot of the heap
 pub record Named (plan : Plan) (k : ℕ) (x : KeyRef) : Type 0 where
@@ -66,6 +66,10 @@ May plan p (move.ReadClass k x) = (p.hand ≡ Idle) × Named plan k x × Holds p
 May plan p (move.ReadLength k x) = (p.hand ≡ Idle) × Named plan k x × Holds p k
 May plan p (move.ReadWord k x c i) = (n : ℕ) × (p.hand ≡ Idle) × Named plan k x × (noted k p.class_words ≡ Some c)
     × (noted k p.lengths ≡ Some n) × Holds p k × (i < n)
+May plan p (move.Peek x) = (p.hand ≡ Idle) × SlotWithin plan x
+May plan p (move.Look k x) = (p.hand ≡ Idle) × Named plan k x
+May plan p (move.LookOn k x s) = (p.hand ≡ Looking k x s) × (is_read x s ≡ false)
+May plan p (move.LookAgain k x s) = (p.hand ≡ Looking k x s) × (is_read x s ≡ true)
 May plan p (move.ReadPage q) = (p.hand ≡ Idle) × (q < heap_pages plan) × Owns plan p q
 May plan p (move.SetClass q c) = (n : ℕ) × (p.hand ≡ Idle) × (q < heap_pages plan) × Owns plan p q
     × (noted q p.classes ≡ Some n) × ((n ≡ 0) ⊎ (all_mine p q n ≡ true)) × (c < class_count)
@@ -106,6 +110,10 @@ action_of plan (move.Publish x v) = action.Publish
 action_of plan (move.ReadClass k x) = action.ReadClass k
 action_of plan (move.ReadLength k x) = action.ReadLength k
 action_of plan (move.ReadWord k x c i) = action.ReadWord k i
+action_of plan (move.Peek x) = action.Peek (slot_name plan x)
+action_of plan (move.Look k x) = action.Look k
+action_of plan (move.LookOn k x s) = action.LookOn
+action_of plan (move.LookAgain k x s) = action.LookAgain
 action_of plan (move.ReadPage q) = action.ReadPage (page_name plan q)
 action_of plan (move.SetClass q c) = action.SetClass (page_name plan q) c
 action_of plan (move.Take q) = action.Take (page_name plan q)

@@ -2,7 +2,9 @@
 use Rattle.std.specs.Prelude.{ℕ, ◌≡◌, ◌≢◌, ◌+◌, ◌-◌, ◌<◌, cond, length, Option, Some}
 use Rattle.sh_slots.specs.declared.hand.Hand.{Hand}
 use Rattle.sh_slots.specs.declared.hand.Hand.TheVariants.{Idle, Removing, Leaving, Finishing, ToPut, Tying, Ringing}
-use Rattle.sh_slots.specs.declared.hand.Hand.TheVariants.{RingTying, Filling}
+use Rattle.sh_slots.specs.declared.hand.Hand.TheVariants.{RingTying, Filling, Looking}
+use Rattle.sh_slots.specs.declared.hand.Sight.{Sight}
+use Rattle.sh_slots.specs.declared.hand.Sight.TheVariants.{Bare, Classed, Measured}
 use Rattle.sh_slots.specs.declared.hand.KeyRef.{KeyRef}
 use Rattle.sh_step.specs.declared.action.Action.{Action}
 use Rattle.sh_step.specs.declared.body.Body.{Body}
@@ -10,6 +12,12 @@ use Rattle.sh_step.specs.Conditions.{Named}
 use Rattle.sh_step.specs.Plans.{Plan}
 use Rattle.sh_step.specs.Moves.{row}
 use Rattle.sh_step.specs.Rows.{Row}
+
+-- the greatest number of loads that a look has left
+abbrev pub looks_left : Sight → ℕ
+looks_left Bare = 19
+looks_left (Classed c) = 18
+looks_left (Measured c m v) = 16 - length v + 1
 
 -- the greatest number of its own steps that are left until the hand is idle
 abbrev pub to_end : Hand → ℕ
@@ -22,6 +30,7 @@ to_end (Finishing x g) = 5
 to_end (Leaving x) = 6
 to_end (Removing k) = 7
 to_end (Filling x v i) = length v - i + 1
+to_end (Looking k x s) = looks_left s
 
 -- a key in the hand names a slot of the heap
 abbrev pub HandNames : Plan → Hand → Type 0

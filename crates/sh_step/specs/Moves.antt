@@ -7,7 +7,7 @@ use Rattle.sh_shape.specs.Classes.{class_count, width}
 use Rattle.sh_shape.specs.Shape.{Numbers}
 use Rattle.sh_shape.specs.Places.{pages_of, slot_places}
 use Rattle.sh_slots.specs.declared.hand.Hand.TheVariants.{Removing, Leaving, Finishing, ToPut, Tying, Ringing}
-use Rattle.sh_slots.specs.declared.hand.Hand.TheVariants.{RingTying, Filling}
+use Rattle.sh_slots.specs.declared.hand.Hand.TheVariants.{RingTying, Filling, Looking}
 use Rattle.sh_slots.specs.declared.hand.SlotRef.{SlotRef}
 use Rattle.sh_slots.specs.declared.hand.KeyRef.{KeyRef}
 use Rattle.sh_slots.specs.Slots.{same_slot}
@@ -26,7 +26,8 @@ use Rattle.sh_step.specs.Plans.{Plan, heap_pages, page_of, slot_of}
 use Rattle.sh_step.specs.Rows.{Row, idle, own, class_word_noted, no_cursor, all_mine, enter_get, enter_remove, mark}
 use Rattle.sh_step.specs.Rows.{drop_hand, drop_key, finish, fill_slot, fill_in, publish, read_class, read_length}
 use Rattle.sh_step.specs.Rows.{read_word, read_page, set_class, take_page, follow, put_at, tie, adopt, leave, arm, ring}
-use Rattle.sh_step.specs.Rows.{ring_tie, take_bell, follow_bell}
+use Rattle.sh_step.specs.Rows.{ring_tie, take_bell, follow_bell, look, look_on, look_again, is_read}
+use Rattle.sh_step.specs.Rows.{peek}
 
 -- the shape has the place of a key of these parts
 abbrev pub has_place : Numbers → Parts → Bool
@@ -86,6 +87,12 @@ move_of plan p (action.ReadWord k i) = named plan k (λ x. elim (noted k p.class
       [ Some n ↦ then_some (idle p && has (λ j. j == k) p.holds && nat_lt i n) (move.ReadWord k x c i) | None ↦ None ]
   | None ↦ None
 ])
+move_of plan p (action.Peek y) = slotted plan y (λ x. then_some (idle p) (move.Peek x))
+move_of plan p (action.Look k) = named plan k (λ x. then_some (idle p) (move.Look k x))
+move_of plan p action.LookOn = elim (p.hand)
+    [ Looking k x s ↦ then_some (not (is_read x s)) (move.LookOn k x s) | _ ↦ None ]
+move_of plan p action.LookAgain = elim (p.hand)
+    [ Looking k x s ↦ then_some (is_read x s) (move.LookAgain k x s) | _ ↦ None ]
 move_of plan p (action.ReadPage y) = paged plan y (λ q. then_some (idle p && own plan p q) (move.ReadPage q))
 move_of plan p (action.SetClass y c) = paged plan y (λ q. elim (noted q p.classes) [
   | Some n ↦ then_some (idle p && own plan p q && ((n == 0) || all_mine p q n) && nat_lt c class_count)
@@ -133,6 +140,10 @@ row_of plan p (move.Publish x v) = publish plan p x v
 row_of plan p (move.ReadClass k x) = read_class p k x
 row_of plan p (move.ReadLength k x) = read_length p k x
 row_of plan p (move.ReadWord k x c i) = read_word p k x c i
+row_of plan p (move.Peek x) = peek p x
+row_of plan p (move.Look k x) = look p k x
+row_of plan p (move.LookOn k x s) = look_on p k x s
+row_of plan p (move.LookAgain k x s) = look_again p k x s
 row_of plan p (move.ReadPage q) = read_page p q
 row_of plan p (move.SetClass q c) = set_class p q c
 row_of plan p (move.Take q) = take_page p q

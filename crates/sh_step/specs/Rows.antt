@@ -1,11 +1,13 @@
 -- The rows of the table. For each action: the word, the operation on it, and, by the word found, what is left of the
 -- pass's own part and what is replied.
-use Rattle.std.specs.Prelude.{ℕ, ◌+◌, ◌-◌, ◌*◌, ◌^◌, ◌==◌, nat_lt, Bool, true, false, cond, ◌&&◌}
+use Rattle.std.specs.Prelude.{ℕ, ◌+◌, ◌-◌, ◌*◌, ◌^◌, ◌==◌, nat_lt, Bool, true, false, cond, not, ◌&&◌}
 use Rattle.std.specs.Prelude.{List, [], ◌∷◌, ◌++◌, Option, Some, None, slice_index, length}
 use Rattle.sh_word.specs.Fields.{fields_of}
 use Rattle.sh_slots.specs.declared.hand.Hand.{Hand}
 use Rattle.sh_slots.specs.declared.hand.Hand.TheVariants.{Idle, Leaving, ToPut, Tying, Ringing}
-use Rattle.sh_slots.specs.declared.hand.Hand.TheVariants.{RingTying, Filling}
+use Rattle.sh_slots.specs.declared.hand.Hand.TheVariants.{RingTying, Filling, Looking}
+use Rattle.sh_slots.specs.declared.hand.Sight.{Sight}
+use Rattle.sh_slots.specs.declared.hand.Sight.TheVariants.{Bare, Classed, Measured}
 use Rattle.sh_slots.specs.declared.hand.SlotRef.{SlotRef}
 use Rattle.sh_slots.specs.declared.hand.KeyRef.{KeyRef}
 use Rattle.sh_slots.specs.declared.reply.Reply.{Reply}
@@ -16,8 +18,10 @@ use Rattle.sh_shape.specs.declared.places.Place.TheVariants.{Class, Head, PageLi
 use Rattle.sh_shape.specs.declared.places.Place.TheVariants.{Bell}
 use Rattle.sh_step.specs.Plans.{Plan, shard_of, local, over_heap}
 use Rattle.sh_shape.specs.Classes.{width, slots}
-use Rattle.sh_slots.specs.Slots.{same_slot, slot_refs, slot_ref_of, live_at, has_room, after_enter_remove, after_drop}
-use Rattle.sh_slots.specs.Slots.{marked_word, finished_word, is_reusable_after, published_name}
+use Rattle.sh_slots.specs.Slots.{same_slot, slot_refs, slot_ref_of, live_at, past_at, has_room, after_enter_remove}
+use Rattle.sh_slots.specs.Slots.{after_drop, marked_word, finished_word, is_reusable_after, published_name, after_look}
+use Rattle.sh_slots.specs.Slots.{sight_with, value_seen}
+use Rattle.sh_shape.specs.Places.{payload_words}
 use Rattle.sh_stack.specs.Stack.{top_word, top_item, link_over, link_item}
 use Rattle.sh_bell.specs.Bell.{is_armed, top_of, head_word}
 use Rattle.sh_step.specs.Collections.{without, has, noted, off, every}
@@ -177,6 +181,55 @@ read_word p k x c i = record {
   operation = Load;
   part = λ n. record p { contents = (k, i, n) ∷ p.contents };
   reply = silent;
+}
+
+-- the state of a slot, whoever has what there; what is found is noted nowhere
+abbrev pub peek : Body → SlotRef → Row
+peek p x = record {
+  place = State x.page x.slot;
+  operation = Load;
+  part = λ n. p;
+  reply = silent;
+}
+
+-- A look at a key, without a hold: loads of the state, of what a read loads, and of the state again. What the loads in
+-- between find is the key's value if the state says so at the end. A state of before the key was there decides nothing
+abbrev pub look : Body → ℕ → KeyRef → Row
+look p k x = record {
+  place = State x.page x.slot;
+  operation = Load;
+  part = λ n. hand p (after_look k x n);
+  reply = λ n. cond (past_at x.generation n) (Some (reply.Gone k)) None;
+}
+
+-- Whether all was read. So it is too if the length that was found says more than a page of that class has room for:
+-- then the class or the length is of another value
+abbrev pub is_read : KeyRef → Sight → Bool
+is_read x Bare = false
+is_read x (Classed c) = false
+is_read x (Measured c m v) =
+    not (nat_lt (length v) m && nat_lt (length v) 16 && nat_lt (payload_word x.slot c (length v)) payload_words)
+
+-- the word that comes next
+abbrev pub look_place : KeyRef → Sight → Place
+look_place x Bare = Class x.page
+look_place x (Classed c) = Length x.page x.slot
+look_place x (Measured c m v) = Payload x.page (payload_word x.slot c (length v))
+
+abbrev pub look_on : Body → ℕ → KeyRef → Sight → Row
+look_on p k x s = record {
+  place = look_place x s;
+  operation = Load;
+  part = λ n. hand p (Looking k x (sight_with s n));
+  reply = silent;
+}
+
+abbrev pub look_again : Body → ℕ → KeyRef → Sight → Row
+look_again p k x s = record {
+  place = State x.page x.slot;
+  operation = Load;
+  part = λ n. hand p Idle;
+  reply = λ n. Some (cond (live_at x.generation n) (reply.Seen k (value_seen s)) (reply.Gone k));
 }
 
 abbrev pub read_page : Body → ℕ → Row

@@ -52,6 +52,14 @@ pub enum Action {
     ReadLength(u64),
     /// Reads a word, from 0, of the value of a key that it holds, once class and length are read.
     ReadWord(u64, u64),
+    /// Loads the state of a slot. What it finds is noted nowhere.
+    Peek(SlotName),
+    /// Begins to look at a key: loads the state of its slot. It has no hold from it.
+    Look(u64),
+    /// Loads what comes next of the key that it looks at: the class of its page, the length of its value, or a word.
+    LookOn,
+    /// Loads the state again, once all is read. If the key's value is still there, what was read is that value.
+    LookAgain,
     /// Reads the class of a page of its own.
     ReadPage(PageName),
     /// Gives a page of its own, which is blank or wholly its own, a class.
@@ -106,6 +114,10 @@ impl Action {
             Action::ReadClass(_)
             | Action::ReadLength(_)
             | Action::ReadWord(_, _)
+            | Action::Peek(_)
+            | Action::Look(_)
+            | Action::LookOn
+            | Action::LookAgain
             | Action::ReadPage(_) => ActionKind::Read,
             Action::SetClass(_, _) => ActionKind::SetClass,
             Action::Take(_) => ActionKind::Take,

@@ -3,6 +3,7 @@ ghost use Rattle.std.specs.Prelude.{◌≡◌};
 ghost use Rattle.sh_step.specs.Plans.{Plan};
 ghost use Rattle.sh_step.specs.Moves.{move_of};
 
+use crate::operands::is_read;
 use crate::{Action, Move, Part};
 use sh_slots::Hand;
 
@@ -99,6 +100,36 @@ pub fn publish(part: &Part) -> Option<Move>
         Hand::Filling(slot_ref, value, done) => (value.words().len() as u64 <= *done).then_some(
             Move::Publish(*slot_ref, value.copy()),
         ),
+        _ => None,
+    }
+}
+
+/// The move that reads on of the key that the pass looks at.
+#[tactic(auto, unfolding(crate::specs::Moves::move_of))]
+pub fn look_on(part: &Part) -> Option<Move>
+    ensures { (plan : Plan) → result ≡ move_of plan part.now Action.LookOn }
+{
+    match part.hand() {
+        Hand::Looking(key, name, sight) => (!is_read(*name, sight)).then_some(Move::LookOn(
+            *key,
+            *name,
+            sight.copy(),
+        )),
+        _ => None,
+    }
+}
+
+/// The move that ends a look.
+#[tactic(auto, unfolding(crate::specs::Moves::move_of))]
+pub fn look_again(part: &Part) -> Option<Move>
+    ensures { (plan : Plan) → result ≡ move_of plan part.now Action.LookAgain }
+{
+    match part.hand() {
+        Hand::Looking(key, name, sight) => is_read(*name, sight).then_some(Move::LookAgain(
+            *key,
+            *name,
+            sight.copy(),
+        )),
         _ => None,
     }
 }

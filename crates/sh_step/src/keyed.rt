@@ -64,6 +64,17 @@ pub fn read_length<L: KeyLayout>(shape: &Shape, part: &Part, key: u64) -> Option
     }
 }
 
+// The move that begins a look at a key.
+#[tactic(auto, unfolding(crate::specs::Moves::move_of))]
+pub fn look<L: KeyLayout>(shape: &Shape, part: &Part, key: u64) -> Option<Move>
+    ensures { result ≡ move_of (plan_of L.layout shape.now) part.now (Action.Look key) }
+{
+    match place_of_key::<L>(shape, key) {
+        Some(name) => part.is_idle().then_some(Move::Look(key, name)),
+        None => None,
+    }
+}
+
 // The move that marks the slot of the key to remove.
 #[tactic(auto, unfolding(crate::specs::Moves::move_of))]
 pub fn mark<L: KeyLayout>(shape: &Shape, part: &Part) -> Option<Move>

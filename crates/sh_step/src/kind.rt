@@ -17,7 +17,7 @@ pub enum ActionKind {
     Fill,
     /// Makes a slot present.
     Publish,
-    /// Reads what a hold or a page is about.
+    /// Reads what a hold, a look or a page is about.
     Read,
     /// Gives a page a class.
     SetClass,

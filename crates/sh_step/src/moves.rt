@@ -6,7 +6,7 @@ ghost use Rattle.sh_step.specs.Moves.{move_of, is_enabled};
 use crate::{Action, Part, in_hand, keyed, owners, paged, slotted};
 use sh_key::KeyLayout;
 use sh_shape::Shape;
-use sh_slots::{KeyRef, SlotRef};
+use sh_slots::{KeyRef, Sight, SlotRef};
 use sh_value::Value;
 
 /// An action whose condition holds of the pass's own part, with what it names looked up. Pages are numbered over the
@@ -37,6 +37,14 @@ pub enum Move {
     ReadLength(u64, KeyRef),
     /// Reads, in a page of this class word, the value's word of this number, from 0.
     ReadWord(u64, KeyRef, u64, u64),
+    /// Loads the state of the slot.
+    Peek(SlotRef),
+    /// Begins to look at the slot of the key.
+    Look(u64, KeyRef),
+    /// Loads what comes next of the key, of which so much was read.
+    LookOn(u64, KeyRef, Sight),
+    /// Loads the state of the key's slot again. So much was read.
+    LookAgain(u64, KeyRef, Sight),
     /// Reads the class of the page.
     ReadPage(u64),
     /// Gives the page the class, below 8.
@@ -86,6 +94,10 @@ impl Move {
             Action::ReadClass(key) => keyed::read_class::<L>(shape, part, *key),
             Action::ReadLength(key) => keyed::read_length::<L>(shape, part, *key),
             Action::ReadWord(key, i) => keyed::read_word::<L>(shape, part, *key, *i),
+            Action::Peek(name) => slotted::peek::<L>(shape, part, *name),
+            Action::Look(key) => keyed::look::<L>(shape, part, *key),
+            Action::LookOn => in_hand::look_on(part),
+            Action::LookAgain => in_hand::look_again(part),
             Action::ReadPage(name) => paged::read_page::<L>(shape, part, *name),
             Action::SetClass(name, class) => paged::set_class::<L>(shape, part, *name, *class),
             Action::Take(name) => paged::take::<L>(shape, part, *name),

@@ -5,12 +5,13 @@ ghost use Rattle.sh_shape.specs.Places.{slot_places, payload_words};
 ghost use Rattle.sh_stack.specs.Stack.{top_word};
 ghost use Rattle.sh_bell.specs.Bell.{head_word};
 ghost use Rattle.sh_step.specs.Plans.{keys_of, plan_of, shard_of, local};
-ghost use Rattle.sh_step.specs.Rows.{payload_word};
+ghost use Rattle.sh_step.specs.Rows.{payload_word, is_read};
 
 pub use crate::names::{key_of_name, page_of_name, place_of_key, slot_of_name};
 use sh_bell::{head_word, local_of, shard_of_page};
 use sh_key::KeyLayout;
 use sh_shape::{CLASS_COUNT, Place, Shape, classes};
+use sh_slots::{KeyRef, Sight};
 use sh_stack::top_word;
 use sh_value::Value;
 
@@ -54,6 +55,21 @@ pub fn payload_word(slot: u64, class_word: u64, i: u64) -> u64
         return slot + i;
     }
     slot * width_of_word(class_word) + i
+}
+
+/// Whether a look that has read so much has read all that there is. It has also if the next word is none of the page,
+/// as a length says that is of another value than the class word.
+pub fn is_read(name: KeyRef, sight: &Sight) -> bool
+    ensures { result ≡ is_read name sight.now }
+{
+    match sight {
+        Sight::Measured(class, length, value) => {
+            let i = value.words().len() as u64;
+            let first = u128::from(name.slot) * u128::from(width_of_word(*class));
+            !(i < *length && i < 16 && first + u128::from(i) < 48)
+        }
+        _ => false,
+    }
 }
 
 /// The value's word of this number, from 0.

@@ -10,6 +10,7 @@ mod apply;
 mod in_hand;
 mod keyed;
 mod lists;
+mod looking;
 mod notes;
 mod own_slots;
 mod owners;

@@ -75,3 +75,14 @@ pub fn put_slot<L: KeyLayout>(shape: &Shape, part: &Part, name: SlotName) -> Opt
         None => None,
     }
 }
+
+/// The move that loads the state of a slot.
+#[tactic(auto, unfolding(crate::specs::Moves::move_of))]
+pub fn peek<L: KeyLayout>(shape: &Shape, part: &Part, name: SlotName) -> Option<Move>
+    ensures { result ≡ move_of (plan_of L.layout shape.now) part.now (Action.Peek name) }
+{
+    match slot_of_name::<L>(shape, name) {
+        Some(slot_ref) => part.is_idle().then_some(Move::Peek(slot_ref)),
+        None => None,
+    }
+}

@@ -11,7 +11,7 @@ use crate::{Move, Operation, Step};
 use sh_bell::ARMED;
 use sh_key::KeyLayout;
 use sh_shape::{Place, Shape};
-use sh_slots::{finished_word, marked_word};
+use sh_slots::{Sight, finished_word, marked_word};
 use sh_word::{MARK_BIT, PRESENT_BIT};
 
 // The operation that ends the generation, if no pass is on the slot.
@@ -36,10 +36,13 @@ impl Move {
             Move::EnterGet(_, name)
             | Move::EnterRemove(_, name)
             | Move::Mark(_, name)
+            | Move::Look(_, name)
+            | Move::LookAgain(_, name, _)
             | Move::DropHold(_, name) => Place::State(name.page, name.slot),
-            Move::Drop(slot_ref) | Move::Finish(slot_ref, _) | Move::Publish(slot_ref, _) => {
-                Place::State(slot_ref.page, slot_ref.slot)
-            }
+            Move::Drop(slot_ref)
+            | Move::Finish(slot_ref, _)
+            | Move::Peek(slot_ref)
+            | Move::Publish(slot_ref, _) => { Place::State(slot_ref.page, slot_ref.slot) }
             Move::FillSlot(slot_ref, _) => Place::Length(slot_ref.page, slot_ref.slot),
             Move::Fill(slot_ref, _, i, class) => {
                 Place::Payload(slot_ref.page, payload_word(slot_ref.slot, *class, *i))
@@ -49,6 +52,14 @@ impl Move {
             Move::ReadWord(_, name, class, i) => {
                 Place::Payload(name.page, payload_word(name.slot, *class, *i))
             }
+            Move::LookOn(_, name, sight) => match sight {
+                Sight::Bare => Place::Class(name.page),
+                Sight::Classed(_) => Place::Length(name.page, name.slot),
+                Sight::Measured(class, _, value) => {
+                    let i = value.words().len() as u64;
+                    Place::Payload(name.page, payload_word(name.slot, *class, i))
+                }
+            },
             Move::ReadPage(page) | Move::SetClass(page, _) => Place::Class(*page),
             Move::Take(page) | Move::Arm(page) => Place::Head(*page),
             Move::Follow(page, slot) => Place::Link(*page, *slot),
@@ -77,6 +88,10 @@ impl Move {
             Move::ReadClass(_, _)
             | Move::ReadLength(_, _)
             | Move::ReadWord(_, _, _, _)
+            | Move::Peek(_)
+            | Move::Look(_, _)
+            | Move::LookOn(_, _, _)
+            | Move::LookAgain(_, _, _)
             | Move::ReadPage(_) => Operation::Load,
             Move::SetClass(_, class) => Operation::Store(u64::from(*class) + 1),
             Move::Take(_) | Move::Follow(_, _) | Move::TakeBell(_) | Move::FollowBell(_) => {

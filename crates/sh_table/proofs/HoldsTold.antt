@@ -5,7 +5,7 @@ use Rattle.std.proofs.Math.Nat.{add-sub_cancel_left}
 use Rattle.std.specs.Prelude.{count_by}
 use Rattle.std.specs.List.{AllZip}
 use Rattle.sh_history.specs.declared.entry.Entry.{Entry}
-use Rattle.sh_history.specs.declared.entry.Entry.TheVariants.{Insert, Got, Gone, Crowded, Removed, Released}
+use Rattle.sh_history.specs.declared.entry.Entry.TheVariants.{Insert, Got, Gone, Crowded, Removed, Released, Seen}
 use Rattle.sh_history.specs.declared.log.LogEntry.{LogEntry}
 use Rattle.sh_history.specs.History.{is_got_by, is_release_by, is_got_from, is_release_from, got_count_by}
 use Rattle.sh_history.specs.History.{released_count_by}
@@ -65,6 +65,7 @@ got_keys a (Gone p k ∷ es) = got_keys a es
 got_keys a (Crowded p k ∷ es) = got_keys a es
 got_keys a (Removed p k ∷ es) = got_keys a es
 got_keys a (Released p k ∷ es) = got_keys a es
+got_keys a (Seen p k v ∷ es) = got_keys a es
 
 abbrev released_keys : ℕ → List Entry → List ℕ
 released_keys a [] = []
@@ -74,6 +75,7 @@ released_keys a (Got p k v ∷ es) = released_keys a es
 released_keys a (Gone p k ∷ es) = released_keys a es
 released_keys a (Crowded p k ∷ es) = released_keys a es
 released_keys a (Removed p k ∷ es) = released_keys a es
+released_keys a (Seen p k v ∷ es) = released_keys a es
 
 zero_more : (n : ℕ) → 0 + n ≡ n
 zero_more n = omega arith
@@ -99,6 +101,7 @@ got_times a k (Gone p j ∷ es) = got_times a k es ∙ sym (skips (is_got_by a k
 got_times a k (Crowded p j ∷ es) = got_times a k es ∙ sym (skips (is_got_by a k) (Crowded p j) es refl)
 got_times a k (Removed p j ∷ es) = got_times a k es ∙ sym (skips (is_got_by a k) (Removed p j) es refl)
 got_times a k (Released p j ∷ es) = got_times a k es ∙ sym (skips (is_got_by a k) (Released p j) es refl)
+got_times a k (Seen p j v ∷ es) = got_times a k es ∙ sym (skips (is_got_by a k) (Seen p j v) es refl)
 
 released_times : (a k : ℕ) (es : List Entry) → times k (released_keys a es) ≡ released_count_by es a k
 released_times a k [] = times_none k
@@ -109,6 +112,7 @@ released_times a k (Got p j v ∷ es) = released_times a k es ∙ sym (skips (is
 released_times a k (Gone p j ∷ es) = released_times a k es ∙ sym (skips (is_release_by a k) (Gone p j) es refl)
 released_times a k (Crowded p j ∷ es) = released_times a k es ∙ sym (skips (is_release_by a k) (Crowded p j) es refl)
 released_times a k (Removed p j ∷ es) = released_times a k es ∙ sym (skips (is_release_by a k) (Removed p j) es refl)
+released_times a k (Seen p j v ∷ es) = released_times a k es ∙ sym (skips (is_release_by a k) (Seen p j v) es refl)
 
 got_length : (a : ℕ) (es : List Entry) → length (got_keys a es) ≡ count_by (is_got_from a) es
 got_length a [] = refl
@@ -119,6 +123,7 @@ got_length a (Gone p j ∷ es) = got_length a es ∙ sym (skips (is_got_from a) 
 got_length a (Crowded p j ∷ es) = got_length a es ∙ sym (skips (is_got_from a) (Crowded p j) es refl)
 got_length a (Removed p j ∷ es) = got_length a es ∙ sym (skips (is_got_from a) (Removed p j) es refl)
 got_length a (Released p j ∷ es) = got_length a es ∙ sym (skips (is_got_from a) (Released p j) es refl)
+got_length a (Seen p j v ∷ es) = got_length a es ∙ sym (skips (is_got_from a) (Seen p j v) es refl)
 
 released_length : (a : ℕ) (es : List Entry) → length (released_keys a es) ≡ count_by (is_release_from a) es
 released_length a [] = refl
@@ -129,6 +134,7 @@ released_length a (Got p j v ∷ es) = released_length a es ∙ sym (skips (is_r
 released_length a (Gone p j ∷ es) = released_length a es ∙ sym (skips (is_release_from a) (Gone p j) es refl)
 released_length a (Crowded p j ∷ es) = released_length a es ∙ sym (skips (is_release_from a) (Crowded p j) es refl)
 released_length a (Removed p j ∷ es) = released_length a es ∙ sym (skips (is_release_from a) (Removed p j) es refl)
+released_length a (Seen p j v ∷ es) = released_length a es ∙ sym (skips (is_release_from a) (Seen p j v) es refl)
 
 pub hold_count_told : (a : ℕ) (holds : List ℕ) (log : List LogEntry) (es : List Entry) → AllZip Agrees log (by a es)
     → ((k : ℕ) → got_count_by es a k ≡ released_count_by es a k + times k holds) → logged_hold_count log a

@@ -6,13 +6,13 @@ use Rattle.std.proofs.lemmas.Bool.{false≢true}
 use Rattle.std.proofs.lemmas.List.{length-append, nil_from_length}
 use Rattle.std.proofs.lemmas.List.Elements.{Contains-append_left, Contains-append_right, Contains-push}
 use Rattle.sh_history.specs.declared.entry.Entry.{Entry}
-use Rattle.sh_history.specs.declared.entry.Entry.TheVariants.{Insert, Got, Gone, Crowded, Removed, Released}
+use Rattle.sh_history.specs.declared.entry.Entry.TheVariants.{Insert, Got, Gone, Crowded, Removed, Released, Seen}
 use Rattle.sh_history.specs.declared.log.LogEntry.{LogEntry}
 use Rattle.sh_history.specs.declared.log.LogEntry.TheVariants.{Known, Unread}
 use Rattle.sh_history.specs.History.{value_of, is_removed, Allowed, Legal}
 use Rattle.sh_history.specs.Log.{Agrees, pass_of}
 use Rattle.sh_history.proofs.Laws.{legal_after_parts}
-use Rattle.sh_history.proofs.LogLaws.{value_of_insert, value_of_got, zip_splits}
+use Rattle.sh_history.proofs.LogLaws.{value_of_insert, value_of_got, value_of_seen, zip_splits}
 use Rattle.sh_history.proofs.Standing.{splits_at, has_removal, removed_has_removal}
 use Rattle.sh_key.specs.Layout.{Layout}
 use Rattle.sh_table.specs.declared.view.Heard.{Heard}
@@ -21,7 +21,7 @@ use Rattle.sh_table.specs.declared.view.View.{View}
 use Rattle.sh_table.specs.Views.{Each, done_by}
 use Rattle.sh_table.specs.Tales.{by, IsLogOf, HasFirst, Before, IsTale}
 use Rattle.sh_table.specs.Orders.{HeardComesFirst, GoneIsRemoved, GotIsInserted, RemovedIsGone, SaysThere}
-use Rattle.sh_table.specs.Orders.{NothingComesLater}
+use Rattle.sh_table.specs.Orders.{NothingComesLater, SeenIsInserted}
 use Rattle.sh_table.proofs.Zips.{by_append, zip_length}
 use Rattle.sh_table.proofs.Hearing.{first_stays}
 
@@ -81,7 +81,7 @@ by_cut a (y ∷ ys) front x rest e = go (pass_of y == a) refl front (by_cut a ys
   )
 
 -- an entry that was heard of is among the first
-heard_stands_early : (early : List Entry) (h : Heard) (e : Entry) → HasFirst early h → Contains h.log (Known e)
+pub heard_stands_early : (early : List Entry) (h : Heard) (e : Entry) → HasFirst early h → Contains h.log (Known e)
     → (fore : List Entry) × (aft : List Entry) × (early ≡ fore ++ e ∷ aft)
 heard_stands_early early h e f c =
     let s = splits_at h.log (Known e) c in
@@ -168,6 +168,24 @@ got_is_inserted layout v history tale o among a p k value got inserted gets =
     ∙ value_of_got passes most g.0 g.1 a k got (subst (Legal passes most) g.2 tale.legal) in
     let both : Some got ≡ Some value = sym found ∙ issued in cc
 
+pub seen_is_inserted : SeenIsInserted
+seen_is_inserted layout v history tale o among a p k value got inserted gets =
+    let passes = v.shape.passes in
+    let most = layout.guard_max in
+    let b : Before history o = each_in (Before history) v.orders o among tale.orders in
+    let i = heard_stands_early b.0 o.heard (Insert p k value) b.4 inserted in
+    let insert : history ≡ i.0 ++ Insert p k value ∷ (i.1 ++ b.1) = b.2 ∙ (ap (λ (l : List Entry). l ++ b.1) i.2
+    ∙ append_assoc i.0 (Insert p k value ∷ i.1) b.1) in
+    let s = splits_at v.own.log (Known (Seen a k got)) gets in
+    let z = zip_splits s.0 s.1 (Seen a k got) (by v.pass history)
+    (subst (λ (l : List LogEntry). AllZip Agrees l (by v.pass history)) s.2 tale.own) in
+    let g = by_cut v.pass history z.0 (Seen a k got) z.1 z.2 in
+    let issued : value_of history k ≡ Some value = ap (λ l. value_of l k) insert
+    ∙ value_of_insert passes most i.0 (i.1 ++ b.1) p k value (subst (Legal passes most) insert tale.legal) in
+    let found : value_of history k ≡ Some got = ap (λ l. value_of l k) g.2
+    ∙ value_of_seen passes most g.0 g.1 a k got (subst (Legal passes most) g.2 tale.legal) in
+    let both : Some got ≡ Some value = sym found ∙ issued in cc
+
 there_not_removed : (passes guard_max : ℕ) (early : List Entry) (k : ℕ) (x : LogEntry) (e : Entry) → Agrees x e
     → Allowed passes guard_max early e → SaysThere k x → is_removed early k ≡ false
 there_not_removed passes guard_max early k (Known (Got p j value)) e agrees may says =
@@ -178,6 +196,9 @@ there_not_removed passes guard_max early k (Known (Crowded p j)) e agrees may sa
     subst (λ i. is_removed early i ≡ false) says m.1
 there_not_removed passes guard_max early k (Known (Removed p j)) e agrees may says =
     let m : Allowed passes guard_max early (Removed p j) = subst (Allowed passes guard_max early) agrees may in
+    subst (λ i. is_removed early i ≡ false) says m.1
+there_not_removed passes guard_max early k (Known (Seen p j value)) e agrees may says =
+    let m : Allowed passes guard_max early (Seen p j value) = subst (Allowed passes guard_max early) agrees may in
     subst (λ i. is_removed early i ≡ false) says m.1
 there_not_removed passes guard_max early k (Unread p j) e agrees may says =
     let m : Allowed passes guard_max early (Got p j agrees.0) = subst (Allowed passes guard_max early) agrees.1 may in

@@ -2,7 +2,7 @@
 use Rattle.std.specs.Prelude.{◌≡◌, ℕ, ◌≤◌, List, [], ◌∷◌, ◌++◌, length}
 use Rattle.std.specs.List.{Contains}
 use Rattle.sh_history.specs.declared.entry.Entry.{Entry}
-use Rattle.sh_history.specs.declared.entry.Entry.TheVariants.{Insert, Got, Gone, Crowded, Removed}
+use Rattle.sh_history.specs.declared.entry.Entry.TheVariants.{Insert, Got, Gone, Crowded, Removed, Seen}
 use Rattle.sh_history.specs.declared.log.LogEntry.{LogEntry}
 use Rattle.sh_history.specs.declared.log.LogEntry.TheVariants.{Known, Unread}
 use Rattle.sh_history.specs.Laws.{HasRemoval}
@@ -55,11 +55,18 @@ GotIsInserted = (layout : Layout) (v : View) (history : List Entry) → IsTale l
     → (o : Order) → Contains v.orders o → (a p k : ℕ) (value got : List ℕ)
     → Contains o.heard.log (Known (Insert p k value)) → Contains v.own.log (Known (Got a k got)) → got ≡ value
 
+-- if a pass heard of a key's insert, each value that it saw of the key is the inserted one
+abbrev pub SeenIsInserted : Type 0
+SeenIsInserted = (layout : Layout) (v : View) (history : List Entry) → IsTale layout v history
+    → (o : Order) → Contains v.orders o → (a p k : ℕ) (value seen : List ℕ)
+    → Contains o.heard.log (Known (Insert p k value)) → Contains v.own.log (Known (Seen a k seen)) → seen ≡ value
+
 -- the entry says that the key was still there
 abbrev pub SaysThere : ℕ → LogEntry → Type 0
 SaysThere k (Known (Got p j value)) = j ≡ k
 SaysThere k (Known (Crowded p j)) = j ≡ k
 SaysThere k (Known (Removed p j)) = j ≡ k
+SaysThere k (Known (Seen p j value)) = j ≡ k
 SaysThere k (Known _) = ⊥
 SaysThere k (Unread p j) = j ≡ k
 

@@ -5,7 +5,7 @@ use Rattle.std.specs.Prelude.{◌==◌, ◌&&◌, count_by}
 use Rattle.std.proofs.lemmas.List.{map-append}
 use Rattle.sh_value.specs.declared.refusal.Refusal.{Refusal}
 use Rattle.sh_value.specs.declared.refusal.Refusal.TheVariants.{NotHeld}
-use Rattle.sh_plain.specs.Entry.TheVariants.{Insert, Got, Gone, Crowded, Removed, Released}
+use Rattle.sh_plain.specs.Entry.TheVariants.{Insert, Got, Gone, Crowded, Removed, Released, Seen}
 use Rattle.sh_plain.specs.LogEntry.{LogEntry}
 use Rattle.sh_plain.specs.LogEntry.TheVariants.{Known, Unread}
 use Rattle.sh_plain.specs.Log.{IsGotBy, filled, HasValue, AllHaveValue, logged_holds_by, is_logged_got_by}
@@ -75,6 +75,7 @@ read_got pass key value (Known (Gone _ _)) is has = absurd is
 read_got pass key value (Known (Crowded _ _)) is has = absurd is
 read_got pass key value (Known (Removed _ _)) is has = absurd is
 read_got pass key value (Known (Released _ _)) is has = absurd is
+read_got pass key value (Known (Seen _ _ _)) is has = absurd is
 read_got pass key value (Unread p k) is has = rw (is.0, is.1, eq-eqb key key refl) refl
 
 -- a get that is read

@@ -2,6 +2,7 @@
 mod bells;
 mod largest;
 mod layouts;
+mod looks;
 mod memory;
 mod opening;
 mod runs;

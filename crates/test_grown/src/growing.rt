@@ -145,8 +145,15 @@ fn holds_count_in_each_chunk(rt: HostRuntime) {
         agree(&rt, other.get(*high).map(|hold| hold.key), Ok(*high));
     }
     agree(&rt, other.get(*high), Err(Refusal::HoldsFull));
+    // A fetch needs no room for a hold, except of a key that was not issued, such as the next one of the slot.
+    agree(&rt, other.fetch(*low), Ok(Value::from(0)));
+    agree(&rt, other.fetch(*high), Ok(Value::from(FIRST)));
+    let next = high.wrapping_add(16_777_216);
+    agree(&rt, other.fetch(next), Err(Refusal::HoldsFull));
+    agree(&rt, caller.fetch(next), Err(Refusal::Gone));
     let hold = sh_value::Hold { key: *high };
     agree(&rt, caller.remove(*high), Ok(()));
+    agree(&rt, other.fetch(*high), Err(Refusal::Gone));
     agree(&rt, other.read(hold), Ok(Value::from(FIRST)));
     agree(&rt, caller.read(hold), Err(Refusal::NotHeld));
     for _ in 0..16 {

@@ -6,6 +6,7 @@ use sh_history::Entry;
 use sh_key::Tiny;
 use sh_shape::SLOT_PLACES;
 use sh_slots::Hand;
+use sh_step::operands::is_read;
 use sh_step::{Action, Event};
 use sh_value::{HOLDS_MAX, Refusal, Value};
 use std::alloc::{AllocError, Global};
@@ -31,6 +32,13 @@ fn due(hand: &Hand) -> Option<Action> {
                 Some(Action::Fill)
             } else {
                 Some(Action::Publish)
+            }
+        }
+        Hand::Looking(_, name, sight) => {
+            if is_read(*name, sight) {
+                Some(Action::LookAgain)
+            } else {
+                Some(Action::LookOn)
             }
         }
     }

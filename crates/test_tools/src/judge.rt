@@ -80,6 +80,53 @@ fn another_value_is_found(rt: HostRuntime) {
     holds(&rt, !is_legal(rt.alloc(), &lines));
 }
 
+// A look at the value that was inserted, at these times.
+fn seen(begin: u64, end: u64) -> Line {
+    line(1, begin, end, Told::Seen(pattern::value(7, 3)))
+}
+
+#[test]
+fn a_look_stands_between_the_insert_and_the_removal(rt: HostRuntime) {
+    let removed = line(2, 7, 10, Told::Removed);
+    let beside = [inserted(2, 5), removed, seen(1, 3), seen(8, 9)];
+    holds(&rt, is_legal(rt.alloc(), &beside));
+    let early = [seen(1, 2), inserted(3, 4)];
+    holds(&rt, !is_legal(rt.alloc(), &early));
+    let late = [inserted(1, 2), line(2, 3, 4, Told::Removed), seen(5, 6)];
+    holds(&rt, !is_legal(rt.alloc(), &late));
+}
+
+#[test]
+fn a_key_gone_before_a_look_is_found(rt: HostRuntime) {
+    let lines = [
+        inserted(1, 2),
+        line(0, 3, 4, Told::Gone),
+        line(2, 3, 8, Told::Removed),
+        seen(5, 6),
+    ];
+    holds(&rt, !is_legal(rt.alloc(), &lines));
+}
+
+#[test]
+fn a_look_at_another_value_is_found(rt: HostRuntime) {
+    let other = line(1, 3, 4, Told::Seen(pattern::value(8, 3)));
+    holds(&rt, !is_legal(rt.alloc(), &[inserted(1, 2), other]));
+}
+
+// With 3 passes, 2 of 4 holds are needed before a get may be refused as crowded.
+#[test]
+fn a_look_has_no_hold(rt: HostRuntime) {
+    let released = [inserted(1, 2), seen(3, 4), line(1, 5, 6, Told::Released)];
+    holds(&rt, !is_legal(rt.alloc(), &released));
+    let crowded = [
+        inserted(1, 2),
+        line(0, 3, 4, Told::Got(None)),
+        seen(5, 6),
+        line(2, 7, 8, Told::Crowded),
+    ];
+    holds(&rt, !is_legal(rt.alloc(), &crowded));
+}
+
 #[test]
 fn two_removals_are_found(rt: HostRuntime) {
     let lines = [

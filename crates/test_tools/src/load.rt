@@ -50,6 +50,7 @@ fn each_workload_has_its_name(rt: HostRuntime) -> Result<(), Fail> {
         ("read-into", Workload::ReadInto),
         ("get-guard", Workload::GetGuard),
         ("read-guard", Workload::ReadGuard),
+        ("look", Workload::Look),
         ("insert", Workload::Insert),
         ("fill", Workload::Fill),
         ("remove", Workload::Remove),

@@ -23,7 +23,7 @@ fn says(rt: &impl Abort, alloc: Global, history: &str, wanted: &str) -> Result<(
     Ok(())
 }
 
-const SAID: [(&str, &str); 15] = [
+const SAID: [(&str, &str); 24] = [
     ("history 1 4\n", "legal, 0 entries on 0 keys"),
     (
         "; first\n\nhistory 2 4\n 0  Insert 4096 1 7 \n; then\n1 Gone 5\n",
@@ -69,6 +69,39 @@ const SAID: [(&str, &str); 15] = [
         "fault 14 History line 2 Count",
     ),
     ("history 1 4\n0 Got 1\n0 Byte\x07\n", "line 2: NotIssued"),
+    (
+        "history 2 4\n0 Insert 1 2 7 8\n1 Seen 1 2 7 8\n0 Removed 1\n1 Gone 1\n",
+        "legal, 4 entries on 1 keys",
+    ),
+    (
+        "history 1 4\n0 Seen 1 0\n0 Insert 1 0\n",
+        "line 2: NotIssued",
+    ),
+    (
+        "history 1 4\n0 Insert 1 0\n0 Seen 1 0\n0 Released 1\n",
+        "line 4: NotHeld",
+    ),
+    (
+        "history 2 4\n2 3 1 Seen 1 1 7\n1 4 0 Insert 1 1 7\n5 8 0 Removed 1\n6 7 1 Seen 1 1 7\n",
+        "legal, 4 entries on 1 keys",
+    ),
+    (
+        "history 2 4\n3 4 0 Insert 1 1 7\n1 2 1 Seen 1 1 7\n",
+        "line 3: NotIssued",
+    ),
+    (
+        "history 2 4\n1 2 0 Insert 1 1 7\n3 4 0 Removed 1\n5 6 1 Seen 1 1 7\n",
+        "line 4: AfterRemoval, by line 3",
+    ),
+    (
+        "history 2 4\n1 2 0 Insert 1 1 7\n3 4 1 Seen 1 1 8\n",
+        "line 3: OtherValue, by line 2",
+    ),
+    (
+        "history 2 4\n1 2 0 Insert 1 1 7\n3 4 1 Seen 1 1 7\n5 6 1 Released 1\n",
+        "line 4: NotHeld",
+    ),
+    ("history 1 4\n0 Seen 1\n", "fault 14 History line 2 Count"),
 ];
 
 #[test]

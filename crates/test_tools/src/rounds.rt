@@ -95,6 +95,7 @@ fn a_round_does_all_that_it_judges(rt: HostRuntime) -> Result<(), Fail> {
         Count::Gets,
         Count::Gones,
         Count::Reads,
+        Count::Looks,
         Count::Removes,
         Count::Releases,
         Count::Adoptions,
@@ -155,6 +156,35 @@ fn a_get_after_the_removal_is_found(rt: HostRuntime) {
     holds(
         &rt,
         has_no_order(found(&rt, rt.alloc(), Defect::GotAfterRemoval)),
+    );
+}
+
+#[test]
+fn a_look_that_loads_once_is_found(rt: HostRuntime) {
+    holds(&rt, has_no_order(found(&rt, rt.alloc(), Defect::LooksOnce)));
+}
+
+#[test]
+fn a_look_that_loads_another_word_is_found(rt: HostRuntime) {
+    holds(
+        &rt,
+        has_no_order(found(&rt, rt.alloc(), Defect::LooksElsewhere)),
+    );
+}
+
+#[test]
+fn gone_before_the_insert_is_found(rt: HostRuntime) {
+    holds(
+        &rt,
+        has_no_order(found(&rt, rt.alloc(), Defect::GoneBeforeInsert)),
+    );
+}
+
+#[test]
+fn a_value_before_the_insert_is_found(rt: HostRuntime) {
+    holds(
+        &rt,
+        has_no_order(found(&rt, rt.alloc(), Defect::SeenBeforeInsert)),
     );
 }
 
@@ -219,8 +249,8 @@ fn a_take_that_does_not_remove_is_found(rt: HostRuntime) {
 }
 
 #[test]
-fn a_fetch_that_keeps_its_hold_is_found(rt: HostRuntime) {
-    let fault = found(&rt, rt.alloc(), Defect::FetchKeepsHold);
+fn a_read_that_keeps_its_hold_is_found(rt: HostRuntime) {
+    let fault = found(&rt, rt.alloc(), Defect::ReadKeepsHold);
     holds(
         &rt,
         matches!(fault, Some(Fault::Wrong(Wrong::Accounts(0, 0, _)))),

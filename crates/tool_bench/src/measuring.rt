@@ -34,6 +34,7 @@ fn manner_of(workload: Workload) -> Manner {
         | Workload::ReadInto
         | Workload::GetGuard
         | Workload::ReadGuard
+        | Workload::Look
         | Workload::Heed => Manner::Getting,
         Workload::Insert | Workload::Fill | Workload::Remove | Workload::Churn => Manner::Inserting,
         Workload::Hand => Manner::Handing,

@@ -1,10 +1,11 @@
-//! The loops of a pass that owns nothing over the keys: get and release, get, read and release, and receipts.
+//! The loops of a pass that owns nothing over the keys: get and release, get, read and release, looks, and receipts.
 //!
 //! Each loop is a function of its own: in one function they would share its registers.
 ghost use Rattle.std.specs.Prelude.{◌≡◌, IfOk};
 
 use crate::gate::Gate;
 use sh_key::KeyLayout;
+use sh_member::Reader;
 use sh_pass::Pass;
 use sh_value::{Refusal, Value};
 use std::rt::Clock;
@@ -88,6 +89,18 @@ fn read_each_guarded<L: KeyLayout>(pass: &mut Pass<'_, L>, keys: &[u64]) -> Resu
     Ok(sum)
 }
 
+// Reads the value of each key into one value, without a hold.
+#[inline(never)]
+fn look_each<L: KeyLayout>(pass: &mut Pass<'_, L>, keys: &[u64]) -> Result<u64, Refusal> {
+    let mut value = Value::empty();
+    let mut sum = 0u64;
+    for key in keys {
+        pass.look_into(*key, &mut value)?;
+        sum = sum.wrapping_add(sum_of(&value));
+    }
+    Ok(sum)
+}
+
 // Gives a receipt for each key and heeds it. Returns the sum of the keys.
 #[inline(never)]
 fn heed_each<L: KeyLayout>(pass: &mut Pass<'_, L>, keys: &[u64]) -> u64 {
@@ -110,6 +123,7 @@ fn use_each<L: KeyLayout>(
         Workload::ReadInto => read_each_into(pass, keys),
         Workload::GetGuard => guard_each(pass, keys),
         Workload::ReadGuard => read_each_guarded(pass, keys),
+        Workload::Look => look_each(pass, keys),
         Workload::Heed => Ok(heed_each(pass, keys)),
         _ => get_each(pass, keys),
     }

@@ -12,8 +12,8 @@ use std::process::ExitCode;
 
 const AFTER_HELP: &str =
     "The first line is `history PASSES HOLDS_MAX`, and each further line one answer, as
-`[BEGIN END] PASS ENTRY KEY [LENGTH WORD ..]`, with ENTRY one of Insert, Got, Gone,
-Crowded, Removed and Released. All lines have times or none has. Without times their
+`[BEGIN END] PASS ENTRY KEY [LENGTH WORD ..]`, with ENTRY one of Insert, Got, Seen,
+Gone, Crowded, Removed and Released. All lines have times or none has. Without times their
 order is judged. With times some order that keeps to them is looked for; END is `-`
 if the call never ended. docs/HISTORIES.md says more.
 

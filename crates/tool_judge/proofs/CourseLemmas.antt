@@ -8,7 +8,8 @@ use Rattle.std.proofs.lemmas.Bool.{true≢false}
 use Rattle.std.proofs.lemmas.Option.{get_or_from_slice_get}
 use Rattle.tool_judge.specs.declared.line.Line.{Line}
 use Rattle.tool_judge.specs.declared.line.Told.{Told}
-use Rattle.tool_judge.specs.declared.line.Told.TheVariants.{Inserted, Got, Gone, Crowded, Removed, Marked, Released}
+use Rattle.tool_judge.specs.declared.line.Told.TheVariants.{Inserted, Got, Seen, Gone, Crowded, Removed, Marked}
+use Rattle.tool_judge.specs.declared.line.Told.TheVariants.{Released}
 use Rattle.tool_judge.specs.declared.point.Point.{Point}
 use Rattle.tool_judge.specs.declared.point.Rank.{Rank}
 use Rattle.tool_judge.specs.declared.point.Rank.TheVariants as rank
@@ -19,6 +20,7 @@ use Rattle.tool_judge.specs.Points.{time}
 no_insert : (told : Told) → needs_value told ≡ false → is_insert told ≡ false
 no_insert (Inserted value) none = absurd (true≢false none)
 no_insert (Got value) none = refl
+no_insert (Seen value) none = refl
 no_insert Gone none = refl
 no_insert Crowded none = refl
 no_insert Removed none = refl

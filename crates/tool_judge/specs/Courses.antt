@@ -4,7 +4,8 @@ use Rattle.std.specs.Option.{MatchOption}
 use Rattle.std.specs.List.{list_any}
 use Rattle.tool_judge.specs.declared.line.Line.{Line}
 use Rattle.tool_judge.specs.declared.line.Told.{Told}
-use Rattle.tool_judge.specs.declared.line.Told.TheVariants.{Inserted, Got, Gone, Crowded, Removed, Marked, Released}
+use Rattle.tool_judge.specs.declared.line.Told.TheVariants.{Inserted, Got, Seen, Gone, Crowded, Removed, Marked}
+use Rattle.tool_judge.specs.declared.line.Told.TheVariants.{Released}
 use Rattle.tool_judge.specs.declared.order.Course.{Course}
 use Rattle.tool_judge.specs.declared.point.Edge.TheVariants.{Before}
 use Rattle.tool_judge.specs.declared.point.Point.{Point}
@@ -27,6 +28,7 @@ tells_insert line = is_insert line.told
 -- the answer is given only to a call that found the value
 abbrev pub is_use : Told → Bool
 is_use (Got value) = true
+is_use (Seen value) = true
 is_use Crowded = true
 is_use _ = false
 
@@ -84,7 +86,7 @@ pub record IsEarly (course : Course) (line : Line) (point : Point) : Type 0 wher
   pub is_insert : course.inserted ≡ Some insert
   pub ahead : time point ≤ time insert
 
--- the point is that of a get that found the value
+-- the point is that of a get or a look that found the value
 pub record IsFound (course : Course) (line : Line) (point : Point) : Type 0 where
   pub begun : IsBegun line point
   pub behind : FollowsInsert course.inserted point
@@ -95,6 +97,7 @@ abbrev pub IsPointOf : Course → (place : ℕ) → Line → Told → Point → 
 IsPointOf course place line (Inserted value) point =
     MatchOption course.inserted (IsBegun line point) (λ insert. point ≡ insert)
 IsPointOf course place line (Got value) point = IsFound course line point × (point.rank ≡ rank.Get)
+IsPointOf course place line (Seen value) point = IsFound course line point × (point.rank ≡ rank.Get)
 IsPointOf course place line Crowded point = IsFound course line point × (point.rank ≡ rank.Crowded)
 IsPointOf course place line Gone point = IsEarly course line point ⊎ IsLate course line point
 IsPointOf course place line Released point =

@@ -6,13 +6,15 @@ use Rattle.sh_history.specs.declared.entry.Entry.{Entry}
 use Rattle.sh_history.specs.declared.entry.Entry.TheVariants as entry
 use Rattle.tool_judge.specs.declared.line.Line.{Line}
 use Rattle.tool_judge.specs.declared.line.Told.{Told}
-use Rattle.tool_judge.specs.declared.line.Told.TheVariants.{Inserted, Got, Gone, Crowded, Removed, Marked, Released}
+use Rattle.tool_judge.specs.declared.line.Told.TheVariants.{Inserted, Got, Seen, Gone, Crowded, Removed, Marked}
+use Rattle.tool_judge.specs.declared.line.Told.TheVariants.{Released}
 use Rattle.tool_judge.specs.Marks.{MarksAreRemoved}
 
 abbrev pub entry_told : Bool → List ℕ → (pass key : ℕ) → Told → Entry
 entry_told is_remover issued pass key (Inserted value) = entry.Insert pass key value
 entry_told is_remover issued pass key (Got (Some value)) = entry.Got pass key value
 entry_told is_remover issued pass key (Got None) = entry.Got pass key issued
+entry_told is_remover issued pass key (Seen value) = entry.Seen pass key value
 entry_told is_remover issued pass key Gone = entry.Gone pass key
 entry_told is_remover issued pass key Crowded = entry.Crowded pass key
 entry_told is_remover issued pass key Removed = entry.Removed pass key

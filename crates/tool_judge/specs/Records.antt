@@ -11,7 +11,7 @@ use Rattle.tool_judge.specs.declared.fault.Wrong.TheVariants as wrong
 use Rattle.tool_judge.specs.declared.line.Line.{Line}
 use Rattle.tool_judge.specs.declared.line.Span.{Span}
 use Rattle.tool_judge.specs.declared.line.Told.{Told}
-use Rattle.tool_judge.specs.declared.line.Told.TheVariants.{Got}
+use Rattle.tool_judge.specs.declared.line.Told.TheVariants.{Got, Seen}
 use Rattle.tool_judge.specs.declared.counts.Count.TheVariants as count
 use Rattle.tool_judge.specs.declared.record.Held.{Held}
 use Rattle.tool_judge.specs.declared.record.Record.{Record}
@@ -68,6 +68,14 @@ pub record TellsValue (old new : Record) (held : Held) (value : List ℕ) : Type
   pub line : (line : Line) → slice_get old.lines.items held.line ≡ Some line
       → new.lines.items ≡ slice_set old.lines.items held.line (record line { told = Got (Some value) })
   pub none : slice_get old.lines.items held.line ≡ None → new.lines.items ≡ old.lines.items
+
+-- the effect of a look: the value is torn, or a new line has it
+pub record Sees (old new : Record) (key : ℕ) (span : Span) (value : List ℕ) : Type 0 where
+  pub torn : ¬ IsPattern value → FindsFault old new (fault.Wrong (wrong.Torn old.pass key))
+  pub noted : IsPattern value → IsTold old new (record { pass = old.pass; key = key; span = span; told = Seen value })
+  pub counts : new.counts ≡ counted count.Looks 1 old.counts
+  pub pass : new.pass ≡ old.pass
+  pub holds : new.holds ≡ old.holds
 
 -- the effect of a read of a hold: the value is torn, or differs from the one that was read before, or is noted
 pub record Reads (old new : Record) (held : Held) (value : List ℕ) : Type 0 where

@@ -16,6 +16,7 @@ pub enum Count {
     Crowdeds,
     HoldsFulls,
     Reads,
+    Looks,
     Removes,
     Releases,
     Adoptions,
@@ -35,7 +36,7 @@ pub enum Count {
     Queued,
 }
 
-const NAMES: [&str; 25] = [
+const NAMES: [&str; 26] = [
     "inserts",
     "refused as Full",
     "gets",
@@ -44,6 +45,7 @@ const NAMES: [&str; 25] = [
     "refused as Crowded",
     "refused as HoldsFull",
     "reads",
+    "looks",
     "removes",
     "releases",
     "shards adopted",
@@ -66,7 +68,7 @@ const NAMES: [&str; 25] = [
 /// A number for each thing that is counted.
 #[derive(Clone, Copy, Debug, PartialEq, Eq)]
 pub struct Counts {
-    numbers: [u64; 25],
+    numbers: [u64; 26],
 }
 
 impl Counts {
@@ -74,7 +76,7 @@ impl Counts {
     pub fn new() -> Counts
         ensures { (count : Count) → number_of result count ≡ 0 }
     {
-        Counts { numbers: [0; 25] }
+        Counts { numbers: [0; 26] }
     }
 
     /// Counts `more` of a thing, up to the greatest number of 64 bits.
@@ -82,7 +84,7 @@ impl Counts {
         ensures { self.new ≡ counted count more self.old }
     {
         let place = count as usize;
-        if place < 25 {
+        if place < 26 {
             self.numbers[place] = self.numbers[place].saturating_add(more);
         }
     }

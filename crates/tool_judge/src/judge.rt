@@ -53,6 +53,7 @@ fn entry(line: &Line, is_remover: bool, issued: &Value) -> Entry
         Told::Inserted(value) => Entry::Insert(line.pass, line.key, value.copy()),
         Told::Got(Some(value)) => Entry::Got(line.pass, line.key, value.copy()),
         Told::Got(None) => Entry::Got(line.pass, line.key, issued.copy()),
+        Told::Seen(value) => Entry::Seen(line.pass, line.key, value.copy()),
         Told::Gone => Entry::Gone(line.pass, line.key),
         Told::Crowded => Entry::Crowded(line.pass, line.key),
         Told::Removed => Entry::Removed(line.pass, line.key),

@@ -17,6 +17,8 @@ pub enum Told {
     Inserted(Value),
     /// A hold was got. It has the value, if that was read.
     Got(Option<Value>),
+    /// The value was seen: a call returned it, and left no hold.
+    Seen(Value),
     /// The key names no present value.
     Gone,
     /// The key has the greatest number of holds.

@@ -1,8 +1,8 @@
 //! An order of the answers on one key, by the times of their calls.
 //!
-//! The insert is as late as it may be: just before the first end of a call whose answer needs the value. A get is as
-//! early as it may be, and a release as late. The removal is as early as it may be: after each answer that needs the
-//! value. So if any order is legal and keeps to the times, this one is and does.
+//! The insert is as late as it may be: just before the first end of a call whose answer needs the value. A get or a
+//! look is as early as it may be, and a release as late. The removal is as early as it may be: after each answer that
+//! needs the value. So if any order is legal and keeps to the times, this one is and does.
 ghost use Rattle.std.specs.Prelude.{◌≡◌, ◌≤◌, ◌⊎◌, true, false, All, IsTrue, IfSome, IfNone};
 ghost use Rattle.std.specs.List.{list_any};
 ghost use Rattle.std.specs.Option.{MatchOption};
@@ -27,7 +27,12 @@ fn needs_value(told: &Told) -> bool
     ensures { result ≡ needs_value told.now }
 {
     match told {
-        Told::Inserted(_) | Told::Got(_) | Told::Crowded | Told::Removed | Told::Marked => true,
+        Told::Inserted(_)
+        | Told::Got(_)
+        | Told::Seen(_)
+        | Told::Crowded
+        | Told::Removed
+        | Told::Marked => true,
         Told::Gone | Told::Released => false,
     }
 }
@@ -36,7 +41,7 @@ fn needs_value(told: &Told) -> bool
 fn is_use(told: &Told) -> bool
     ensures { result ≡ is_use told.now }
 {
-    matches!(told, Told::Got(_) | Told::Crowded)
+    matches!(told, Told::Got(_) | Told::Seen(_) | Told::Crowded)
 }
 
 // The first end of a call whose answer needs the value.
@@ -89,7 +94,7 @@ fn earliest(line: &Line, inserted: Option<Point>, rank: Rank) -> Point
     }
 }
 
-// The last of the earliest points of all gets that found the value, or `None` if there is no such get.
+// The last of the earliest points of all gets and looks that found the value, or `None` if there are none.
 fn last_use(lines: &[Line], inserted: Option<Point>) -> Option<Point>
     ensures { MatchOption result (All (λ (line : AnyLine). is_use line.told ≡ false) lines.now)
         (λ point. All (λ (line : AnyLine). is_use line.told ≡ true → IsBegun line point) lines.now) }
@@ -236,7 +241,7 @@ pub fn point(lines: &[Line], place: usize, line: &Line, course: Course) -> Point
             Some(inserted) => inserted,
             None => Point::after(line.span.begin, Rank::Insert),
         },
-        Told::Got(_) => earliest(line, course.inserted, Rank::Get),
+        Told::Got(_) | Told::Seen(_) => earliest(line, course.inserted, Rank::Get),
         Told::Crowded => crowded(lines, line, course.inserted),
         Told::Gone => gone(line, course),
         Told::Released => Point::before(line.span.end, Rank::Release),

@@ -21,7 +21,7 @@ pub enum Rank {
     Early,
     /// An insert.
     Insert,
-    /// A get.
+    /// A get or a look.
     Get,
     /// A get that is refused as crowded.
     Crowded,

@@ -4,7 +4,7 @@ ghost use Rattle.std.specs.Prelude.{vec_len, slice_get};
 ghost use Rattle.std.specs.Bool.{OnTrue, OnFalse};
 ghost use Rattle.std.specs.Option.{option_copied};
 ghost use Rattle.tool_judge.specs.Counts.{counted};
-ghost use Rattle.tool_judge.specs.Records.{refusal_fault, first_fault, IsTold, HasHold, Reads, value_read};
+ghost use Rattle.tool_judge.specs.Records.{refusal_fault, first_fault, IsTold, HasHold, Sees, Reads, value_read};
 ghost use Rattle.tool_judge.specs.declared.record.Held.{Held as AnyHeld};
 
 use crate::counts::{Count, Counts};
@@ -145,6 +145,18 @@ impl Record {
         }
     }
 
+    /// Notes a value that a look returned. It is a fault if it is torn.
+    pub fn seen(&mut self, key: u64, span: Span, value: Value)
+        ensures { Sees self.old self.new key span value }
+    {
+        self.counts.one(Count::Looks);
+        if pattern::is_whole(&value) {
+            self.tell(key, span, Told::Seen(value));
+        } else {
+            self.find(Wrong::Torn(self.pass, key));
+        }
+    }
+
     /// Whether it has the greatest number of holds of a pass.
     pub fn is_full(&self) -> bool
         ensures { IsTrue result ↔ (16 ≤ vec_len self.now.holds) }
@@ -186,6 +198,7 @@ impl Record {
             Told::Got(Some(value)) => Some(value),
             Told::Got(None)
             | Told::Inserted(_)
+            | Told::Seen(_)
             | Told::Gone
             | Told::Crowded
             | Told::Removed

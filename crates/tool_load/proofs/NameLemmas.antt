@@ -27,6 +27,7 @@ lettered first third fourth sixth =
     else if first == 99 then workload.Churn
     else if first == 104 then (if third == 101 then workload.Heed else workload.Hand)
     else if first == 97 then workload.Adopt
+    else if third == 111 then workload.Look
     else workload.Leave
 
 abbrev workload_at : Text → Workload
@@ -38,6 +39,7 @@ back workload.Read = refl
 back workload.ReadInto = refl
 back workload.GetGuard = refl
 back workload.ReadGuard = refl
+back workload.Look = refl
 back workload.Insert = refl
 back workload.Fill = refl
 back workload.Remove = refl

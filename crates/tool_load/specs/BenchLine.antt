@@ -20,8 +20,8 @@ use Rattle.tool_load.specs.Names.{layout_name, workload_name}
 -- the workloads and the layouts, in the order of the help
 abbrev pub all_workloads : List Workload
 all_workloads = workload.Get ∷ workload.Read ∷ workload.ReadInto ∷ workload.GetGuard ∷ workload.ReadGuard
-    ∷ workload.Insert ∷ workload.Fill ∷ workload.Remove ∷ workload.Churn ∷ workload.Hand ∷ workload.Adopt
-    ∷ workload.Leave ∷ workload.Heed ∷ []
+    ∷ workload.Look ∷ workload.Insert ∷ workload.Fill ∷ workload.Remove ∷ workload.Churn ∷ workload.Hand
+    ∷ workload.Adopt ∷ workload.Leave ∷ workload.Heed ∷ []
 
 abbrev pub all_layouts : List Layout
 all_layouts = layout.Wide ∷ layout.Tagged ∷ layout.Deep ∷ []

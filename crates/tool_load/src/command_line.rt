@@ -224,6 +224,7 @@ pub fn options_of<'a>(alloc: Global, words: &'a [&'a str]) -> Result<Options, Er
         workload::name(Workload::ReadInto),
         workload::name(Workload::GetGuard),
         workload::name(Workload::ReadGuard),
+        workload::name(Workload::Look),
         workload::name(Workload::Insert),
         workload::name(Workload::Fill),
         workload::name(Workload::Remove),

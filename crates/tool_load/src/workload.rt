@@ -15,6 +15,8 @@ pub enum Workload {
     GetGuard,
     /// The same as `ReadInto`, by a hold that keeps its place.
     ReadGuard,
+    /// A pass reads the value of a key without a hold, into a value of the caller's.
+    Look,
     /// An owner inserts, beside the live values.
     Insert,
     /// An owner fills its shard: it inserts, and nothing is removed.
@@ -43,6 +45,7 @@ pub fn name(workload: Workload) -> &'static str
         Workload::ReadInto => "read-into",
         Workload::GetGuard => "get-guard",
         Workload::ReadGuard => "read-guard",
+        Workload::Look => "look",
         Workload::Insert => "insert",
         Workload::Fill => "fill",
         Workload::Remove => "remove",
@@ -65,6 +68,7 @@ pub fn workload_named(word: &str) -> Option<Workload>
         "read-into" => Some(Workload::ReadInto),
         "get-guard" => Some(Workload::GetGuard),
         "read-guard" => Some(Workload::ReadGuard),
+        "look" => Some(Workload::Look),
         "insert" => Some(Workload::Insert),
         "fill" => Some(Workload::Fill),
         "remove" => Some(Workload::Remove),

@@ -76,6 +76,7 @@ fn word_of(told: &Told, is_remover: bool) -> &'static str {
     match told {
         Told::Inserted(_) => "Insert",
         Told::Got(_) => "Got",
+        Told::Seen(_) => "Seen",
         Told::Marked if is_remover => "Removed",
         Told::Gone | Told::Marked => "Gone",
         Told::Crowded => "Crowded",
@@ -112,7 +113,7 @@ fn write_line<W: Write>(
     let word = word_of(&line.told, is_remover);
     let (begin, end) = (line.span.begin, line.span.end);
     write!(output, "{begin} {end} {pass} {word} {}", line.key)?;
-    if let Told::Inserted(value) | Told::Got(Some(value)) = &line.told {
+    if let Told::Inserted(value) | Told::Got(Some(value)) | Told::Seen(value) = &line.told {
         write_value(value, output)?;
     }
     writeln!(output)

@@ -39,6 +39,15 @@ fn next_key<P: LonePass>(key: u64) -> u64 {
     key.wrapping_add(to_next_key::<P::Layout>(within))
 }
 
+// Gets or looks at a number that may be a key.
+fn guess<U: User>(user: &mut U, record: &mut Record, moments: &Moments, dice: &mut Dice, key: u64) {
+    if dice.once_in(2) {
+        using::get(user, record, moments, key, true);
+    } else {
+        using::look(user, record, moments, key, true);
+    }
+}
+
 /// Takes a turn on a key that a thread left, if there is one, or on a key that the pass holds. Other turns do nothing.
 pub fn take_turn<P: LonePass, U: User>(
     user: &mut U,
@@ -51,11 +60,9 @@ pub fn take_turn<P: LonePass, U: User>(
     let held = some_hold(record, dice);
     match (turn, key, held) {
         (Turn::Get, Some(key), _) => using::get(user, record, moments, key, false),
-        (Turn::Glance, Some(key), _) => using::glance(user, record, moments, key),
-        (Turn::Guess, Some(key), _) => {
-            using::get(user, record, moments, next_key::<P>(key), true);
-        }
-        (Turn::Fetch, Some(key), _) => using::fetch(user, record, moments, key),
+        (Turn::Guard, Some(key), _) => using::guard(user, record, moments, key),
+        (Turn::Guess, Some(key), _) => guess(user, record, moments, dice, next_key::<P>(key)),
+        (Turn::Look, Some(key), _) => using::look(user, record, moments, key, false),
         (Turn::With, Some(key), _) => using::with(user, record, moments, key),
         (Turn::Take, Some(key), _) => using::take(user, record, moments, key),
         (Turn::Remove, Some(key), _) => using::remove(user, record, moments, key),

@@ -1,11 +1,11 @@
 //! The rounds of the stress program, on any heap behind the traits `LonePass` and `User`.
 //!
-//! A round has threads, and each takes turns with a few passes (`crew`, `worker`). They get, read, remove and release
-//! keys that others left on a board (`using`). They adopt and leave shards, insert (`owning`), and stop in the middle
-//! of removals (`by_hand`). Then the round ends all calls and joins the passes, so that the heap is whole (`ending`).
-//! It puts the results in an order that is a legal history, and compares the accounts of each page with that history
-//! (`judging`). The program plays rounds, and reports their counts or the fault that one found (`program`). A round
-//! leaves the history of its calls (`history`).
+//! A round has threads, and each takes turns with a few passes (`crew`, `worker`). They get, look at, read, remove and
+//! release keys that others left on a board (`using`). They adopt and leave shards, insert (`owning`), and stop in the
+//! middle of removals (`by_hand`). Then the round ends all calls and joins the passes, so that the heap is whole
+//! (`ending`). It puts the results in an order that is a legal history, and compares the accounts of each page with
+//! that history (`judging`). The program plays rounds, and reports their counts or the fault that one found
+//! (`program`). A round leaves the history of its calls (`history`).
 #![tactic(auto)]
 
 pub mod actor;

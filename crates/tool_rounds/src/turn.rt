@@ -7,8 +7,8 @@ pub enum Turn {
     /// Gets a key that a thread left on the board.
     Get,
     /// Gets by a guard a key that a thread left on the board, and reads its value.
-    Glance,
-    /// Gets a number that may be a key.
+    Guard,
+    /// Gets or looks at a number that may be a key.
     Guess,
     /// Reads what it holds.
     Read,
@@ -18,8 +18,8 @@ pub enum Turn {
     Remove,
     /// Removes a key that it holds.
     RemoveHeld,
-    /// Gets, reads and releases by one call a key that a thread left on the board.
-    Fetch,
+    /// Looks at a key that a thread left on the board.
+    Look,
     /// The same, by a call that gets the value lent.
     With,
     /// Removes a key that a thread left on the board, and gets its value, by one call.
@@ -40,38 +40,38 @@ pub enum Turn {
 
 /// The next turn of a pass that owns no shard.
 pub fn of_lone(dice: &mut Dice) -> Turn {
-    match dice.below(36) {
+    match dice.below(38) {
         0..6 => Turn::Get,
-        6..9 => Turn::Glance,
+        6..9 => Turn::Guard,
         9..13 => Turn::Read,
         13..20 => Turn::Release,
         20 => Turn::Remove,
         21 => Turn::RemoveHeld,
         22 => Turn::Guess,
         23..29 => Turn::Begin,
-        32 | 33 => Turn::Fetch,
-        34 => Turn::With,
-        35 => Turn::Take,
+        32..36 => Turn::Look,
+        36 => Turn::With,
+        37 => Turn::Take,
         _ => Turn::Adopt,
     }
 }
 
 /// The next turn of an owner.
 pub fn of_owner(dice: &mut Dice) -> Turn {
-    match dice.below(38) {
+    match dice.below(40) {
         0..4 => Turn::Get,
-        4..6 => Turn::Glance,
+        4..6 => Turn::Guard,
         6..9 => Turn::Read,
         9..14 => Turn::Release,
         14 => Turn::Remove,
         15 => Turn::RemoveHeld,
         16 => Turn::Guess,
         17..31 => Turn::Insert,
-        32 => Turn::Fetch,
-        33 => Turn::With,
-        34 => Turn::Take,
-        35 | 36 => Turn::Collect,
-        37 => Turn::Prepare,
+        32..35 => Turn::Look,
+        35 => Turn::With,
+        36 => Turn::Take,
+        37 | 38 => Turn::Collect,
+        39 => Turn::Prepare,
         _ => Turn::Leave,
     }
 }

@@ -10,15 +10,15 @@ pub trait User {
     fn get(&mut self, key: u64) -> Result<Hold, Refusal>;
 
     /// Takes a guard on a key, which keeps its place, and reads by it into the value. Returns the guard's plain hold.
-    fn glance(&mut self, key: u64, value: &mut Value) -> Result<Hold, Refusal>;
+    fn guard(&mut self, key: u64, value: &mut Value) -> Result<Hold, Refusal>;
 
     /// The value of a key that it holds.
     fn read(&mut self, hold: Hold) -> Result<Value, Refusal>;
 
-    /// The value of a key: a get, a read and a release in one.
-    fn fetch(&mut self, key: u64) -> Result<Value, Refusal>;
+    /// The value of a key, which it looks at. No hold is left.
+    fn look(&mut self, key: u64) -> Result<Value, Refusal>;
 
-    /// A copy of the value of a key, made by a call that gets the value lent.
+    /// A copy of the value of a key, made by a look that gets the value lent.
     fn with(&mut self, key: u64) -> Result<Value, Refusal>;
 
     /// The value of a key, which this call removes.

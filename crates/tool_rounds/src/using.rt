@@ -43,52 +43,49 @@ fn not_got(record: &mut Record, key: u64, span: Span, refusal: Refusal) {
 }
 
 /// Takes a hold on a key by a guard, and reads by it.
-pub fn glance<U: User>(user: &mut U, record: &mut Record, moments: &Moments, key: u64) {
+pub fn guard<U: User>(user: &mut U, record: &mut Record, moments: &Moments, key: u64) {
     let mut value = Value::empty();
     let begin = moments.next();
-    let answer = user.glance(key, &mut value);
+    let answer = user.guard(key, &mut value);
     let span = moments.since(begin);
     match answer {
-        Ok(hold) => seen(record, hold, span, value),
+        Ok(hold) => note_guarded(record, hold, span, value),
         Err(refusal) => not_got(record, key, span, refusal),
     }
 }
 
-// Notes what a call returned that gets a key, reads its value and releases it. Nothing says when the hold ended within
-// the call, so it is released in a moment behind the call.
-fn note_fetched(
+// Notes a hold, and what was read by it.
+fn note_guarded(record: &mut Record, hold: Hold, span: Span, value: Value) {
+    let number = record.holds();
+    record.got(hold, span);
+    if let Some(held) = record.hold(number) {
+        record.read(held, value);
+    }
+}
+
+// Notes what a call returned that copies the value of a key. If it had a hold, it released that before it returned.
+fn note_copied(record: &mut Record, key: u64, span: Span, answer: Result<Value, Refusal>) {
+    match answer {
+        Ok(value) => record.seen(key, span, value),
+        Err(refusal) => not_got(record, key, span, refusal),
+    }
+}
+
+/// Looks at a key. A guessed number may be no key.
+pub fn look<U: User>(
+    user: &mut U,
     record: &mut Record,
     moments: &Moments,
     key: u64,
-    span: Span,
-    answer: Result<Value, Refusal>,
+    guessed: bool,
 ) {
-    match answer {
-        Ok(value) => {
-            let number = record.holds();
-            seen(record, Hold { key }, span, value);
-            note_released(record, moments, number);
-        }
-        Err(refusal) => not_got(record, key, span, refusal),
-    }
-}
-
-// Notes that a call released the hold of this number before it ended.
-fn note_released(record: &mut Record, moments: &Moments, number: u64) {
-    if let Some(held) = record.hold(number) {
-        record.counts.one(Count::Releases);
-        let span = moments.since(moments.next());
-        record.tell(held.hold.key, span, Told::Released);
-        record.forget(number);
-    }
-}
-
-/// Takes the value of a key by one call.
-pub fn fetch<U: User>(user: &mut U, record: &mut Record, moments: &Moments, key: u64) {
     let begin = moments.next();
-    let answer = user.fetch(key);
+    let answer = user.look(key);
     let span = moments.since(begin);
-    note_fetched(record, moments, key, span, answer);
+    match answer {
+        Err(Refusal::BadKey) if guessed => record.counts.one(Count::BadKeys),
+        answer => note_copied(record, key, span, answer),
+    }
 }
 
 /// Copies the value of a key within one call.
@@ -96,28 +93,19 @@ pub fn with<U: User>(user: &mut U, record: &mut Record, moments: &Moments, key: 
     let begin = moments.next();
     let answer = user.with(key);
     let span = moments.since(begin);
-    note_fetched(record, moments, key, span, answer);
+    note_copied(record, key, span, answer);
 }
 
-/// Takes the value of a key and removes it, by one call. So the key was got and removed in the time of that call.
+/// Takes the value of a key and removes it, by one call. So the key was seen and removed in the time of that call.
 pub fn take<U: User>(user: &mut U, record: &mut Record, moments: &Moments, key: u64) {
     let begin = moments.next();
     let answer = user.take(key);
     let span = moments.since(begin);
     let is_taken = answer.is_ok();
-    note_fetched(record, moments, key, span, answer);
+    note_copied(record, key, span, answer);
     if is_taken {
         record.counts.one(Count::Removes);
         record.tell(key, span, Told::Removed);
-    }
-}
-
-// Notes a hold, and what was read by it.
-fn seen(record: &mut Record, hold: Hold, span: Span, value: Value) {
-    let number = record.holds();
-    record.got(hold, span);
-    if let Some(held) = record.hold(number) {
-        record.read(held, value);
     }
 }
 

@@ -39,7 +39,7 @@ impl<H: Home + Send> User for Grower<H> {
     }
 
     // A caller has no guards. It gets the key, and reads into the value.
-    fn glance(&mut self, key: u64, value: &mut Value) -> Result<Hold, Refusal> {
+    fn guard(&mut self, key: u64, value: &mut Value) -> Result<Hold, Refusal> {
         let hold = self.caller.get(key)?;
         self.caller.read_into(hold, value)?;
         Ok(hold)
@@ -49,7 +49,7 @@ impl<H: Home + Send> User for Grower<H> {
         self.caller.read(hold)
     }
 
-    fn fetch(&mut self, key: u64) -> Result<Value, Refusal> {
+    fn look(&mut self, key: u64) -> Result<Value, Refusal> {
         self.caller.fetch(key)
     }
 

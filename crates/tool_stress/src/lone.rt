@@ -53,7 +53,7 @@ impl<L: KeyLayout, H: Home + Send> User for Lone<'_, L, H> {
         self.pass.get(key)
     }
 
-    fn glance(&mut self, key: u64, value: &mut Value) -> Result<Hold, Refusal> {
+    fn guard(&mut self, key: u64, value: &mut Value) -> Result<Hold, Refusal> {
         let guard = self.pass.get_guard(key)?;
         self.pass.read_guard(&guard, value)?;
         Ok(guard.hold())
@@ -63,7 +63,7 @@ impl<L: KeyLayout, H: Home + Send> User for Lone<'_, L, H> {
         self.pass.read(hold)
     }
 
-    fn fetch(&mut self, key: u64) -> Result<Value, Refusal> {
+    fn look(&mut self, key: u64) -> Result<Value, Refusal> {
         fetching::fetch(&mut self.pass, key)
     }
 

@@ -64,7 +64,7 @@ impl<L: KeyLayout, H: Home + Send> User for Owner<'_, L, H> {
         self.shard.get(key)
     }
 
-    fn glance(&mut self, key: u64, value: &mut Value) -> Result<Hold, Refusal> {
+    fn guard(&mut self, key: u64, value: &mut Value) -> Result<Hold, Refusal> {
         let guard = self.shard.get_guard(key)?;
         self.shard.read_guard(&guard, value)?;
         Ok(guard.hold())
@@ -74,7 +74,7 @@ impl<L: KeyLayout, H: Home + Send> User for Owner<'_, L, H> {
         self.shard.read(hold)
     }
 
-    fn fetch(&mut self, key: u64) -> Result<Value, Refusal> {
+    fn look(&mut self, key: u64) -> Result<Value, Refusal> {
         fetching::fetch(&mut self.shard, key)
     }
 

@@ -36,7 +36,7 @@ public:
     [[nodiscard]] gearlongan::key key() const noexcept { return gearlongan::key(shardheap_loaded::key); }
     /// Names another key for the next batch.
     void set_key(gearlongan::key of) noexcept { shardheap_loaded::key = of.number(); }
-    /// What the load returned: ok, bad_key, holds_full, gone or crowded; empty, if it was in no batch yet.
+    /// What the load returned: what try_load returns, or empty, if it was in no batch yet.
     [[nodiscard]] errc code() const noexcept { return static_cast<errc>(shardheap_loaded::code); }
     /// Whether the key was loaded.
     [[nodiscard]] explicit operator bool() const noexcept { return code() == errc::ok; }
@@ -64,7 +64,9 @@ public:
     ///     if (pass.try_get(key, guard) == gearlongan::errc::ok) guard.reset();
     errc try_get(key of, guard &into) & noexcept;
 
-    /// Copies the value of a key. bad_key, holds_full, gone, crowded.
+    /// Copies the value of a key, and takes no hold. It writes nothing to shared memory if the key has a value or was
+    /// removed. bad_key, gone; holds_full and crowded come only of a key whose insert the pass neither made nor heard
+    /// of by a receipt.
     ///
     ///     gearlongan::value value;
     ///     assert(pass.try_load(key, value) == gearlongan::errc::ok);
@@ -100,8 +102,8 @@ public:
     ///     assert(pass.try_remove(key) == gearlongan::errc::ok);
     errc try_remove(key of) noexcept { return static_cast<errc>(shardheap_remove(&raw_, of.number())); }
 
-    /// Takes the value of a key: a load and a remove in one. Of all calls that remove one key, exactly one is ok.
-    /// bad_key, holds_full, gone, crowded.
+    /// Takes the value of a key: a get, a read, a remove and a release in one. Of all calls that remove one key,
+    /// exactly one is ok. bad_key, holds_full, gone, crowded.
     ///
     ///     gearlongan::value value;
     ///     assert(pass.try_take(key, value) == gearlongan::errc::ok && value.size() == 2);
@@ -111,7 +113,8 @@ public:
             shardheap_take_value(&raw_, of.number(), into.words_, value::max_size(), &into.size_));
     }
 
-    /// Takes the value of a key as a record. wrong_size, after which the key is as it was, and those of a take.
+    /// Takes the value of a key as a record, by a load and a removal. wrong_size, after which the key is as it was, and
+    /// those of a load.
     ///
     ///     double number = 0;
     ///     assert(pass.try_take_record(key, number) == gearlongan::errc::wrong_size && pass.load(key));
@@ -161,7 +164,7 @@ public:
     ///     if (gearlongan::guard guard = pass.find(key)) assert(guard.read()[0] == 7);
     [[nodiscard]] guard find(key of) &;
 
-    /// Copies the value of a key: nothing if the key is gone.
+    /// Copies the value of a key, and takes no hold: nothing if the key is gone.
     ///
     ///     if (auto value = pass.load(key)) assert((*value)[0] == 7);
     [[nodiscard]] inline std::optional<value> load(key of) {

@@ -18,6 +18,12 @@
 //! [`Heap::gather`], [`Pass::adopt`] and `receipt`. An insert or a prepare takes it for a segment, and that of a
 //! [`Caller`] also for a shard or a chunk. If memory is refused they return [`Error::Memory`].
 //!
+//! # Reading
+//!
+//! A [`load`](Pass::load) copies a value. It writes nothing to shared memory if the key has a value or was removed. It
+//! takes w + 4 atomic loads for a value of w words, and at most 20 if the key was removed. A [`get`](Pass::get) pins
+//! the value in place. It and the drop of its guard each change a word that all readers of the key share.
+//!
 //! # Threads
 //!
 //! | Type | [`Send`] | [`Sync`] | So |

@@ -52,11 +52,13 @@ impl Pass {
         Guard::take(&self.handle, key)
     }
 
-    /// Reads a value and keeps no hold: a get, a read and a release in one.
+    /// Reads a value and takes no hold. It writes nothing to shared memory if the key has a value or was removed, and
+    /// takes w + 4 atomic loads for a value of w words.
     ///
     /// # Errors
     ///
-    /// [`Error::BadKey`], [`Error::HoldsFull`], [`Error::Gone`], [`Error::Crowded`].
+    /// [`Error::BadKey`], [`Error::Gone`]. [`Error::HoldsFull`] and [`Error::Crowded`] come only of a key whose insert
+    /// this pass neither made nor heard of by a [`Receipt`]. The load may then go on as a get, a read and a release.
     ///
     /// ```
     /// # use gearlongan::{Error, Heap, Layout, Shape};
@@ -211,8 +213,8 @@ impl Pass {
         self.handle.remove(key)
     }
 
-    /// Takes the value of a key: a load and a removal in one. Of all calls that remove one key, exactly one succeeds,
-    /// so that one caller alone has the value.
+    /// Takes the value of a key: a get, a read, a removal and a release in one. Of all calls that remove one key,
+    /// exactly one succeeds, so that one caller alone has the value.
     ///
     /// # Errors
     ///

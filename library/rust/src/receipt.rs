@@ -11,6 +11,10 @@ use crate::ffi::ReceiptHandle;
 /// receipt, the contracts of the library allow that the other finds it `Gone`. (Each step of the library is a
 /// sequentially consistent atomic operation, so that a key which was handed over is found in practice.)
 ///
+/// `Ok` of a [`load`](crate::Pass::load) promises a little less than `Ok` of a [`get`](crate::Pass::get), which leaves
+/// a hold. If another pass removed the key, and this one heeded no receipt of that, the contracts allow that the load
+/// comes before the removal, even if it was called later. With the receipt they do not.
+///
 /// ```
 /// use gearlongan::{Error, Heap, Layout, Shape};
 /// use std::{sync::mpsc, thread};

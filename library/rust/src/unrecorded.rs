@@ -55,5 +55,15 @@ impl Log {
         call(value)
     }
 
+    #[inline(always)]
+    pub(crate) fn load(
+        &self,
+        _key: Key,
+        value: &mut Value,
+        call: impl FnOnce(&mut Value) -> Result<(), Error>,
+    ) -> Result<(), Error> {
+        call(value)
+    }
+
     pub(crate) fn close(&mut self) {}
 }

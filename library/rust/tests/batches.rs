@@ -41,15 +41,22 @@ fn a_batch_returns_what_its_loads_return() {
 fn a_batch_leaves_the_holds_as_they_were() {
     for layout in LAYOUTS {
         let (shard, pass) = two(layout);
-        let key = shard.insert(&[7, 8]).expect("there is room");
-        let mut guards: Vec<_> = std::iter::from_fn(|| pass.get(key).ok()).collect();
-        let beyond = if layout == Layout::Tiny { Error::Crowded } else { Error::HoldsFull };
+        let keys = [(); 4].map(|()| shard.insert(&[7, 8]).expect("there is room"));
+        let guards = keys.map(|key| [(); 4].map(|()| pass.get(key).expect("it may be held")));
+        assert_eq!(pass.get(keys[0]).err(), Some(Error::HoldsFull));
+        // The key of the next slot, which nothing was put in yet: a load of it goes on to a get.
+        let mut batch = [keys[0]; 9];
+        batch[4] = Key::from(u64::from(keys[3]) + 1);
+        let mut wanted = vec![Value::new(&[7, 8]); 9];
+        wanted[4] = Err(Error::HoldsFull);
         let mut results = before(9);
-        pass.load_each(&[key; 9], &mut results);
-        assert_eq!(results, vec![Err(beyond); 9]);
-        drop(guards.pop());
-        pass.load_each(&[key; 9], &mut results);
-        assert_eq!(results, vec![Value::new(&[7, 8]); 9]);
+        pass.load_each(&batch, &mut results);
+        assert_eq!(results, wanted);
+        drop(guards);
+        assert_eq!(pass.read(keys[0]), Err(Error::NotHeld));
+        wanted[4] = Err(Error::Gone);
+        pass.load_each(&batch, &mut results);
+        assert_eq!(results, wanted);
     }
 }
 

@@ -169,9 +169,14 @@ fn holds_are_as_many_as_they_may_be() {
         let key = shard.insert(&[7]).expect("there is room");
         let guards: Vec<_> = (0..most).map(|_| pass.get(key).expect("it may be held")).collect();
         assert_eq!(pass.get(key).err(), Some(beyond));
-        assert_eq!(pass.load(key), Err(beyond));
+        assert_eq!(pass.load(key).expect("a load takes no hold"), [7]);
+        // The key of the next slot, which nothing was put in yet: a load of it goes on to a get.
+        let not_issued = Key::from(u64::from(key) + 1);
+        let refused = if layout == Layout::Tiny { Error::Gone } else { Error::HoldsFull };
+        assert_eq!(pass.load(not_issued), Err(refused));
         drop(guards);
-        assert!(pass.load(key).is_ok());
+        assert_eq!(pass.load(not_issued), Err(Error::Gone));
+        assert_eq!(pass.load(key).expect("it is there"), [7]);
     }
 }
 

@@ -17,7 +17,7 @@ fn lines(recording: &Recording) -> Vec<String> {
 }
 
 #[test]
-fn a_load_and_a_take_are_recorded_in_parts() -> Result<(), Error> {
+fn a_load_is_recorded_as_a_look_and_a_take_in_parts() -> Result<(), Error> {
     let (heap, recording) = recorded(Layout::Wide, 1);
     let shard = heap.take()?.adopt(0)?;
     let key = shard.insert(&[7, 8])?;
@@ -31,8 +31,7 @@ fn a_load_and_a_take_are_recorded_in_parts() -> Result<(), Error> {
     let wanted = [
         "history 1 1048576".to_string(),
         format!("0 Insert {key} 2 7 8"),
-        format!("0 Got {key} 2 7 8"),
-        format!("0 Released {key}"),
+        format!("0 Seen {key} 2 7 8"),
         format!("0 Got {key} 2 7 8"),
         format!("0 Removed {key}"),
         format!("0 Released {key}"),
@@ -156,12 +155,12 @@ fn threads_have_times_that_do_not_overlap_in_a_pass() -> Result<(), Error> {
     let Some(history) = (0..50).find_map(|_| of_two_threads().ok().filter(|history| !history.is_ordered())) else {
         return Ok(());
     };
-    assert_eq!(history.len(), 2 * 2000 * 4);
+    assert_eq!(history.len(), 2 * 2000 * 3);
     let text = history.to_string();
     let mut ends = [None, None];
     for (begin, end, pass, words) in text.lines().skip(1).map(timed) {
         assert!(begin <= end && ends[pass as usize] < Some(begin), "{begin} {end} {pass} {words:?}");
-        assert!(["Insert", "Got", "Released", "Removed"].contains(&words[0]));
+        assert!(["Insert", "Seen", "Removed"].contains(&words[0]));
         ends[pass as usize] = Some(end);
     }
     Ok(())

@@ -24,6 +24,14 @@ impl Caller for Shard {
         }
     }
 
+    fn load(&mut self, key: u64) -> Option<u64> {
+        match (**self).load(Key::from(key)) {
+            Ok(value) => Some(value[0]),
+            Err(Error::Gone) => None,
+            Err(error) => panic!("a key that was issued was refused: {error}"),
+        }
+    }
+
     fn remove(&mut self, key: u64) -> bool {
         match (**self).remove(Key::from(key)) {
             Ok(()) => true,

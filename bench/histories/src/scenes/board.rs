@@ -1,4 +1,4 @@
-//! Threads that put keys on a common board, and get and remove by keys that they find there. Each also remembers keys
+//! Threads that put keys on a common board, and load and remove by keys that they find there. Each also remembers keys
 //! of its own, as a client does that comes back late.
 use crate::caller::Caller;
 use crate::dice::Dice;
@@ -31,7 +31,7 @@ struct Remembered {
 /// What a thread counted.
 #[derive(Debug, Default)]
 struct Counts {
-    /// Gets by a remembered key.
+    /// Loads by a remembered key.
     by_remembered: u64,
     /// Those of them that returned another value than was inserted.
     of_another: u64,
@@ -73,20 +73,20 @@ impl<C: Caller> Worker<'_, C> {
         }
     }
 
-    fn get(&mut self) {
+    fn load(&mut self) {
         let found = self.place().load(SeqCst);
         if let Some(key) = key_at(found) {
-            self.caller.get(key);
+            self.caller.load(key);
         }
     }
 
-    fn get_remembered(&mut self) {
+    fn load_remembered(&mut self) {
         if self.remembered.is_empty() {
             return;
         }
         let Remembered { key, value } = self.remembered[self.dice.below(self.remembered.len() as u64) as usize];
         self.counts.by_remembered += 1;
-        self.counts.of_another += u64::from(self.caller.get(key).is_some_and(|found| found != value));
+        self.counts.of_another += u64::from(self.caller.load(key).is_some_and(|found| found != value));
     }
 
     fn work(mut self, operations: u64) -> Counts {
@@ -94,8 +94,8 @@ impl<C: Caller> Worker<'_, C> {
             match self.dice.below(100) {
                 0..=49 => self.replace(),
                 50..=54 => self.remove(),
-                55..=69 => self.get(),
-                _ => self.get_remembered(),
+                55..=69 => self.load(),
+                _ => self.load_remembered(),
             }
         }
         self.counts
@@ -123,7 +123,7 @@ pub fn play<C: Caller>(callers: Vec<C>, operations: u64) -> String {
     });
     let all = |count: fn(&Counts) -> u64| counts.iter().map(count).sum::<u64>();
     format!(
-        "; {} of {} gets by a remembered key returned another value\n",
+        "; {} of {} loads by a remembered key returned another value\n",
         all(|counts| counts.of_another),
         all(|counts| counts.by_remembered)
     )

@@ -12,7 +12,7 @@ fn inserts_until_again(caller: &mut impl Caller, most: u64) -> Option<u64> {
         }
         key == old
     });
-    caller.get(old);
+    caller.load(old);
     again
 }
 

@@ -1,5 +1,5 @@
 //! Several keys that one call loads.
-use super::codes::{BAD_KEY, CROWDED, EMPTY, GONE, HOLDS_FULL, OK};
+use super::codes::{BAD_KEY, EMPTY, GONE, HOLDS_FULL, OK};
 use super::{agree, ended, given, left, opened, owner, stored, taken};
 use crate::batches::{Loaded, shardheap_raw_load_each};
 use crate::calls::{shardheap_raw_get, shardheap_raw_release, shardheap_raw_remove};
@@ -46,7 +46,7 @@ fn an_empty_handle_loads_nothing(rt: HostRuntime) {
     ended(alloc, pass);
 }
 
-// A number that is no key, a removed key and one with four holds stop no other load.
+// A number that is no key and a removed key stop no other load. One with four holds, as many as it may have, is loaded.
 fn each_has_its_code(
     rt: &impl Abort,
     alloc: Global,
@@ -72,7 +72,7 @@ fn each_has_its_code(
     is_refused(rt, &batch[0], 0, BAD_KEY);
     is_loaded(rt, &batch[1], one, 7);
     is_refused(rt, &batch[2], gone, GONE);
-    is_refused(rt, &batch[3], held, CROWDED);
+    is_loaded(rt, &batch[3], held, 8);
     is_loaded(rt, &batch[4], last, 9);
 }
 
@@ -87,31 +87,37 @@ fn each_load_has_its_code(rt: HostRuntime) {
     given(&rt, alloc, other);
 }
 
-// Nine loads, one more than a block has. With sixteen holds each is refused, and with fifteen none.
+// A load of the key, and of that of the next slot, which was not issued: that load goes on to a get.
+fn next_is_refused(rt: &impl Abort, alloc: Global, pass: &mut PassHandle, key: u64, code: u32) {
+    let next = key.wrapping_add(1);
+    let mut batch = [wanted(next), wanted(key)];
+    agree(rt, shardheap_raw_load_each(alloc, pass, &mut batch), OK);
+    is_refused(rt, &batch[0], next, code);
+    is_loaded(rt, &batch[1], key, 7);
+}
+
+// Nine loads, one more than a block has, by a pass that has sixteen holds.
 fn nine_loads(rt: &impl Abort, alloc: Global, pass: &mut PassHandle) {
-    let key = stored(rt, alloc, pass, &[7, 8]);
-    let mut held = 0;
+    let mut key = 0;
     for _ in 0..4 {
-        held = stored(rt, alloc, pass, &[6, 8]);
+        key = stored(rt, alloc, pass, &[7, 8]);
         for _ in 0..4 {
-            agree(rt, shardheap_raw_get(alloc, pass, held), OK);
+            agree(rt, shardheap_raw_get(alloc, pass, key), OK);
         }
     }
     let mut batch = [wanted(key); 9];
     agree(rt, shardheap_raw_load_each(alloc, pass, &mut batch), OK);
     for load in &batch {
-        is_refused(rt, load, key, HOLDS_FULL);
-    }
-    agree(rt, shardheap_raw_release(alloc, pass, held), OK);
-    agree(rt, shardheap_raw_load_each(alloc, pass, &mut batch), OK);
-    for load in &batch {
         is_loaded(rt, load, key, 7);
     }
+    next_is_refused(rt, alloc, pass, key, HOLDS_FULL);
+    agree(rt, shardheap_raw_release(alloc, pass, key), OK);
+    next_is_refused(rt, alloc, pass, key, GONE);
     agree(rt, shardheap_raw_load_each(alloc, pass, &mut []), OK);
 }
 
 #[test]
-fn a_batch_of_two_blocks_needs_one_hold(rt: HostRuntime) {
+fn a_batch_needs_no_hold(rt: HostRuntime) {
     let alloc = rt.alloc();
     let mut heap = opened(&rt, alloc, 1, 1);
     let mut pass = owner(&rt, alloc, &mut heap, 0);

@@ -42,11 +42,16 @@ fn take_value(alloc: Global, pass: &mut PassHandle, key: u64, room: usize) -> (u
     (code, (words, length))
 }
 
-// A get, a load and the taking of a value are refused with this code, and write nothing.
+// A get and the taking of a value are refused with this code, and write nothing.
 fn is_not_got(rt: &impl Abort, alloc: Global, pass: &mut PassHandle, key: u64, wanted: u32) {
     agree(rt, shardheap_raw_get(alloc, pass, key), wanted);
-    agree(rt, load(alloc, pass, key, 4), (wanted, NOTHING));
     agree(rt, take_value(alloc, pass, key, 4), (wanted, NOTHING));
+}
+
+// The same, and a load is refused with it too.
+fn is_not_found(rt: &impl Abort, alloc: Global, pass: &mut PassHandle, key: u64, wanted: u32) {
+    is_not_got(rt, alloc, pass, key, wanted);
+    agree(rt, load(alloc, pass, key, 4), (wanted, NOTHING));
 }
 
 // The pass has no hold on the key.
@@ -59,7 +64,7 @@ fn is_not_held(rt: &impl Abort, alloc: Global, pass: &mut PassHandle, key: u64) 
 fn an_empty_handle_has_no_keys(rt: HostRuntime) {
     let alloc = rt.alloc();
     let mut pass = PassHandle::empty(alloc);
-    is_not_got(&rt, alloc, &mut pass, 4_096, EMPTY);
+    is_not_found(&rt, alloc, &mut pass, 4_096, EMPTY);
     agree(&rt, read(alloc, &mut pass, 4_096, 4), (EMPTY, NOTHING));
     agree(&rt, shardheap_raw_release(alloc, &mut pass, 4_096), EMPTY);
     agree(&rt, shardheap_raw_remove(alloc, &mut pass, 4_096), EMPTY);
@@ -72,11 +77,11 @@ const NO_KEYS: [u64; 6] = [0, 4_095, 4_608, 5_120, 16_384, u64::MAX];
 // Numbers that are no keys, and a key that nobody was given: generation 2 of the first slot.
 fn strange_keys(rt: &impl Abort, alloc: Global, pass: &mut PassHandle) {
     for key in &NO_KEYS {
-        is_not_got(rt, alloc, pass, *key, BAD_KEY);
+        is_not_found(rt, alloc, pass, *key, BAD_KEY);
         agree(rt, shardheap_raw_remove(alloc, pass, *key), BAD_KEY);
         is_not_held(rt, alloc, pass, *key);
     }
-    is_not_got(rt, alloc, pass, 8_192, GONE);
+    is_not_found(rt, alloc, pass, 8_192, GONE);
     agree(rt, shardheap_raw_remove(alloc, pass, 8_192), GONE);
 }
 
@@ -97,12 +102,14 @@ fn rooms(rt: &impl Abort, alloc: Global, pass: &mut PassHandle, key: u64) {
     is_not_held(rt, alloc, pass, key);
 }
 
-// A key may have four holds in this layout.
+// A key may have four holds in this layout. A load needs no room for one more.
 fn holds(rt: &impl Abort, alloc: Global, pass: &mut PassHandle, key: u64) {
     for _ in 0..4 {
         agree(rt, shardheap_raw_get(alloc, pass, key), OK);
     }
     is_not_got(rt, alloc, pass, key, CROWDED);
+    let loaded = (OK, ([7, 8, 9, 5], 3));
+    agree(rt, load(alloc, pass, key, 4), loaded);
     for _ in 0..4 {
         agree(rt, shardheap_raw_release(alloc, pass, key), OK);
     }
@@ -113,8 +120,8 @@ fn holds(rt: &impl Abort, alloc: Global, pass: &mut PassHandle, key: u64) {
 fn removed(rt: &impl Abort, alloc: Global, one: &mut PassHandle, other: &mut PassHandle, key: u64) {
     agree(rt, shardheap_raw_get(alloc, other, key), OK);
     agree(rt, shardheap_raw_remove(alloc, one, key), OK);
-    is_not_got(rt, alloc, one, key, GONE);
-    is_not_got(rt, alloc, other, key, GONE);
+    is_not_found(rt, alloc, one, key, GONE);
+    is_not_found(rt, alloc, other, key, GONE);
     agree(rt, shardheap_raw_remove(alloc, one, key), GONE);
     agree(rt, shardheap_raw_remove(alloc, other, key), GONE);
     agree(rt, read(alloc, other, key, 4), (OK, ([7, 8, 9, 5], 3)));
@@ -131,13 +138,13 @@ fn value_taken(rt: &impl Abort, alloc: Global, one: &mut PassHandle, other: &mut
         take_value(alloc, other, key, 4),
         (OK, ([6, 5, 5, 5], 1)),
     );
-    is_not_got(rt, alloc, other, key, GONE);
+    is_not_found(rt, alloc, other, key, GONE);
     is_not_held(rt, alloc, other, key);
     agree(rt, read(alloc, one, key, 1), (OK, ([6, 5, 5, 5], 1)));
     agree(rt, shardheap_raw_release(alloc, one, key), OK);
     let none = stored(rt, alloc, one, &[]);
     agree(rt, take_value(alloc, other, none, 0), (OK, (BLANK, 0)));
-    is_not_got(rt, alloc, one, none, GONE);
+    is_not_found(rt, alloc, one, none, GONE);
 }
 
 #[test]
@@ -169,7 +176,8 @@ fn four_holds(rt: &impl Abort, alloc: Global, pass: &mut PassHandle) -> u64 {
     key
 }
 
-// A pass may have sixteen holds. One of them less, and it may load again.
+// A pass may have sixteen holds. A load needs no room for one more, except of a key that was not issued, such as that
+// of the next slot: it goes on to a get.
 fn all_holds(rt: &impl Abort, alloc: Global, pass: &mut PassHandle) {
     for _ in 0..3 {
         four_holds(rt, alloc, pass);
@@ -177,8 +185,11 @@ fn all_holds(rt: &impl Abort, alloc: Global, pass: &mut PassHandle) {
     let held = four_holds(rt, alloc, pass);
     let key = stored(rt, alloc, pass, &[8]);
     is_not_got(rt, alloc, pass, key, HOLDS_FULL);
-    agree(rt, shardheap_raw_release(alloc, pass, held), OK);
     agree(rt, load(alloc, pass, key, 1), (OK, ([8, 5, 5, 5], 1)));
+    let next = key.wrapping_add(1);
+    is_not_found(rt, alloc, pass, next, HOLDS_FULL);
+    agree(rt, shardheap_raw_release(alloc, pass, held), OK);
+    is_not_found(rt, alloc, pass, next, GONE);
 }
 
 #[test]

@@ -27,7 +27,8 @@ use c_handles::{HeapHandle, PassHandle};
 use std::alloc::Global;
 use std::process::Abort;
 
-// The first key of a chunk: generation 1 of the first slot of the first page.
+// The first key of a chunk: generation 1 of the first slot of the first page. So it is also by how much the keys of two
+// generations of a slot differ.
 const FIRST_KEY: u64 = 16_777_216;
 
 // Opens a heap of at most three chunks.
@@ -134,7 +135,8 @@ fn inserts_open_chunks(rt: HostRuntime) {
     given(&rt, alloc, other);
 }
 
-// A hold, a read by it and its release, and the taking of a value.
+// As many holds as a pass may have, a read by one of them, and their release. A load needs no room for one more, except
+// of a key that was not issued, such as the next one of the slot: it goes on to a get.
 fn is_held(rt: &impl Abort, alloc: Global, pass: &mut PassHandle, key: u64, value: u64) {
     let (mut words, mut length) = ([5; 2], 99);
     let code = shardheap_raw_read(alloc, pass, key, &mut words[..2], &mut length);
@@ -144,6 +146,10 @@ fn is_held(rt: &impl Abort, alloc: Global, pass: &mut PassHandle, key: u64, valu
         agree(rt, shardheap_raw_get(alloc, pass, key), OK);
     }
     agree(rt, shardheap_raw_get(alloc, pass, key), HOLDS_FULL);
+    has(rt, alloc, pass, key, value);
+    let next = key.wrapping_add(FIRST_KEY);
+    let code = shardheap_raw_load(alloc, pass, next, &mut words[..2], &mut length);
+    agree(rt, (code, words, length), (HOLDS_FULL, [5, 5], 99));
     let code = shardheap_raw_read(alloc, pass, key, &mut words[..2], &mut length);
     agree(rt, (code, words, length), (OK, [value, 5], 1));
     for _ in 0..16 {

@@ -45,6 +45,8 @@ use Rattle.sh_core.proofs.Slots.SlotSums.{visits_few}
 use Rattle.sh_core.proofs.Kept.HoldsInBound.{HoldsInBound, holds_move, holds_open}
 use Rattle.sh_core.proofs.Clauses.KeyHolds.{holds_few}
 use Rattle.sh_core.proofs.Kept.Flags.{FlagsAlone, flags_move, flags_open, flagged_empty}
+use Rattle.sh_core.specs.Looks.{LooksAreTrue}
+use Rattle.sh_core.proofs.Kept.Looks.{looks_move, looks_open}
 use Rattle.sh_core.proofs.Kept.WordNotes.{WordNotesStand, words_move, words_open, notes}
 use Rattle.sh_core.proofs.Sums.Totals.{total_length}
 use Rattle.sh_core.proofs.Sums.ClassSlots.{class_room}
@@ -72,6 +74,8 @@ pub record Invariant (plan : Plan) (w : World) (l : PutLists) : Type 0 where
   -- what was read of keys, and of their values word by word
   pub notes : AllReadsAgree plan w
   pub words : WordNotesStand w
+  -- what looks have read of keys that they do not hold
+  pub looks : LooksAreTrue plan w
   pub places : AllInHeap plan w
   pub holds : HoldsInBound plan w
   pub retired : RetiredIsLast plan w
@@ -88,7 +92,7 @@ kept_move : (plan : Plan) → Lawful plan → (w : World) (l : PutLists) (a : �
     → (let r : Row = row_of plan p m in Invariant plan (apply w a r) (lists_after plan p m (read w.words r.place) l))
 kept_move plan laws w l a p m k at may =
     let old : Agreement plan w l = agreement plan w l k in
-    let new = all_move plan w l a p laws old at m may in
+    let new = all_move plan w l a p laws old (k.looks a p at) at m may in
     let last = last_move plan w l a p m old (moves_count plan w l laws old k.notes k.places a p at) at may
     (record { retired = k.retired; entries = k.entries }) in record {
       sums = new.sums;
@@ -96,6 +100,7 @@ kept_move plan laws w l a p m k at may =
       bounds = new.bounds;
       notes = reads_move plan w l a p m old k.notes at may;
       words = words_move plan w l a p m old k.notes at may k.words;
+      looks = looks_move plan w l a p m old k.looks at may;
       places = places_move plan w a p m (λ q s. (k.bounds.generations q s).1) at may k.places;
       holds = holds_move plan w l a p m k.sums at may k.holds;
       retired = last.retired;
@@ -154,6 +159,7 @@ module _ (plan : Plan) (w : World) (l : PutLists) (laws : Lawful plan) (kept : I
     held = held_keys plan w l all kept.notes;
     reads = reads plan w l all kept.notes;
     notes = notes plan w l all kept.notes kept.words;
+    looks = kept.looks;
     holds = holds_told plan w l all;
     counted = counted plan w l all;
     few = few;
@@ -199,6 +205,7 @@ theorem layout shape a b c es =
       bounds = opened.bounds;
       notes = reads_open plan;
       words = words_open plan;
+      looks = looks_open plan;
       places = places_open plan;
       holds = holds_open plan;
       retired = last.retired;

@@ -32,6 +32,8 @@ module _ (plan : Plan) (p : Body) (q : ℕ) (is : p.hand ≡ Ringing q) where
   only_rings (move.Put x) may = absurd (let z : ⊥ = cc in z)
   only_rings (move.Tie x l r) may = absurd (let z : ⊥ = cc in z)
   only_rings (move.RingTie r l) may = absurd (let z : ⊥ = cc in z)
+  only_rings (move.LookOn k x s) may = let hand = may.0 in absurd (let z : ⊥ = cc in z)
+  only_rings (move.LookAgain k x s) may = let hand = may.0 in absurd (let z : ⊥ = cc in z)
   -- each other asks for an idle hand
   only_rings m may = idle (assumption may)
 

@@ -6,11 +6,14 @@ use Rattle.sh_shape.specs.declared.places.Place.TheVariants.{Class, Head, PageLi
 use Rattle.sh_shape.specs.declared.places.Place.TheVariants.{Bell}
 use Rattle.sh_step.specs.declared.body.Body.{Body}
 use Rattle.sh_step.specs.declared.moves.Move.{Move}
-use Rattle.sh_step.specs.declared.moves.Move.TheVariants.{Take, Put, PutSlot, Arm}
+use Rattle.sh_step.specs.declared.moves.Move.TheVariants.{Take, Put, PutSlot, Arm, LookOn}
 use Rattle.sh_step.specs.Moves.{row_of}
 use Rattle.sh_step.specs.Operations.{operate}
 use Rattle.sh_step.specs.Plans.{Plan}
-use Rattle.sh_step.specs.Rows.{Row}
+use Rattle.sh_step.specs.Rows.{Row, look_place}
+use Rattle.sh_slots.specs.declared.hand.KeyRef.{KeyRef}
+use Rattle.sh_slots.specs.declared.hand.Sight.{Sight}
+use Rattle.sh_slots.specs.declared.hand.Sight.TheVariants.{Bare, Classed, Measured}
 use Rattle.sh_core.specs.Words.{Words, read, write}
 use Rattle.sh_core.specs.Worlds.{World, open_world, apply}
 use Rattle.sh_core.specs.Lists.{PutLists}
@@ -56,11 +59,17 @@ module _ (plan : Plan) (w : Words) (p : Body) where
   abbrev RowWritesAlone : Row → Type 0
   RowWritesAlone m = WritesAlone m.place (operate m.operation (read w m.place))
 
+  look_writes_alone : (x : KeyRef) (s : Sight) → WritesAlone (look_place x s) (read w (look_place x s))
+  look_writes_alone x Bare = tt
+  look_writes_alone x (Classed c) = tt
+  look_writes_alone x (Measured c m u) = tt
+
   row_writes_alone : (m : Move) → RowWritesAlone (row_of plan p m)
   row_writes_alone (Take q) = zero_alone
   row_writes_alone (Put x) = put_alone x.slot
   row_writes_alone (PutSlot x) = put_alone x.slot
   row_writes_alone (Arm q) = λ _. refl
+  row_writes_alone (LookOn k x s) = look_writes_alone x s
   row_writes_alone m = tt
 
 pub flags_move : (plan : Plan) (w : World) (a : ℕ) (p : Body) (m : Move) → FlagsAlone w

@@ -26,9 +26,14 @@ use Rattle.sh_core.specs.Refines.{RetiredIsLast, EntriesAreOurs}
 use Rattle.std.proofs.lemmas.Option.{slice_get_within}
 use Rattle.sh_core.proofs.Slots.MarkStep.{is_current}
 use Rattle.sh_step.specs.declared.moves.Move.{Move}
-use Rattle.sh_step.specs.declared.moves.Move.TheVariants.{EnterGet, EnterRemove, Mark, Drop, DropHold, Finish, Publish}
+use Rattle.sh_step.specs.declared.moves.Move.TheVariants.{EnterGet, EnterRemove, Mark, Drop, DropHold, Finish}
+use Rattle.sh_step.specs.declared.moves.Move.TheVariants.{Publish, Look}
+use Rattle.sh_step.specs.declared.moves.Move.TheVariants.{LookOn, LookAgain, Peek}
 use Rattle.sh_step.specs.Moves.{row_of}
-use Rattle.sh_step.specs.Rows.{Row, hand}
+use Rattle.sh_step.specs.Rows.{Row, hand, look_place}
+use Rattle.sh_slots.specs.declared.hand.KeyRef.{KeyRef}
+use Rattle.sh_slots.specs.declared.hand.Sight.{Sight}
+use Rattle.sh_slots.specs.declared.hand.Sight.TheVariants.{Bare, Classed, Measured}
 use Rattle.sh_step.specs.Conditions.{May}
 use Rattle.sh_core.proofs.Moves.ByMove.{MovesCount}
 use Rattle.std.proofs.lemmas.Bool.{and_parts}
@@ -94,6 +99,11 @@ module _ (plan : Plan) (w : World) (l : PutLists) (all : Agreement plan w l) (a 
   drop_last : (n : ℕ) → 1 ≤ (fields_of n).count → LastWord plan n → LastWord plan (n - 1)
   drop_last n some h = same_but plan n (n - 1) ((fields_of n).count - 1) (fields_of-sub n (omega arith)) h
 
+  look_writes : (x : KeyRef) (s : Sight) → WritesLast plan (look_place x s) (read w.words (look_place x s))
+  look_writes x Bare = tt
+  look_writes x (Classed c) = tt
+  look_writes x (Measured c m u) = tt
+
   -- only Finish writes a retired word; Mark finds a slot that is present
   row_writes_last : (m : Move) → May plan p m → RowWritesLast plan w.words (row_of plan p m)
   row_writes_last (EnterGet k x) may = enter_last (w.words.state_at x.page x.slot) (counts (EnterGet k x) may)
@@ -117,6 +127,10 @@ module _ (plan : Plan) (w : World) (l : PutLists) (all : Agreement plan w l) (a 
       λ none some. absurd (let f : (fields_of (bit_or n (2 ^ 30))).present
       ≡ true = ap (λ (f : Fields). f.present) (fields_of-or_present n) in let z : true ≡ false = sym f ∙ none
       in cc)
+  row_writes_last (Peek x) may = old x.page x.slot
+  row_writes_last (Look k x) may = old x.page x.slot
+  row_writes_last (LookOn k x s) may = look_writes x s
+  row_writes_last (LookAgain k x s) may = old x.page x.slot
   row_writes_last m may = tt
 
 -- ---- entries
@@ -128,6 +142,7 @@ of_its_pass a v (reply.Gone k) = refl
 of_its_pass a v (reply.Crowded k) = refl
 of_its_pass a v (reply.Removed k) = refl
 of_its_pass a v (reply.Released k) = refl
+of_its_pass a v (reply.Seen k u) = refl
 
 pub joined_ours : (passes a : ℕ) (v : List ℕ) (o : Option Reply) (es : List Entry) → a < passes
     → Each (λ e. pass_of e < passes) es → Each (λ e. pass_of e < passes) (joined es (entry_of a v o))

@@ -1,5 +1,8 @@
 -- Each action whose condition holds steps on a place of the heap, and no count leaves its range.
 use Rattle.std.proofs.Common.{◌≡◌, ℕ, zero, suc, ◌+◌, ◌-◌, ◌*◌, ◌/◌, ◌<◌, ◌≤◌, ◌==◌, true, List, length, drop, refl}
+use Rattle.std.proofs.Common.{◌&&◌, Bool, false}
+use Rattle.std.specs.Prelude.{not, nat_lt}
+use Rattle.std.proofs.lemmas.Bool.Decides.{nat_tests}
 use Rattle.std.proofs.Common.{sym, ap, ◌∙◌, subst, arith, Option, Some, None, slice_get, eqb-true, eq-eqb}
 use Rattle.std.proofs.Math.Nat.{div-lt_iff_lt-mul}
 use Rattle.sh_step.specs.Fields.{fields_of}
@@ -9,7 +12,9 @@ use Rattle.sh_slots.specs.declared.hand.SlotRef.{SlotRef}
 use Rattle.sh_slots.specs.declared.hand.KeyRef.{KeyRef}
 use Rattle.sh_slots.specs.declared.hand.Hand.{Hand}
 use Rattle.sh_slots.specs.declared.hand.Hand.TheVariants.{Removing, Leaving, Finishing, ToPut, Tying, Ringing}
-use Rattle.sh_slots.specs.declared.hand.Hand.TheVariants.{RingTying, Filling}
+use Rattle.sh_slots.specs.declared.hand.Hand.TheVariants.{RingTying, Filling, Looking}
+use Rattle.sh_slots.specs.declared.hand.Sight.{Sight}
+use Rattle.sh_slots.specs.declared.hand.Sight.TheVariants.{Bare, Classed, Measured}
 use Rattle.sh_slots.specs.Slots.{slot_ref_of, same_slot}
 use Rattle.sh_step.specs.declared.body.Body.{Body}
 use Rattle.sh_step.specs.Collections.{if1, has, noted}
@@ -30,11 +35,12 @@ use Rattle.sh_step.specs.declared.moves.Move.{Move}
 use Rattle.sh_step.specs.declared.moves.Move.TheVariants.{EnterGet, EnterRemove, Mark, Drop, DropHold, Finish, FillSlot}
 use Rattle.sh_step.specs.declared.moves.Move.TheVariants.{Fill, Publish, ReadClass, ReadLength, ReadWord, ReadPage}
 use Rattle.sh_step.specs.declared.moves.Move.TheVariants.{SetClass, Take, Follow, Put, PutSlot, Tie, Adopt, Leave, Arm}
-use Rattle.sh_step.specs.declared.moves.Move.TheVariants.{Ring, RingTie, TakeBell, FollowBell}
+use Rattle.sh_step.specs.declared.moves.Move.TheVariants.{Ring, RingTie, TakeBell, FollowBell, Look, LookOn, LookAgain}
+use Rattle.sh_step.specs.declared.moves.Move.TheVariants.{Peek}
 use Rattle.sh_step.specs.Moves.{row_of}
 use Rattle.sh_step.specs.Plans.{Plan, Lawful, heap_pages, shard_of}
-use Rattle.sh_step.specs.Rows.{class_word_noted}
-use Rattle.sh_step.specs.Conditions.{May}
+use Rattle.sh_step.specs.Rows.{class_word_noted, is_read, look_place, payload_word}
+use Rattle.sh_step.specs.Conditions.{May, Named}
 use Rattle.sh_core.proofs.Moves.ByMove.{MovesCount, by_move}
 use Rattle.sh_core.proofs.Sums.Tests.{if1_self}
 use Rattle.sh_core.proofs.Sums.ListCounts.{a_first, times_cons, noted_at}
@@ -81,6 +87,23 @@ module _ (plan : Plan) (w : World) (l : PutLists) (laws : Lawful plan) (all : Ag
       let f = all.sums.slots x in
       let r = room_placed plan w.words x all.bounds (omega arith) in
       rw fine.class_is (slot_words_fit_page (w.words.class_at x.page - 1) x.slot i r.1 (omega arith))
+
+  -- what a look loads next
+  look_placed : (k : ℕ) (x : KeyRef) (s : Sight) → Named plan k x → is_read x s ≡ false
+      → HasPlace plan (look_place x s)
+  look_placed k x Bare named more = named.page
+  look_placed k x (Classed c) named more = (named.page, named.slot)
+  look_placed k x (Measured c m u) named more =
+      (named.page, go (nat_lt (length u) m) (nat_lt (length u) 16) (nat_lt i 48) refl more)
+    where
+      i : ℕ
+      i = payload_word x.slot c (length u)
+
+      go : (a b d : Bool) → nat_lt i 48 ≡ d → not (a && b && d) ≡ false → i < 48
+      go true true true e h = grind (arith, nat_tests)
+      go true true false e h = absurd (let z : true ≡ false = h in cc)
+      go true false d e h = absurd (let z : true ≡ false = h in cc)
+      go false b d e h = absurd (let z : true ≡ false = h in cc)
 
   -- a page on a bell, or on its chain, is one of the heap
   pub belled : (n q : ℕ) → 0 < times q (l.bells n) + times q (l.bell_chain n) → q < heap_pages plan
@@ -135,6 +158,12 @@ module _ (plan : Plan) (w : World) (l : PutLists) (laws : Lawful plan) (all : Ag
   place_of a p (ReadLength k x) at (idle, named, is) = (named.page, named.slot)
   place_of a p (ReadWord k x c i) at (n, idle, named, width_is, length_is, is, less) =
       (named.page, (reads plan w l all know a p k x c n i at named.unpacks width_is length_is less).2)
+  place_of a p (Peek x) at (idle, inside) = inside
+  place_of a p (Look k x) at (idle, named) = (named.page, named.slot)
+  place_of a p (LookOn k x s) at (is, more) =
+      look_placed k x s (hand_within plan p (Looking k x s) (within a p at) is) more
+  place_of a p (LookAgain k x s) at (is, ends) =
+      let named = hand_within plan p (Looking k x s) (within a p at) is in (named.page, named.slot)
   place_of a p (ReadPage q) at (idle, inside, mine) = inside
   place_of a p (SetClass q c) at may = may.2
   place_of a p (Take q) at may = may.1

@@ -11,7 +11,7 @@ use Rattle.sh_slots.specs.declared.hand.KeyRef.{KeyRef}
 use Rattle.sh_slots.specs.declared.hand.Hand.TheVariants.{Finishing, ToPut, Ringing, Filling}
 use Rattle.sh_slots.specs.declared.reply.Reply.{Reply}
 use Rattle.sh_slots.specs.declared.reply.Reply.TheVariants as reply
-use Rattle.sh_slots.specs.Slots.{live_at, name_at, reusable_word, retired_word}
+use Rattle.sh_slots.specs.Slots.{live_at, past_at, name_at, reusable_word, retired_word, value_seen}
 use Rattle.sh_step.specs.declared.body.Body.{Body}
 use Rattle.sh_step.specs.Operations.{StoresWord}
 use Rattle.sh_step.specs.Rows.{Row, publish}
@@ -21,7 +21,8 @@ use Rattle.sh_core.specs.Refines.{FillsAreKeys}
 use Rattle.sh_core.specs.InHeap.{AllInHeap, StoresWords, IssuesKeys}
 use Rattle.sh_step.specs.declared.moves.Move.{Move}
 use Rattle.sh_step.specs.declared.moves.Move.TheVariants.{EnterGet, EnterRemove, Mark, Finish, Publish, Take, Follow}
-use Rattle.sh_step.specs.declared.moves.Move.TheVariants.{Put, PutSlot, Adopt, Arm, Ring, TakeBell, FollowBell}
+use Rattle.sh_step.specs.declared.moves.Move.TheVariants.{Put, PutSlot, Adopt, Arm, Ring, TakeBell, FollowBell, Look}
+use Rattle.sh_step.specs.declared.moves.Move.TheVariants.{LookAgain}
 use Rattle.sh_step.specs.Moves.{row_of}
 use Rattle.sh_step.specs.Plans.{Plan, Lawful, heap_pages, local}
 use Rattle.sh_step.specs.Conditions.{May}
@@ -43,9 +44,17 @@ remove_issues_none : (k : ℕ) (a : Bool) → issues (cond a None (Some (reply.G
 remove_issues_none k true = refl
 remove_issues_none k false = refl
 
+past_issues_none : (k : ℕ) (a : Bool) → issues (cond a (Some (reply.Gone k)) None) ≡ false
+past_issues_none k true = refl
+past_issues_none k false = refl
+
 mark_issues_none : (k : ℕ) (a : Bool) → issues (Some (cond a (reply.Gone k) (reply.Removed k))) ≡ false
 mark_issues_none k true = refl
 mark_issues_none k false = refl
+
+look_issues_none : (k : ℕ) (v : List ℕ) (a : Bool) → issues (Some (cond a (reply.Seen k v) (reply.Gone k))) ≡ false
+look_issues_none k v true = refl
+look_issues_none k v false = refl
 
 -- the generation is in the upper half of a state word
 word_small : (g : ℕ) (a b : Bool) → g < 2 ^ 32 → word_of (record { generation = g; marked = a; present = b; count = 0 })
@@ -135,6 +144,10 @@ module _ (plan : Plan) (w : World) (laws : Lawful plan) (fills : FillsAreKeys pl
   issued a p (Mark k x) at may = λ j u q s r d. nothing _ j u (mark_issues_none k
       (fields_of (w.words.state_at x.page x.slot)).marked) r
   issued a p (Publish x v) at (i, is, end) = published a p x v i at is
+  issued a p (Look k x) at may = λ j u q s r d. nothing _ j u (past_issues_none k
+      (past_at x.generation (w.words.state_at x.page x.slot))) r
+  issued a p (LookAgain k x s) at may = λ j u q t r d. nothing _ j u (look_issues_none k (value_seen s)
+      (live_at x.generation (w.words.state_at x.page x.slot))) r
   issued a p m at may = λ j u q s r d. nothing ((row_of plan p m).reply (read w.words (row_of plan p m).place)) j u
       refl r
 

@@ -5,7 +5,7 @@ use Rattle.std.specs.Prelude.{not, nat_lt}
 use Rattle.sh_step.specs.Fields.{fields_of}
 use Rattle.sh_slots.specs.declared.hand.SlotRef.{SlotRef}
 use Rattle.sh_slots.specs.declared.hand.Hand.{Hand}
-use Rattle.sh_slots.specs.Slots.{slot_ref_of, live_at, after_drop, marked_word}
+use Rattle.sh_slots.specs.Slots.{slot_ref_of, live_at, after_drop, marked_word, sight_with}
 use Rattle.sh_step.specs.declared.body.Body.{Body}
 use Rattle.sh_step.specs.Collections.{if1, without}
 use Rattle.sh_core.specs.Worlds.{World, apply, open_world}
@@ -17,13 +17,14 @@ use Rattle.sh_core.specs.InHeap.{InHeap, HandWithin, AllInHeap}
 use Rattle.sh_core.proofs.Sums.Totals.{get_set}
 use Rattle.sh_core.proofs.Clauses.OpenSums.{part_new}
 use Rattle.sh_slots.specs.declared.hand.Hand.TheVariants.{Idle, Removing, Leaving, Finishing, ToPut, Tying, Ringing}
-use Rattle.sh_slots.specs.declared.hand.Hand.TheVariants.{RingTying, Filling}
+use Rattle.sh_slots.specs.declared.hand.Hand.TheVariants.{RingTying, Filling, Looking}
+use Rattle.sh_slots.specs.declared.hand.Sight.TheVariants.{Bare}
 use Rattle.sh_step.specs.Stack.{link_over}
 use Rattle.sh_step.specs.Bell.{is_armed, top_of}
 use Rattle.sh_step.specs.declared.moves.Move.{Move}
 use Rattle.sh_step.specs.declared.moves.Move.TheVariants.{EnterGet, EnterRemove, Mark, Drop, DropHold, Finish, FillSlot}
 use Rattle.sh_step.specs.declared.moves.Move.TheVariants.{Fill, Publish, Take, Follow, Put, PutSlot, Tie, Adopt, Leave}
-use Rattle.sh_step.specs.declared.moves.Move.TheVariants.{Arm, Ring, RingTie, FollowBell}
+use Rattle.sh_step.specs.declared.moves.Move.TheVariants.{Arm, Ring, RingTie, FollowBell, Look, LookOn, LookAgain}
 use Rattle.sh_step.specs.Moves.{row_of}
 use Rattle.sh_step.specs.Plans.{Plan, heap_pages}
 use Rattle.sh_step.specs.Rows.{Row, own, hand as in_hand}
@@ -131,6 +132,13 @@ module _ (plan : Plan) (p : Body) (old : InHeap plan p) where
     owned = old.owned;
     armed = λ k some. let l = times_less q k p.armed in old.armed k (omega arith);
   })
+  within_part (Look k x) (idle, named) n f = go (live_at x.generation n) where
+    go : (b : Bool) → InHeap plan (in_hand p (cond b (Looking k x Bare) Idle))
+    go true = with_hand (Looking k x Bare) named
+    go false = with_hand Idle tt
+  within_part (LookOn k x s) (is, more) n f = with_hand (Looking k x (sight_with s n))
+      (hand_within plan p (Looking k x s) old is)
+  within_part (LookAgain k x s) may n f = with_hand Idle tt
   within_part m may n f = record { hand = old.hand; owned = old.owned; armed = old.armed }
 
 -- of what is read there

@@ -58,7 +58,7 @@ pub length-words : (f : ℕ → ℕ) (i n : ℕ) → length (words_from f i n) �
 length-words f i zero = refl
 length-words f i (suc n) = ap suc (length-words f (i + 1) n)
 
-get-words : (f : ℕ → ℕ) (i n j : ℕ) → j < n → get_or (words_from f i n) j 0 ≡ f (i + j)
+pub get-words : (f : ℕ → ℕ) (i n j : ℕ) → j < n → get_or (words_from f i n) j 0 ≡ f (i + j)
 get-words f i zero j h = absurd (omega arith)
 get-words f i (suc n) zero h = ap f (omega arith)
 get-words f i (suc n) (suc j) h = get-words f (i + 1) n j (omega arith) ∙ ap f (omega arith)

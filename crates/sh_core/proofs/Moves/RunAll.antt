@@ -2,13 +2,14 @@
 use Rattle.std.proofs.Common.{◌≡◌, ℕ, ◌==◌, cond, drop, sym, refl, ap, ◌∙◌, subst, Option, Some, None, slice_get}
 use Rattle.sh_slots.specs.declared.hand.Hand.{Hand}
 use Rattle.sh_slots.specs.declared.hand.Hand.TheVariants.{Idle, Removing, Leaving, Finishing, ToPut, Tying, Ringing}
-use Rattle.sh_slots.specs.declared.hand.Hand.TheVariants.{RingTying, Filling}
+use Rattle.sh_slots.specs.declared.hand.Hand.TheVariants.{RingTying, Filling, Looking}
 use Rattle.sh_step.specs.declared.body.Body.{Body}
 use Rattle.sh_step.specs.declared.moves.Move.{Move}
 use Rattle.sh_step.specs.declared.moves.Move.TheVariants.{EnterGet, EnterRemove, Mark, Drop, DropHold, Finish, FillSlot}
 use Rattle.sh_step.specs.declared.moves.Move.TheVariants.{Fill, Publish, ReadClass, ReadLength, ReadWord, ReadPage}
 use Rattle.sh_step.specs.declared.moves.Move.TheVariants.{SetClass, Take, Follow, Put, PutSlot, Tie, Adopt, Leave, Arm}
-use Rattle.sh_step.specs.declared.moves.Move.TheVariants.{Ring, RingTie, TakeBell, FollowBell}
+use Rattle.sh_step.specs.declared.moves.Move.TheVariants.{Ring, RingTie, TakeBell, FollowBell, Look, LookOn, LookAgain}
+use Rattle.sh_step.specs.declared.moves.Move.TheVariants.{Peek}
 use Rattle.sh_step.specs.Moves.{row_of}
 use Rattle.sh_step.specs.Plans.{Plan, Lawful}
 use Rattle.sh_step.specs.Rows.{Row, hand, all_mine, fill_in, follow_bell}
@@ -17,16 +18,18 @@ use Rattle.sh_core.specs.Words.{read, put}
 use Rattle.sh_core.specs.Worlds.{World, apply}
 use Rattle.sh_core.specs.Lists.{PutLists}
 use Rattle.sh_core.specs.Placed.{Agreement}
+use Rattle.sh_core.specs.Looks.{HandSees}
 use Rattle.sh_step.specs.Conditions.{May}
 use Rattle.sh_core.proofs.Moves.ByMove.{lists_after}
 use Rattle.sh_core.proofs.Moves.AllSlots.{all_enter_get, all_enter_remove, all_mark, all_drop_hand, all_drop_key}
 use Rattle.sh_core.proofs.Moves.AllSlots.{all_finish, all_fill_slot, all_fill, all_publish}
 use Rattle.sh_core.proofs.Moves.AllReads.{all_read_class, all_read_length, all_read_word, all_read_page, all_set_class}
+use Rattle.sh_core.proofs.Moves.AllLooks.{all_peek, all_look, all_look_on, all_look_again}
 use Rattle.sh_core.proofs.Moves.AllStacks.{all_take, all_arm, all_follow, all_put, all_put_slot, all_tie}
 use Rattle.sh_core.proofs.Moves.AllBells.{all_adopt, all_leave, all_ring, all_ring_tie, all_take_bell, all_follow_bell}
 
 module _ (plan : Plan) (w : World) (l : PutLists) (a : ℕ) (p : Body) (laws : Lawful plan) (old : Agreement plan w l)
-    (at : slice_get w.parts a ≡ Some p) where
+    (sees : HandSees plan w.words.class_at w.log p.hand) (at : slice_get w.parts a ≡ Some p) where
   -- after the move of a part
   abbrev After : Move → Body → Type 0
   After m u = let r : Row = row_of plan u m in Agreement plan (apply w a r)
@@ -60,6 +63,13 @@ module _ (plan : Plan) (w : World) (l : PutLists) (a : ℕ) (p : Body) (laws : L
   all_move (ReadLength k x) may = by_hand (ReadLength k x) Idle may.0 (λ i. all_read_length plan w l a p old i k x)
   all_move (ReadWord k x c i) may = by_hand (ReadWord k x c i) Idle may.1
       (λ at. all_read_word plan w l a p old at k x c i)
+  all_move (Peek x) (idle, inside) = by_hand (Peek x) Idle idle (λ i. all_peek plan w l a p old i x)
+  all_move (Look k x) (idle, named) = by_hand (Look k x) Idle idle
+      (λ i. all_look plan w l a p old i k x named.unpacks)
+  all_move (LookOn k x s) (is, more) = by_hand (LookOn k x s) (Looking k x s) is
+      (λ i. all_look_on plan w l a p old k x s i)
+  all_move (LookAgain k x s) (is, ends) = by_hand (LookAgain k x s) (Looking k x s) is
+      (λ i. all_look_again plan w l a p old k x s i (subst (HandSees plan w.words.class_at w.log) is sees) ends)
   all_move (ReadPage q) (idle, inside, mine) = by_hand (ReadPage q) Idle idle
       (λ i. all_read_page plan w l a p old i q inside)
   all_move (SetClass q c) (n, idle, inside, mine, is, full, small) = by_hand (SetClass q c) Idle idle

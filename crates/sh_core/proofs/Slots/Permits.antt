@@ -3,7 +3,7 @@ use Rattle.std.proofs.Common.{◌≡◌, ℕ, ◌+◌, ◌<◌, ◌==◌, ◌||�
 use Rattle.std.proofs.Common.{length, refl, ap, ◌∙◌, arith, Some, None, slice_get}
 use Rattle.std.specs.Prelude.{IsSome, count_by}
 use Rattle.sh_history.specs.declared.entry.Entry.{Entry}
-use Rattle.sh_history.specs.declared.entry.Entry.TheVariants.{Insert, Got, Gone, Crowded, Removed, Released}
+use Rattle.sh_history.specs.declared.entry.Entry.TheVariants.{Insert, Got, Gone, Crowded, Removed, Released, Seen}
 use Rattle.sh_history.specs.History.{value_of, is_removed, is_removal_of, is_got_of, is_release_of, is_got_by}
 use Rattle.sh_history.specs.History.{is_release_by, got_count, released_count, got_count_by, released_count_by}
 use Rattle.sh_history.specs.History.{Allowed as IsAllowed}
@@ -22,6 +22,7 @@ Permits plan F (Crowded a k) = (0 < length (values k F)) × (removals k F ≡ 0)
     × (plan.keys.guard_max + releases k F < gots k F + plan.passes)
 Permits plan F (Removed a k) = (0 < length (values k F)) × (removals k F ≡ 0)
 Permits plan F (Released a k) = releases_by a k F < gots_by a k F
+Permits plan F (Seen a k v) = (values k F ≡ v ∷ []) × (removals k F ≡ 0)
 
 -- ---- the sums are what the history says
 
@@ -38,6 +39,7 @@ value_first k (Gone a j ∷ es) = value_first k es
 value_first k (Crowded a j ∷ es) = value_first k es
 value_first k (Removed a j ∷ es) = value_first k es
 value_first k (Released a j ∷ es) = value_first k es
+value_first k (Seen a j v ∷ es) = value_first k es
 
 pub value_none : (k : ℕ) (es : List Entry) → values k es ≡ [] → value_of es k ≡ None
 value_none k es h = value_first k es ∙ ap (λ vs. slice_get vs 0) h
@@ -58,6 +60,7 @@ removal_is k (Gone a j) = refl
 removal_is k (Crowded a j) = refl
 removal_is k (Removed a j) = refl
 removal_is k (Released a j) = refl
+removal_is k (Seen a j v) = refl
 
 pub removed_by : (k : ℕ) (es : List Entry) → (removals k es ≡ 0 → is_removed es k ≡ false)
     × (0 < removals k es → is_removed es k ≡ true)
@@ -84,6 +87,7 @@ got_is k (Gone a j) = refl
 got_is k (Crowded a j) = refl
 got_is k (Removed a j) = refl
 got_is k (Released a j) = refl
+got_is k (Seen a j v) = refl
 
 release_is : (k : ℕ) (e : Entry) → released_in k e ≡ if1 (is_release_of k e)
 release_is k (Insert a j v) = refl
@@ -92,6 +96,7 @@ release_is k (Gone a j) = refl
 release_is k (Crowded a j) = refl
 release_is k (Removed a j) = refl
 release_is k (Released a j) = refl
+release_is k (Seen a j v) = refl
 
 got_by_is : (a k : ℕ) (e : Entry) → got_by a k e ≡ if1 (is_got_by a k e)
 got_by_is a k (Insert b j v) = refl
@@ -100,6 +105,7 @@ got_by_is a k (Gone b j) = refl
 got_by_is a k (Crowded b j) = refl
 got_by_is a k (Removed b j) = refl
 got_by_is a k (Released b j) = refl
+got_by_is a k (Seen b j v) = refl
 
 release_by_is : (a k : ℕ) (e : Entry) → released_by a k e ≡ if1 (is_release_by a k e)
 release_by_is a k (Insert b j v) = refl
@@ -108,6 +114,7 @@ release_by_is a k (Gone b j) = refl
 release_by_is a k (Crowded b j) = refl
 release_by_is a k (Removed b j) = refl
 release_by_is a k (Released b j) = refl
+release_by_is a k (Seen b j v) = refl
 
 pub gots_are : (k : ℕ) (es : List Entry) → got_count es k ≡ gots k es
 gots_are k es = count_total (is_got_of k) (got_in k) (got_is k) es
@@ -132,4 +139,5 @@ permits_allowed plan F (Gone a k) (inr h) = inr ((removed_by k F).1 h)
 permits_allowed plan F (Crowded a k) h = let g = gots_are k F in let r = releases_are k F in let m = h.2
     in (value_some k F h.0, (removed_by k F).0 h.1, omega arith)
 permits_allowed plan F (Removed a k) h = (value_some k F h.0, (removed_by k F).0 h.1)
+permits_allowed plan F (Seen a k v) h = (value_one k F v h.0, (removed_by k F).0 h.1)
 permits_allowed plan F (Released a k) h = let g = gots_by_are a k F in let r = releases_by_are a k F in omega arith

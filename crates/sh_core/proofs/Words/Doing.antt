@@ -74,6 +74,7 @@ entry_same a v u (Some (reply.Gone k)) h = refl
 entry_same a v u (Some (reply.Crowded k)) h = refl
 entry_same a v u (Some (reply.Removed k)) h = refl
 entry_same a v u (Some (reply.Released k)) h = refl
+entry_same a v u (Some (reply.Seen k x)) h = refl
 entry_same a v u None h = refl
 
 new_same : (layout : Layout) (k : KeptWorld) (w : World) (a : ℕ) (r : Row) → Represents k w

@@ -10,7 +10,7 @@ use Rattle.sh_shape.specs.declared.places.Place.TheVariants.{Bell}
 use Rattle.sh_shape.specs.Places.{IsPlace}
 use Rattle.sh_slots.specs.declared.reply.Reply.{Reply}
 use Rattle.sh_slots.specs.declared.reply.Reply.TheVariants as reply
-use Rattle.sh_slots.specs.Slots.{live_at}
+use Rattle.sh_slots.specs.Slots.{live_at, past_at, value_seen}
 use Rattle.sh_step.specs.declared.action.Action.{Action}
 use Rattle.sh_step.specs.declared.body.Body.{Body}
 use Rattle.sh_step.specs.Fits.{WordFits}
@@ -25,7 +25,7 @@ use Rattle.sh_step.proofs.Truths.{and3}
 use Rattle.sh_shape.proofs.ClassLaws.{slots_few}
 use Rattle.sh_core.proofs.Clauses.RunTheorem.{theorem}
 use Rattle.sh_step.specs.declared.moves.Move.{Move}
-use Rattle.sh_step.specs.declared.moves.Move.TheVariants.{EnterGet, EnterRemove, Mark}
+use Rattle.sh_step.specs.declared.moves.Move.TheVariants.{EnterGet, EnterRemove, Mark, Look, LookAgain}
 use Rattle.sh_step.specs.Moves.{row_of, row}
 use Rattle.sh_step.specs.Rows.{Row}
 use Rattle.sh_core.proofs.Moves.ByMove.{by_move}
@@ -40,9 +40,17 @@ remove_gets_none : (k : ℕ) (a : Bool) → gets_key (cond a None (Some (reply.G
 remove_gets_none k true = refl
 remove_gets_none k false = refl
 
+past_gets_none : (k : ℕ) (a : Bool) → gets_key (cond a (Some (reply.Gone k)) None) ≡ false
+past_gets_none k true = refl
+past_gets_none k false = refl
+
 mark_gets_none : (k : ℕ) (a : Bool) → gets_key (Some (cond a (reply.Gone k) (reply.Removed k))) ≡ false
 mark_gets_none k true = refl
 mark_gets_none k false = refl
+
+look_gets_none : (k : ℕ) (v : List ℕ) (a : Bool) → gets_key (Some (cond a (reply.Seen k v) (reply.Gone k))) ≡ false
+look_gets_none k v true = refl
+look_gets_none k v false = refl
 
 -- a key is got only if the value is there
 got_live : (k j : ℕ) (a b : Bool) → Some (cond a (cond b (reply.Got k) (reply.Crowded k)) (reply.Gone k))
@@ -65,6 +73,8 @@ module _ (plan : Plan) (p : Body) where
       in (x.page, x.slot, refl, there.0)
   gets (EnterRemove k x) j n g = no_get _ j (remove_gets_none k (live_at x.generation n)) g
   gets (Mark k x) j n g = no_get _ j (mark_gets_none k (fields_of n).marked) g
+  gets (Look k x) j n g = no_get _ j (past_gets_none k (past_at x.generation n)) g
+  gets (LookAgain k x s) j n g = no_get _ j (look_gets_none k (value_seen s) (live_at x.generation n)) g
   gets m j n g = no_get ((row_of plan p m).reply n) j refl g
 
 -- a place of the plan is one of the shape
@@ -79,7 +89,7 @@ is_place layout shape (Payload q s) h = h
 is_place layout shape (Owner q) h = h
 is_place layout shape (Bell q) h = h
 
-word_fits : (plan : Plan) (w : World) → BellsAreSmall plan w → (q : Place) → WordFits plan q (read w.words q)
+pub word_fits : (plan : Plan) (w : World) → BellsAreSmall plan w → (q : Place) → WordFits plan q (read w.words q)
 word_fits plan w h (Bell n) = let s = h.0 n in omega arith
 word_fits plan w h (PageLink q) = h.1 q
 word_fits plan w h _ = tt

@@ -65,7 +65,7 @@ impl<L: KeyLayout, H: KeepsHeap<L>> Member<L, H> {
         }
     }
 
-    /// The value of a key: a get, a read and a release in one. Refused as a get is. It leaves the holds as they were.
+    /// The value of a key, by a look. Refused as the `look` of a reader is. It leaves the holds as they were.
     pub fn fetch(&mut self, key: u64) -> Result<Value, Refusal>
         ensures { SideDoes L.layout (FetchDoes L.layout key) self.old result self.new }
     {

@@ -1,13 +1,13 @@
 // The four calls of a pass, for an owner: a slot of its shard that the call frees goes to its page's lists.
 ghost use Rattle.std.specs.Prelude.{◌≡◌, ◌+◌, ◌*◌, ◌^◌, ◌≤◌, None, length};
-ghost use Rattle.sh_pass.specs.Passes.{GetDoes, ReadIntoDoes, RemoveDoes, ReleaseDoes};
+ghost use Rattle.sh_pass.specs.Passes.{GetDoes, ReadIntoDoes, RemoveDoes, ReleaseDoes, GlanceDoes};
 ghost use Rattle.sh_pass.specs.Remaining.{Remains};
 ghost use Rattle.sh_shard.specs.Kept.{MayGain, PushesGained};
 ghost use Rattle.sh_shard.specs.Pages.{GainsSlot, HoldsPages};
 
 use crate::pages::PagesOn;
 use sh_key::KeyLayout;
-use sh_pass::{Guard, KeepsHeap};
+use sh_pass::{Glance, Guard, KeepsHeap};
 use sh_slots::SlotRef;
 use sh_states::PageStates;
 use sh_value::{Hold, Refusal, Value};
@@ -73,6 +73,17 @@ impl<L: KeyLayout, H: KeepsHeap<L>> PagesOn<L, H> {
         ensures remains { Remains L.layout self.old.owner self.new.owner }
     {
         self.owner.read_guard(guard, value)
+    }
+
+    /// Looks at a key once, as a pass does. It frees no slot.
+    #[inline(always)]
+    pub(crate) fn glance(&mut self, key: u64, value: &mut Value) -> Result<Glance, Refusal>
+        ensures does { GlanceDoes L.layout key self.old.owner value.old result value.new self.new.owner }
+        ensures gained { GainsSlot None self.old self.new }
+        ensures holds { HoldsPages L.layout self.new }
+        ensures remains { Remains L.layout self.old.owner self.new.owner }
+    {
+        self.owner.glance(key, value)
     }
 
     /// Removes a key. Refused as `BadKey` or `Gone`. Returns also the page that gained a slot.

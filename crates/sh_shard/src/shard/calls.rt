@@ -1,11 +1,12 @@
 // The calls of a pass, for an owner: a full page that gains a slot in one goes back to its class.
 ghost use Rattle.sh_pass.specs.Passes.{GetDoes, ReadDoes, ReadIntoDoes, RemoveDoes, ReleaseDoes};
+ghost use Rattle.sh_pass.specs.Passes.{GlanceDoes};
 ghost use Rattle.sh_shard.specs.Shards.{StaysOwner, ReturnsSlot, MovesNothing};
 
 use crate::shard::ShardOn;
 use crate::shard::returning::return_one;
 use sh_key::KeyLayout;
-use sh_pass::{Guard, KeepsHeap};
+use sh_pass::{Glance, Guard, KeepsHeap};
 use sh_value::{Hold, Refusal, Value};
 
 impl<L: KeyLayout, H: KeepsHeap<L>> ShardOn<L, H> {
@@ -66,6 +67,16 @@ impl<L: KeyLayout, H: KeepsHeap<L>> ShardOn<L, H> {
         ensures stays { StaysOwner L.layout self.old self.new }
     {
         self.pages.read_into(hold, value)
+    }
+
+    /// Looks at a key once, as a pass does.
+    #[inline(always)]
+    pub fn glance(&mut self, key: u64, value: &mut Value) -> Result<Glance, Refusal>
+        ensures does { GlanceDoes L.layout key self.old.pages.owner value.old result value.new self.new.pages.owner }
+        ensures moved { MovesNothing self.old self.new }
+        ensures stays { StaysOwner L.layout self.old self.new }
+    {
+        self.pages.glance(key, value)
     }
 
     /// The same as `read_into`, by a hold that keeps its place.

@@ -58,7 +58,7 @@ impl<L: KeyLayout, H: KeepsHeap<L>> ShardOn<L, H> {
         ensures serves { InsertServes L.layout c value.now self.old result self.new }
         ensures bounded { InsertIsBounded (length value.now) self.old self.new }
     {
-        if let Some(key) = self.look(c, value) {
+        if let Some(key) = self.search_twice(c, value) {
             return Ok(key);
         }
         self.insert_in_another(c, value)

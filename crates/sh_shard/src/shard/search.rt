@@ -17,7 +17,7 @@ use sh_value::Value;
 
 impl<L: KeyLayout, H: KeepsHeap<L>> ShardOn<L, H> {
     // The search, the bell, and the search again if a page of the class was read from the bell.
-    pub(crate) fn look(&mut self, c: u32, value: &Value) -> Option<u64>
+    pub(crate) fn search_twice(&mut self, c: u32, value: &Value) -> Option<u64>
         requires class { c < 8 }
         requires fits { length value.now ≤ width c }
         ensures looked { MatchOption result (Tried c self.old self.new)

@@ -79,6 +79,30 @@ fn fetch_and_take(rt: &impl Abort, owner: &mut Shard<'_, Wide>, reader: &mut Pas
     agree(rt, reader.fetch(0), Err(Refusal::BadKey));
 }
 
+// Looks at a value with as many holds as a pass may have, and once more when the key is gone.
+fn look_with_holds(rt: &impl Abort, owner: &mut Shard<'_, Wide>, reader: &mut Pass<'_, Wide>) {
+    let key = owner.insert(&Value::of([7, 8, 9])).expect(rt, "a key");
+    for _ in 0..16 {
+        agree(rt, reader.get(key), Ok(Hold { key }));
+    }
+    agree(rt, reader.take(key), Err(Refusal::HoldsFull));
+    agree(rt, reader.look(key), Ok(Value::of([7, 8, 9])));
+    let mut value = Value::from(5);
+    agree(rt, reader.look_into(key, &mut value), Ok(()));
+    agree(rt, value.words(), [7, 8, 9].as_slice());
+    agree(rt, owner.remove(key), Ok(()));
+    agree(rt, reader.look(key), Err(Refusal::Gone));
+    agree(rt, reader.look_into(key, &mut value), Err(Refusal::Gone));
+    agree(rt, value.words(), [7, 8, 9].as_slice());
+}
+
+#[test]
+fn a_look_needs_no_hold(rt: HostRuntime) {
+    let (heap, seats) = opened(&rt, rt.alloc(), 2);
+    let (mut owner, mut reader) = owner_and_reader(&rt, rt.alloc(), &heap, seats);
+    look_with_holds(&rt, &mut owner, &mut reader);
+}
+
 // Fetches into a value of its own, and once more when the key is gone.
 fn fetch_into_ones_own(rt: &impl Abort, owner: &mut Shard<'_, Wide>, reader: &mut Pass<'_, Wide>) {
     let key = owner.insert(&Value::of([7, 8])).expect(rt, "a key");

@@ -115,7 +115,7 @@ impl<R: Wait> User for ModelCaller<'_, R> {
         Ok(Hold { key })
     }
 
-    fn glance(&mut self, key: u64, value: &mut Value) -> Result<Hold, Refusal> {
+    fn guard(&mut self, key: u64, value: &mut Value) -> Result<Hold, Refusal> {
         let (chunk, within) = self.chunk_of(key);
         let mut model = chunk.model.lock(chunk.rt);
         model.get(within)?;
@@ -128,19 +128,19 @@ impl<R: Wait> User for ModelCaller<'_, R> {
         chunk.model.lock(chunk.rt).read(within)
     }
 
-    fn fetch(&mut self, key: u64) -> Result<Value, Refusal> {
+    fn look(&mut self, key: u64) -> Result<Value, Refusal> {
         let (chunk, within) = self.chunk_of(key);
-        chunk.model.lock(chunk.rt).fetch(within)
+        chunk.model.lock(chunk.rt).look(within)
     }
 
     fn with(&mut self, key: u64) -> Result<Value, Refusal> {
-        self.fetch(key)
+        self.look(key)
     }
 
     fn take(&mut self, key: u64) -> Result<Value, Refusal> {
         let (chunk, within) = self.chunk_of(key);
         let mut model = chunk.model.lock(chunk.rt);
-        let value = model.fetch(within)?;
+        let value = model.get_and_read(within)?;
         model.remove(within)?;
         Ok(value)
     }

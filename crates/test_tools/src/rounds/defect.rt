@@ -19,6 +19,14 @@ pub enum Defect {
     Changing,
     /// A get finds a value that was removed just before.
     GotAfterRemoval,
+    /// A look does not load the word a second time.
+    LooksOnce,
+    /// A look loads the word of another slot the second time.
+    LooksElsewhere,
+    /// A look says that a key is gone whose word is from before its insert.
+    GoneBeforeInsert,
+    /// A look at a key that is yet to be inserted returns the value of the key before it.
+    SeenBeforeInsert,
     /// The accounts of a page have a value too many.
     WrongSums,
     /// A get is refused as crowded, though nobody holds the key.
@@ -37,8 +45,8 @@ pub enum Defect {
     Endless,
     /// A take returns the value and does not remove the key.
     NotTaken,
-    /// A fetch does not release its hold.
-    FetchKeepsHold,
+    /// A look that goes on as a get does not release its hold, and neither does a take.
+    ReadKeepsHold,
     /// An insert does not find a slot that became free after the shard was adopted.
     LostRing,
     /// The passes cannot be joined.

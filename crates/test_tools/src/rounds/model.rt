@@ -1,4 +1,6 @@
 //! A heap of one shard, as a list of slots, with a defect if one is asked for.
+mod looking;
+
 use crate::rounds::defect::Defect;
 use sh_core::Accounts;
 use sh_key::{KeyLayout, Parts, Tiny};
@@ -22,7 +24,9 @@ struct Slot {
     number: u32,
     value: Value,
     is_live: bool,
-    is_looked_at: bool,
+    was_got: bool,
+    // Whether a look loaded its word since its value was inserted or removed.
+    is_loaded: bool,
     holds: u32,
     reads: u64,
     // The number of the call that filled it, or that removed its value.
@@ -104,8 +108,8 @@ impl Model {
     // The answer to a get that found this slot.
     fn got(defect: Defect, now: u64, slot: &mut Slot) -> Result<(), Refusal> {
         let is_soon = now.saturating_sub(slot.since) < SOON;
-        let is_first = !slot.is_looked_at;
-        slot.is_looked_at = true;
+        let is_first = !slot.was_got;
+        slot.was_got = true;
         match defect {
             Defect::Lost if slot.is_live => {
                 slot.is_live = false;
@@ -149,16 +153,21 @@ impl Model {
     pub fn read(&mut self, key: u64) -> Result<Value, Refusal> {
         self.calls = self.calls.saturating_add(1);
         let place = self.place_of(key).ok_or(Refusal::NotHeld)?;
+        self.read_at(place)
+    }
+
+    // The value of the slot at this place.
+    fn read_at(&mut self, place: usize) -> Result<Value, Refusal> {
         let slot = self.slots.get_mut(place).ok_or(Refusal::NotHeld)?;
         slot.reads = slot.reads.wrapping_add(1);
         Ok(Model::value_read(self.defect, slot))
     }
 
     /// The value of a key, by a get, a read and a release.
-    pub fn fetch(&mut self, key: u64) -> Result<Value, Refusal> {
+    pub fn get_and_read(&mut self, key: u64) -> Result<Value, Refusal> {
         self.get(key)?;
         let value = self.read(key)?;
-        if self.defect != Defect::FetchKeepsHold {
+        if self.defect != Defect::ReadKeepsHold {
             self.release(key)?;
         }
         Ok(value)
@@ -173,6 +182,7 @@ impl Model {
             return Err(Refusal::Gone);
         }
         slot.is_live = false;
+        slot.is_loaded = false;
         slot.since = self.calls;
         Ok(())
     }
@@ -269,7 +279,8 @@ impl Model {
             number,
             value: value.copy(),
             is_live: true,
-            is_looked_at: false,
+            was_got: false,
+            is_loaded: false,
             holds: 0,
             reads: 0,
             since: self.calls,
@@ -289,7 +300,8 @@ impl Model {
         }
         slot.value = value.copy();
         slot.is_live = true;
-        slot.is_looked_at = false;
+        slot.was_got = false;
+        slot.is_loaded = false;
         slot.reads = 0;
         slot.since = now;
         Ok(slot.key)

@@ -101,7 +101,7 @@ impl<R: Wait> User for ModelPass<'_, R> {
         model.get(key)
     }
 
-    fn glance(&mut self, key: u64, value: &mut Value) -> Result<Hold, Refusal> {
+    fn guard(&mut self, key: u64, value: &mut Value) -> Result<Hold, Refusal> {
         let mut model = self.model.lock(self.rt);
         let hold = model.get(key)?;
         *value = model.read(key)?;
@@ -115,17 +115,17 @@ impl<R: Wait> User for ModelPass<'_, R> {
         self.model.lock(self.rt).read(hold.key)
     }
 
-    fn fetch(&mut self, key: u64) -> Result<Value, Refusal> {
-        self.model.lock(self.rt).fetch(key)
+    fn look(&mut self, key: u64) -> Result<Value, Refusal> {
+        self.model.lock(self.rt).look(key)
     }
 
     fn with(&mut self, key: u64) -> Result<Value, Refusal> {
-        self.model.lock(self.rt).fetch(key)
+        self.look(key)
     }
 
     fn take(&mut self, key: u64) -> Result<Value, Refusal> {
         let mut model = self.model.lock(self.rt);
-        let value = model.fetch(key)?;
+        let value = model.get_and_read(key)?;
         if self.defect != Defect::NotTaken {
             model.remove(key)?;
         }

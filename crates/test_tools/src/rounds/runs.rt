@@ -86,8 +86,8 @@ fn a_run_with_a_fault_leaves_the_history_of_its_key(rt: HostRuntime) {
     holds(&rt, matches!(said, Ok(Verdict::Broken(_, _))));
 }
 
-// The history of a round is legal for another judge too, and has each answer that was judged. Its header has two numbers
-// for each of the three passes, and the holds that a key of the layout may have.
+// The history of a round is legal for another judge too, and has each answer that was judged. Its header has two
+// numbers for each of the three passes, and the holds that a key of the layout may have.
 #[test]
 fn the_history_of_a_round_is_legal(rt: HostRuntime) -> Result<(), Fail> {
     let Outcome { counts, history } = round_of(&rt, rt.alloc(), Defect::Sound, 3);

@@ -80,13 +80,10 @@ impl PassHandle {
     /// Loads into the value's own room.
     #[inline]
     pub(crate) fn load(&self, key: Key, value: &mut Value) -> Result<(), Error> {
-        if self.log.is_on() {
-            return self.load_in_parts(key, value);
-        }
         // SAFETY: as in `get`. `words` has room for `MAX_WORDS`; the library writes `length` of them.
-        unsafe {
+        self.log.load(key, value, |value| unsafe {
             value.words.fill(|words, length| told(shardheap_raw_load(self.at(), key.into(), words, MAX_WORDS, length)))
-        }
+        })
     }
 
     /// Loads each key, as far as there are places for the results.
@@ -122,25 +119,17 @@ impl PassHandle {
         }
     }
 
-    // A load as the calls that it consists of, which are recorded one by one.
-    #[cold]
-    fn load_in_parts(&self, key: Key, value: &mut Value) -> Result<(), Error> {
-        self.get(key)?;
-        let read = self.read(key, value);
-        self.release(key)?;
-        read
-    }
-
     // A batch of loads that are recorded one by one.
     #[cold]
     fn load_one_by_one(&self, keys: &[Key], results: &mut [Result<Value, Error>]) {
         for (key, result) in keys.iter().zip(results) {
             let mut value = Value::default();
-            *result = self.load_in_parts(*key, &mut value).map(|()| value);
+            *result = self.load(*key, &mut value).map(|()| value);
         }
     }
 
-    // The same of a take. The value stays as it was if another pass removes the key first.
+    // A take as the calls that it consists of, which are recorded one by one. The value stays as it was if another pass
+    // removes the key first.
     #[cold]
     fn take_in_parts(&self, key: Key, value: &mut Value) -> Result<(), Error> {
         let mut taken = Value::default();

@@ -40,6 +40,7 @@ enum Answer {
     Insert(Box<[u64]>),
     /// With the value, if it was read.
     Got(Option<Box<[u64]>>),
+    Seen(Box<[u64]>),
     Gone,
     Crowded,
     Removed,
@@ -72,6 +73,7 @@ impl Entry {
         let (name, words) = match &self.answer {
             Answer::Insert(words) => ("Insert", Some(words)),
             Answer::Got(words) => ("Got", words.as_ref()),
+            Answer::Seen(words) => ("Seen", Some(words)),
             Answer::Gone => ("Gone", None),
             Answer::Crowded => ("Crowded", None),
             Answer::Removed => ("Removed", None),
@@ -230,6 +232,23 @@ impl Log {
         answer
     }
 
+    /// A load into this value.
+    #[inline]
+    pub(crate) fn load(
+        &self,
+        key: Key,
+        value: &mut Value,
+        call: impl FnOnce(&mut Value) -> Result<(), Error>,
+    ) -> Result<(), Error> {
+        let Some(entries) = &self.entries else { return call(value) };
+        let (span, answer) = Span::of(|| call(value));
+        match answer {
+            Ok(()) => entries.borrow_mut().note(span, key, Answer::Seen((**value).into())),
+            Err(error) => entries.borrow_mut().note_refused(span, key, error),
+        }
+        answer
+    }
+
     /// Hands the entries over. It comes before the pass is at home, where another thread may take it.
     pub(crate) fn close(&mut self) {
         self.entries = None;
@@ -281,6 +300,23 @@ mod tests {
             assert_eq!(log.release(key, || Ok(())), Ok(()));
         });
         assert_eq!(lines, "history 1 4\n0 Got 5 1 7\n0 Got 5 0\n0 Released 5\n0 Released 5\n");
+    }
+
+    #[test]
+    fn a_load_is_a_look() {
+        let lines = text(|log, key| {
+            let mut value = Value::default();
+            let call = |value: &mut Value| {
+                *value = Value::new(&[7, 8])?;
+                Ok(())
+            };
+            assert_eq!(log.load(key, &mut value, call), Ok(()));
+            for error in [Error::BadKey, Error::Gone, Error::Crowded, Error::HoldsFull] {
+                assert_eq!(log.load(key, &mut value, |_| Err(error)), Err(error));
+            }
+            assert_eq!(value, [7, 8]);
+        });
+        assert_eq!(lines, "history 1 4\n0 Seen 5 2 7 8\n0 Gone 5\n0 Crowded 5\n");
     }
 
     #[test]

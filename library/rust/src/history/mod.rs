@@ -41,15 +41,15 @@
 //! |---|---|---|
 //! | insert | `Ok` | `Insert`, with the value |
 //! | get | `Ok` | `Got`; with the value, if a guard or the pass reads it before the release |
-//! | get, remove | [`Gone`](crate::Error::Gone) | `Gone` |
-//! | get | [`Crowded`](crate::Error::Crowded) | `Crowded` |
+//! | get, load, take, remove | [`Gone`](crate::Error::Gone) | `Gone` |
+//! | get, load, take | [`Crowded`](crate::Error::Crowded) | `Crowded` |
 //! | a guard that is dropped | | `Released` |
 //! | remove | `Ok` | `Removed` |
-//! | load | `Ok` | `Got`, with the value, and `Released` |
+//! | load | `Ok` | `Seen`, with the value |
 //! | take | `Ok` | `Got`, with the value, `Removed` and `Released` |
 //!
-//! A recorded load is made as a get, a read and a release, and a recorded take as these and a removal. So each line has
-//! the times of a call of its own. Other refusals say nothing about a key and are not recorded, and neither are the
+//! A recorded take is made as a get, a read, a removal and a release, and each load of a batch as a call. So each line
+//! has the times of a call of its own. Other refusals say nothing about a key and are not recorded, and neither are the
 //! other calls.
 //!
 //! If a read returns another value than a read before it under the same hold, it is recorded as a get and a release of

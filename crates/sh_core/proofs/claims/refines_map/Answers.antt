@@ -28,6 +28,9 @@ returns-clause-reads c = λ layout shape a b f es. (theorem layout shape a b f e
 pub returns-clause-notes : goal.returns-clause-notes
 returns-clause-notes c = λ layout shape a b f es. (theorem layout shape a b f es).notes
 
+pub returns-clause-looks : goal.returns-clause-looks
+returns-clause-looks c = λ layout shape a b f es. (theorem layout shape a b f es).looks
+
 pub returns-clause-holds : goal.returns-clause-holds
 returns-clause-holds c = λ layout shape a b f es. (theorem layout shape a b f es).holds
 

@@ -22,6 +22,8 @@ use Rattle.sh_core.proofs.Examples.MoreWrongRows.{early_link_names_nothing}
 use Rattle.sh_core.proofs.Examples.MoreWrongRows.{noted_class_is_read_by}
 use Rattle.sh_core.proofs.Examples.MoreWrongRows.{fourth_generation_is_issued}
 use Rattle.sh_core.proofs.Examples.MoreWrongRows.{end_of_a_word_is_no_word}
+use Rattle.sh_core.proofs.Examples.LookRows.{removed_key_is_seen, another_value_is_seen, another_class_is_seen}
+use Rattle.sh_core.proofs.Examples.LookRows.{early_key_is_gone}
 use Rattle.sh_core.proofs.refuted.refutes_more_wrong_tables.Goals as goal
 
 pub returns-clause-retires_early : goal.returns-clause-retires_early
@@ -95,3 +97,15 @@ returns-clause-never_retires_issues c = fourth_generation_is_issued
 
 pub returns-clause-ends_whole_word : goal.returns-clause-ends_whole_word
 returns-clause-ends_whole_word c = end_of_a_word_is_no_word
+
+pub returns-clause-trusts_the_first_load : goal.returns-clause-trusts_the_first_load
+returns-clause-trusts_the_first_load c = removed_key_is_seen
+
+pub returns-clause-sees_at_once : goal.returns-clause-sees_at_once
+returns-clause-sees_at_once c = another_value_is_seen
+
+pub returns-clause-looks_at_a_head : goal.returns-clause-looks_at_a_head
+returns-clause-looks_at_a_head c = another_class_is_seen
+
+pub returns-clause-is_gone_early : goal.returns-clause-is_gone_early
+returns-clause-is_gone_early c = early_key_is_gone

@@ -12,6 +12,7 @@ returns c = (
     held = c.refines_map.ensures.held layout shape a b f es;
     reads = c.refines_map.ensures.reads layout shape a b f es;
     notes = c.refines_map.ensures.notes layout shape a b f es;
+    looks = c.refines_map.ensures.looks layout shape a b f es;
     holds = c.refines_map.ensures.holds layout shape a b f es;
     counted = c.refines_map.ensures.counted layout shape a b f es;
     few = c.refines_map.ensures.few layout shape a b f es;

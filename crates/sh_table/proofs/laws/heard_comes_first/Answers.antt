@@ -10,6 +10,9 @@ returns-clause-gone c = orders.gone_is_removed
 pub returns-clause-got : goal.returns-clause-got
 returns-clause-got c = orders.got_is_inserted
 
+pub returns-clause-seen : goal.returns-clause-seen
+returns-clause-seen c = orders.seen_is_inserted
+
 pub returns-clause-removed : goal.returns-clause-removed
 returns-clause-removed c = orders.removed_is_gone
 

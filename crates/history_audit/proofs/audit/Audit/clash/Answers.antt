@@ -9,9 +9,15 @@ returns-in-Insert c = λ lines is. rw c.in-Insert.is
 
 pub returns-in-Got : goal.returns-in-Got
 returns-in-Got c = λ lines is. rw c.in-Got.is
-    (c.of_got.ensures c.args.self.now.passes c.args.self.now.guard_max lines
+    (c.of_read.ensures.got c.args.self.now.passes c.args.self.now.guard_max lines
     c.in-Got.field-0 c.in-Got.key
     (rw c.get-in-Got.ensures.value (is.notes c.in-Got.key)))
+
+pub returns-in-Seen : goal.returns-in-Seen
+returns-in-Seen c = λ lines is. rw c.in-Seen.is
+    (c.of_read-in-Seen.ensures.seen c.args.self.now.passes c.args.self.now.guard_max lines
+    c.in-Seen.field-0 c.in-Seen.key
+    (rw c.get-in-Seen.ensures.value (is.notes c.in-Seen.key)))
 
 pub returns-in-Gone : goal.returns-in-Gone
 returns-in-Gone c = λ lines is. rw c.in-Gone.is

@@ -1,5 +1,5 @@
 use Rattle.std.proofs.Common.{refl, ◌∙◌}
-use Rattle.history_audit.proofs.TakeLemmas.{takes_insert, takes_gone, takes_crowded, no_note}
+use Rattle.history_audit.proofs.TakeLemmas.{takes_insert, takes_gone, takes_crowded, takes_seen, no_note}
 use Rattle.history_audit.proofs.audit.Audit.note.Goals as goal
 
 pub returns-in_ok-insert-in-Insert-clause-ok : goal.returns-in_ok-insert-in-Insert-clause-ok
@@ -29,3 +29,7 @@ returns-in-Removed-clause-ok c = λ lines is. rw c.in-Removed.is (λ allowed.
 pub returns-in_ok-note_released-in-Released-clause-ok : goal.returns-in_ok-note_released-in-Released-clause-ok
 returns-in_ok-note_released-in-Released-clause-ok c = λ lines is. rw c.in-Released.is (λ allowed.
     c.in_ok-note_released-in-Released.ensures.ok lines c.args.line is allowed)
+
+pub returns-in-Seen-clause-ok : goal.returns-in-Seen-clause-ok
+returns-in-Seen-clause-ok c = λ lines is. rw c.in-Seen.is (λ allowed.
+    takes_seen c.args.self.now lines c.args.line c.in-Seen.field-0 c.in-Seen.field-1 c.in-Seen.field-2 is allowed)
