@@ -248,7 +248,7 @@ module _ (plan : Plan) (w : World) (l : PutLists) (a : ℕ) (p : Body) (all : Ag
           let count : ℕ = w.words.length_at q x.slot in
           let many : length t.value ≡ count = ap length (sym r.2) ∙ length-words (w.words.payload_at q) first count in
           let there : ((fields_of (w.words.state_at q x.slot)).present
-              || (fields_of (w.words.state_at q x.slot)).marked)
+          || (fields_of (w.words.state_at q x.slot)).marked)
           ≡ true = rw r.0 refl in
           let bound = all.bounds.lengths q x.slot there in
           let few = widths_few (class - 1) in

@@ -92,17 +92,17 @@ module _ (plan : Plan) (w : World) (l : PutLists) (a : ℕ) (p : Body) (old : Ag
         at refl
         (λ z st. refl) refl tt
         (lists_frame plan w.words w.parts l a (hand p Idle) _ old.lists at refl
-            (old.lists.own_notes a (hand p Idle) at))
+        (old.lists.own_notes a (hand p Idle) at))
     go false true e f = all_told plan w l a (hand p Idle) (hand p Idle) (State y.page y.slot) n (Gone a k) old at refl
         (λ z st. refl) refl tt
         (lists_frame plan w.words w.parts l a (hand p Idle) _ old.lists at refl
-            (old.lists.own_notes a (hand p Idle) at))
+        (old.lists.own_notes a (hand p Idle) at))
         (none_gone a k) (gone_permitted plan w.log a k y n now (old.sums.keys k y name) e) (refl, λ j. refl)
     -- (the key is not there yet)
     go false false e f = all_load plan w l a (hand p Idle) (hand p Idle) (State y.page y.slot) n old at refl
         (λ z st. refl) refl tt
         (lists_frame plan w.words w.parts l a (hand p Idle) _ old.lists at refl
-            (old.lists.own_notes a (hand p Idle) at))
+        (old.lists.own_notes a (hand p Idle) at))
 
   pub all_look_on : (k : ℕ) (y : KeyRef) (s : Sight) → slice_get w.parts a ≡ Some (hand p (Looking k y s))
       → Agreement plan (apply w a (look_on (hand p (Looking k y s)) k y s)) l

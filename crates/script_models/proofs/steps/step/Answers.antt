@@ -11,5 +11,5 @@ returns-in-Ok-clause-keys g c = λ es stands.
     let fills = c.refines_map.ensures.fills layout shape laws.lawful c.requires.shape c.requires.fits es in
     let looks = c.refines_map.ensures.looks layout shape laws.lawful c.requires.shape c.requires.fits es in
     keys_within layout shape (run (plan_of layout shape) es) c.args.event.now c.in-Ok.outcome laws.consecutive fills
-        looks
+    looks
     (c.in-Ok.ensures.ok.outcome_is (run (plan_of layout shape) es) stands)
