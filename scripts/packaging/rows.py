@@ -142,10 +142,12 @@ for flags in -m32 -mx32 -U__linux__; do
 done
 not c++ -std=c++14 -E -include $PREFIX/include/shardheap.hpp empty.c > /dev/null 2> said
 grep -q 'needs C++17' said""", "sed -i '/^#error/d' $PREFIX/include/shardheap.hpp", ("cc", "c++")),
+    # (Without -Wsystem-headers gcc does not warn of a header in /usr/include.)
     Row("C, the hook of checked mode without another header", """echo '#include <shardheap.h>
 uint32_t one(shardheap_pass *pass) { return shardheap_remove(pass, 1); }' > hook.c
 for hook in -DSHARDHEAP_CHECKED '-DSHARDHEAP_ON_MISUSE(code)=__builtin_trap()'; do
-  cc -std=c11 -Wall -Wextra -Werror -DSHARDHEAP_CHECKED "$hook" $(pkg-config --cflags shardheap) -c hook.c
+  cc -std=c11 -Wall -Wextra -Werror -Wsystem-headers -DSHARDHEAP_CHECKED "$hook" $(pkg-config --cflags shardheap) \
+    -c hook.c
 done""", "sed -i 's/^#define SHARDHEAP_ON_MISUSE(code) .*/#define SHARDHEAP_ON_MISUSE(code) abort()/' "
          "$PREFIX/include/shardheap.h", ("cc", "pkg-config")),
     Row("Python", """export PYTHONPATH=$PREFIX/share/shardheap/python
