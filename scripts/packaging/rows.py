@@ -261,6 +261,12 @@ grep -q 'terms of the toolchain' $crate/copyright""", f"{UNCRATED}rm gearlongan-
 cargo test --offline --quiet
 RUSTDOCFLAGS="-D warnings" cargo doc --offline --quiet --features record""",
         f"{UNCRATED}sed -i 's|\\.\\./README.md|../../../README.md|' gearlongan-*/src/lib.rs{CRATED}", ("cargo", "cc")),
+    Row("Rust, the least that the crate asks for", ALONE + """cd $crate
+least=$(sed -n 's/^rust-version = "\\(.*\\)"/\\1/p' Cargo.toml)
+rustc --version | grep -q "^rustc $least\\."
+cargo build --offline --quiet --examples""",
+        f"{UNCRATED}echo 'fn _of_1_86(it: &mut Vec<u8>) {{ it.pop_if(|_| true); }}' >> gearlongan-*/src/lib.rs{CRATED}",
+        ("cargo", "cc"), debian=True),
     Row("Rust, other targets", ALONE + """cd $crate
 not cargo check --offline --target aarch64-unknown-linux-gnu > said 2>&1
 grep -q 'supports x86-64 Linux alone, and this target is aarch64' said""",
