@@ -18,8 +18,8 @@ HERE = os.path.dirname(os.path.abspath(__file__))
 # What every call on a handle may return, and what a test wants that refuses each of them with one code.
 OF_HANDLES = ('NO_HANDLE', 'MOVED', 'BUSY')
 
-# What no test can have. No program that keeps to what the head of the header asks of it can have the first two. The last
-# comes only if other passes insert the key and take all holds that it may have, while the load is on its way.
+# What no test can have. No program that keeps to what the head of the header asks of it can have the first two. The
+# last comes only if other passes insert the key and take all holds that it may have, while the load is on its way.
 NOT_TO_BE_HAD = {('give', 'OCCUPIED'), ('give', 'MEMORY'), ('load', 'CROWDED')}
 
 

@@ -2,8 +2,8 @@
 
    signals TIMES SECONDS: a thread inserts, holds and removes values, adopts its shard and leaves it. Signals stop it
    anywhere, and the handler works on the keys that the thread hands over, until so many calls were stopped in their
-   middle. The handler's calls take and give back no memory: malloc, aligned_alloc, realloc and free are wrapped, and end
-   the program if they are called there. The test fails if it takes longer than so many seconds. */
+   middle. The handler's calls take and give back no memory: malloc, aligned_alloc, realloc and free are wrapped, and
+   end the program if they are called there. The test fails if it takes longer than so many seconds. */
 #include "check.h"
 #include "wrapped.h"
 #include <pthread.h>

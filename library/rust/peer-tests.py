@@ -29,7 +29,9 @@ LEFT_OUT = {
     },
     'src/tests/loom_pool.rs': {'clear_local_and_reuse': BITS},
     'src/tests/mod.rs': {'tid_roundtrips': PROPTEST, 'idx_roundtrips': PROPTEST},
-    'src/cfg.rs': {'validates_max_refs': 'it wants a panic since few bits are left for counting references: here none are needed'},
+    'src/cfg.rs': {
+        'validates_max_refs': 'it wants a panic since few bits are left for counting references: here none are needed',
+    },
     'src/page/mod.rs': {'addr_roundtrips': PROPTEST, 'gen_roundtrips': PROPTEST, 'page_roundtrips': PROPTEST},
     'src/page/stack.rs': {'transfer_stack': 'it tests a type inside the original'},
 }
@@ -157,7 +159,8 @@ def examples(blocks):
 
 def files_of(peer):
     """What is written into the temporary crate."""
-    blocks = [block for name in ('lib', 'pool', 'cfg', 'clear') for block in documented(read(peer, f'src/{name}.rs'), True)]
+    texts = [read(peer, f'src/{name}.rs') for name in ('lib', 'pool', 'cfg', 'clear')]
+    blocks = [block for text in texts for block in documented(text, True)]
     return {
         'Cargo.toml': '[package]\nname = "peer-tests"\nversion = "0.0.0"\nedition = "2021"\n'
                       f'[dependencies]\nsharded-slab = {{ path = "{SHIM}" }}\n[workspace]\n',

@@ -142,10 +142,12 @@ for flags in -m32 -mx32 -U__linux__; do
 done
 not c++ -std=c++14 -E -include $PREFIX/include/shardheap.hpp empty.c > /dev/null 2> said
 grep -q 'needs C++17' said""", "sed -i '/^#error/d' $PREFIX/include/shardheap.hpp", ("cc", "c++")),
+    # (Without -Wsystem-headers gcc does not warn of a header in /usr/include.)
     Row("C, the hook of checked mode without another header", """echo '#include <shardheap.h>
 uint32_t one(shardheap_pass *pass) { return shardheap_remove(pass, 1); }' > hook.c
 for hook in -DSHARDHEAP_CHECKED '-DSHARDHEAP_ON_MISUSE(code)=__builtin_trap()'; do
-  cc -std=c11 -Wall -Wextra -Werror -DSHARDHEAP_CHECKED "$hook" $(pkg-config --cflags shardheap) -c hook.c
+  cc -std=c11 -Wall -Wextra -Werror -Wsystem-headers -DSHARDHEAP_CHECKED "$hook" $(pkg-config --cflags shardheap) \
+    -c hook.c
 done""", "sed -i 's/^#define SHARDHEAP_ON_MISUSE(code) .*/#define SHARDHEAP_ON_MISUSE(code) abort()/' "
          "$PREFIX/include/shardheap.h", ("cc", "pkg-config")),
     Row("Python", """export PYTHONPATH=$PREFIX/share/shardheap/python
@@ -259,6 +261,12 @@ grep -q 'terms of the toolchain' $crate/copyright""", f"{UNCRATED}rm gearlongan-
 cargo test --offline --quiet
 RUSTDOCFLAGS="-D warnings" cargo doc --offline --quiet --features record""",
         f"{UNCRATED}sed -i 's|\\.\\./README.md|../../../README.md|' gearlongan-*/src/lib.rs{CRATED}", ("cargo", "cc")),
+    Row("Rust, the least that the crate asks for", ALONE + """cd $crate
+least=$(sed -n 's/^rust-version = "\\(.*\\)"/\\1/p' Cargo.toml)
+rustc --version | grep -q "^rustc $least\\."
+cargo build --offline --quiet --examples""",
+        f"{UNCRATED}echo 'fn _of_1_86(it: &mut Vec<u8>) {{ it.pop_if(|_| true); }}' >> gearlongan-*/src/lib.rs{CRATED}",
+        ("cargo", "cc"), debian=True),
     Row("Rust, other targets", ALONE + """cd $crate
 not cargo check --offline --target aarch64-unknown-linux-gnu > said 2>&1
 grep -q 'supports x86-64 Linux alone, and this target is aarch64' said""",

@@ -38,7 +38,7 @@
 //!
 //! # Linking
 //!
-//! The crate needs Rust 1.79, x86-64 Linux, and the library `libshardheap`. The build script takes the library from the
+//! The crate needs Rust 1.85, x86-64 Linux, and the library `libshardheap`. The build script takes the library from the
 //! folder that `SHARDHEAP_LIB_DIR` names, from the repository of this crate, or from where pkg-config finds it. A crate
 //! that was packaged has one inside, which comes last. With `SHARDHEAP_SHARED` set the shared library is linked.
 //!
