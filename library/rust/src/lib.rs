@@ -113,6 +113,8 @@ mod record;
 mod shard;
 #[cfg(target_pointer_width = "64")]
 pub mod slab;
+#[cfg(target_pointer_width = "64")]
+mod threads;
 #[cfg(not(feature = "record"))]
 mod unrecorded;
 mod value;
