@@ -51,6 +51,6 @@ mod tests {
         taken.give_back(2);
         taken.give_back(0);
         assert_eq!((taken.take_lowest(), taken.take_lowest(), taken.take_lowest()), (Some(0), Some(2), None));
-        assert_eq!(std::iter::from_fn(|| Some(Taken::free(64).take_lowest()?)).take(2).count(), 2);
+        assert_eq!(Taken::free(64).take_lowest(), Some(0));
     }
 }
