@@ -255,8 +255,8 @@ fn a_key_of_another_type_is_removed(table: &Table<u32>, key: Key<i32>) {
     table.remove(key); //~ E0308
 }
 
-fn keys_of_two_types_are_compared(one: Key<u32>, other: Key<u64>) -> bool {
-    one == other //~ E0308
+fn keys_of_two_types_are_compared(one: Key<u32>, other: Key<u64>) {
+    let _ = one == other; //~ E0308
 }
 
 fn a_key_of_a_heap_is_looked_up_in_a_table(table: &Table<u32>, key: gearlongan::Key) {
@@ -271,6 +271,6 @@ fn what_is_no_record_is_stored(text: &String) {
     let _ = Table::new().insert(text); //~ E0277
 }
 
-fn a_table_of_what_is_no_record_is_made() -> Table<Rc<u8>> {
-    Table::new() //~ E0277
+fn a_table_of_what_is_no_record_is_made() {
+    let _: Table<Rc<u8>> = Table::new(); //~ E0277
 }
