@@ -49,7 +49,8 @@
 //!
 //! A new table takes less than 160 KiB, and it grows by chunks as inserts find no room. Only [`Table::insert`] and
 //! [`Table::enter`] can be refused for want of memory. Get, take and remove are not: if a place of the thread's own
-//! cannot be had, they use a shared one. The memory of all chunks is freed as the table is dropped.
+//! cannot be had, they use a shared one. The memory of all chunks is freed as the table is dropped. Some 13 KB of it
+//! stay until each thread that used it has ended, or has used enough later tables to forget it.
 mod builder;
 mod key;
 mod members;
