@@ -98,7 +98,7 @@ def copied(room):
 
 def is_found(it, folder, usual, archive, environment):
     """Whether what the table names passes on the copy, and does not with the change. `usual` keeps the former."""
-    source = folder / "src/slab" / it.file
+    source = folder / "src" / (it.file if "/" in it.file else f"slab/{it.file}")
     before = source.read_text()
     if it.found_by not in usual:
         usual[it.found_by] = outcome(folder, it.found_by, archive, environment)

@@ -4,7 +4,8 @@
 #![allow(unused)]
 use gearlongan::slab::pool::{OwnedRefMut, Ref, RefMut};
 use gearlongan::slab::{Entry, OwnedEntry, Pool, Slab, VacantEntry};
-use gearlongan::{Heap, Layout, Shape};
+use gearlongan::table::Key;
+use gearlongan::{Heap, Layout, Shape, Table};
 use std::cell::Cell;
 use std::rc::Rc;
 use std::sync::{Arc, Mutex, MutexGuard};
@@ -243,3 +244,33 @@ fn a_guard_outlives_its_pass(pass: gearlongan::Pass, key: gearlongan::Key) {
 }
 
 fn main() {}
+
+// A key is of one type of records, and a record has at most 16 words.
+
+fn a_key_of_another_type_is_got(table: &Table<u32>, key: Key<u64>) {
+    table.get(key); //~ E0308
+}
+
+fn a_key_of_another_type_is_removed(table: &Table<u32>, key: Key<i32>) {
+    table.remove(key); //~ E0308
+}
+
+fn keys_of_two_types_are_compared(one: Key<u32>, other: Key<u64>) {
+    let _ = one == other; //~ E0308
+}
+
+fn a_key_of_a_heap_is_looked_up_in_a_table(table: &Table<u32>, key: gearlongan::Key) {
+    table.contains(key); //~ E0308
+}
+
+fn a_record_of_another_type_is_stored(table: &Table<u32>) {
+    let _ = table.insert(&7u64); //~ E0308
+}
+
+fn what_is_no_record_is_stored(text: &String) {
+    let _ = Table::new().insert(text); //~ E0277
+}
+
+fn a_table_of_what_is_no_record_is_made() {
+    let _: Table<Rc<u8>> = Table::new(); //~ E0277
+}

@@ -50,6 +50,8 @@ pub enum Error {
     WrongKind,
     /// The receipt is of another heap.
     OtherHeap,
+    /// The table has no place for this thread.
+    NoPlace,
     /// An answer of the library that this crate does not know. No call is known to give one.
     Unknown(u32),
 }
@@ -74,6 +76,7 @@ impl fmt::Display for Error {
             Error::NoPage => "the heap has no such page",
             Error::WrongKind => "the value is no record of this kind",
             Error::OtherHeap => "the receipt is of another heap",
+            Error::NoPlace => "the table has no place for this thread",
             Error::Unknown(code) => return write!(f, "the library answered {code}, which is not known"),
         })
     }

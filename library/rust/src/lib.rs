@@ -1,5 +1,35 @@
 //! A map of small values that threads share, and whose keys are never used again.
 //!
+//! # Which type do I want?
+//!
+//! | Type | For | Values |
+//! |---|---|---|
+//! | [`Table`] | most programs: any number of threads, typed keys | records of up to 16 words, copied |
+//! | [`slab::Slab`], [`slab::Pool`] | the interface of the crate `sharded-slab` | any type, in place |
+//! | [`Growing`], [`Heap`] | control: guards, receipts, a fixed room; 64 passes | 0 to 16 words |
+//!
+//! The calls of a pass cost least. In instructions a table's get, insert and removal are within 1.15 of them, and lock
+//! nothing for 60 threads; those beyond share four locks. A slab's get counts its user in the value, and its removal
+//! also frees the place of the key in a heap.
+//!
+//! A table is used by reference, and hides the rest:
+//!
+//! ```
+//! use gearlongan::{Error, Table};
+//! use std::thread;
+//!
+//! let table = Table::new();
+//! let key = table.insert(&(7u32, 8.5f64))?;
+//! thread::scope(|scope| {
+//!     scope.spawn(|| assert_eq!(table.get(key), Some((7, 8.5))));
+//! });
+//! assert!(table.remove(key));
+//! assert_eq!(table.get(key), None);
+//! # Ok::<(), Error>(())
+//! ```
+//!
+//! # Heaps and passes
+//!
 //! A heap has shards of pages. Each thread uses it by a pass of its own. Any pass may hold, read and remove any key; a
 //! pass that owns a shard also inserts there. A value is at most 16 words of 64 bits; its key is a number that no other
 //! value of the heap ever has. So a key that is out of date finds nothing.
@@ -10,9 +40,6 @@
 //! - A [`Guard`] keeps a value readable, removed or not, until it is dropped.
 //! - A [`Receipt`] orders the calls of one pass before those of another.
 //! - A [`Growing`] heap opens chunks as its [`Caller`]s insert. They adopt shards by themselves.
-//!
-//! A [`slab::Slab`] stores values of any type over such heaps, and a [`slab::Pool`] uses their memory again. They have
-//! the interface of the crate `sharded-slab`.
 //!
 //! No call of a pass or a shard waits or locks. Memory is taken by the calls that open a heap, by `take` of both kinds,
 //! [`Heap::gather`], [`Pass::adopt`] and `receipt`. An insert or a prepare takes it for a segment, and that of a
@@ -28,6 +55,7 @@
 //!
 //! | Type | [`Send`] | [`Sync`] | So |
 //! |---|---|---|---|
+//! | [`Table`] | yes | yes | threads share a reference, and call |
 //! | [`Heap`], [`Growing`] | yes | yes | threads share a reference, and take a pass each |
 //! | [`Pass`], [`Shard`], [`Caller`] | yes | no | one thread has it at a time |
 //! | [`Guard`] | no | no | it stays with its pass |
@@ -50,7 +78,7 @@
 //! # What is proved
 //!
 //! What the calls do is proved, in the library that this crate links. The crate itself is not proved: it is what makes
-//! of C's calls those of safe Rust.
+//! of C's calls those of safe Rust. Nor are its table and its slab, which are layers over heaps.
 //!
 //! # Examples
 //!
@@ -113,6 +141,10 @@ mod record;
 mod shard;
 #[cfg(target_pointer_width = "64")]
 pub mod slab;
+#[cfg(target_pointer_width = "64")]
+pub mod table;
+#[cfg(target_pointer_width = "64")]
+mod threads;
 #[cfg(not(feature = "record"))]
 mod unrecorded;
 mod value;
@@ -137,4 +169,7 @@ pub use pass::Pass;
 pub use receipt::Receipt;
 pub use record::Record;
 pub use shard::Shard;
+#[doc(inline)]
+#[cfg(target_pointer_width = "64")]
+pub use table::Table;
 pub use value::{Value, MAX_WORDS};

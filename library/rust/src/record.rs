@@ -1,8 +1,10 @@
 //! Records: types that are stored as words.
 use crate::value::MAX_WORDS;
+use std::num::NonZero;
 
-/// A type that is stored as a fixed number of words. `u64`, arrays of up to 16 of them and tuples of records are
-/// records as they are.
+/// A type that is stored as a fixed number of words. Records as they are: all integers, `bool`, `char`, `f32`, `f64`,
+/// `Option<NonZero<..>>` of each integer, and arrays and tuples of records. A number of 128 bits has two words, and any
+/// other one. [`record!`](crate::record!) makes one of the fields of a struct.
 ///
 /// A value does not say which type it was stored as, only how many words it has. If two types of one heap have the same
 /// length, give each a word of its own that says which it is, and let `read` look at it.
@@ -60,27 +62,116 @@ pub(crate) fn with_words<R: Record, T>(record: &R, act: impl FnOnce(&[u64]) -> T
     act(&words[..R::WORDS])
 }
 
-impl Record for u64 {
-    const WORDS: usize = 1;
+/// Types of one word, each with its conversions.
+macro_rules! word_record {
+    ($($kind:ty: $write:expr, $read:expr;)+) => {$(
+        impl Record for $kind {
+            const WORDS: usize = 1;
 
-    fn write(&self, words: &mut [u64]) {
-        words[0] = *self;
-    }
+            #[inline]
+            fn write(&self, words: &mut [u64]) {
+                words[0] = $write(*self);
+            }
 
-    fn read(words: &[u64]) -> Option<u64> {
-        words.first().copied()
+            #[inline]
+            fn read(words: &[u64]) -> Option<$kind> {
+                words.first().copied().and_then($read)
+            }
+        }
+    )+};
+}
+
+word_record! {
+    u64: std::convert::identity, Some;
+    i64: |n| n as u64, |word| Some(word as i64);
+    u8: u64::from, |word| word.try_into().ok();
+    u16: u64::from, |word| word.try_into().ok();
+    u32: u64::from, |word| word.try_into().ok();
+    usize: |n| n as u64, |word| word.try_into().ok();
+    i8: |n| i64::from(n) as u64, |word| (word as i64).try_into().ok();
+    i16: |n| i64::from(n) as u64, |word| (word as i64).try_into().ok();
+    i32: |n| i64::from(n) as u64, |word| (word as i64).try_into().ok();
+    isize: |n| n as u64, |word| (word as i64).try_into().ok();
+    bool: u64::from, |word| u8::try_from(word).ok().filter(|bit| *bit < 2).map(|bit| bit == 1);
+    char: u64::from, |word| u32::try_from(word).ok().and_then(char::from_u32);
+    f32: |n: f32| u64::from(n.to_bits()), |word| Some(f32::from_bits(word.try_into().ok()?));
+    f64: f64::to_bits, |word| Some(f64::from_bits(word));
+}
+
+/// Two words, the low one first.
+macro_rules! wide_record {
+    ($($kind:ty),+) => {$(
+        impl Record for $kind {
+            const WORDS: usize = 2;
+
+            #[inline]
+            fn write(&self, words: &mut [u64]) {
+                [*self as u64, (*self >> 64) as u64].write(words);
+            }
+
+            #[inline]
+            fn read(words: &[u64]) -> Option<$kind> {
+                let [low, high]: [u64; 2] = Record::read(words)?;
+                Some((high as $kind) << 64 | low as $kind)
+            }
+        }
+    )+};
+}
+
+wide_record!(u128, i128);
+
+/// No number is stored as 0.
+macro_rules! nonzero_record {
+    ($($kind:ty),+) => {$(
+        impl Record for Option<NonZero<$kind>> {
+            const WORDS: usize = <$kind>::WORDS;
+
+            #[inline]
+            fn write(&self, words: &mut [u64]) {
+                self.map_or(0, NonZero::get).write(words);
+            }
+
+            #[inline]
+            fn read(words: &[u64]) -> Option<Self> {
+                <$kind>::read(words).map(NonZero::new)
+            }
+        }
+    )+};
+}
+
+nonzero_record!(u8, u16, u32, u64, u128, usize, i8, i16, i32, i64, i128, isize);
+
+impl Record for () {
+    const WORDS: usize = 0;
+
+    fn write(&self, _: &mut [u64]) {}
+
+    fn read(words: &[u64]) -> Option<()> {
+        words.is_empty().then_some(())
     }
 }
 
-impl<const N: usize> Record for [u64; N] {
-    const WORDS: usize = N;
+// An array's words are those of its items, one after the other.
+impl<R: Record, const N: usize> Record for [R; N] {
+    const WORDS: usize = N * R::WORDS;
 
+    #[inline]
     fn write(&self, words: &mut [u64]) {
-        words.copy_from_slice(self);
+        for (at, item) in self.iter().enumerate() {
+            item.write(&mut words[at * R::WORDS..(at + 1) * R::WORDS]);
+        }
     }
 
-    fn read(words: &[u64]) -> Option<[u64; N]> {
-        words.try_into().ok()
+    #[inline]
+    fn read(words: &[u64]) -> Option<[R; N]> {
+        if words.len() != Self::WORDS {
+            return None;
+        }
+        let mut items = [const { None }; N];
+        for (at, item) in items.iter_mut().enumerate() {
+            *item = Some(R::read(words.get(at * R::WORDS..(at + 1) * R::WORDS)?)?);
+        }
+        Some(items.map(|item| item.expect("each was read")))
     }
 }
 
@@ -117,3 +208,71 @@ tuple_record!(A 0, B 1, C 2);
 tuple_record!(A 0, B 1, C 2, D 3);
 tuple_record!(A 0, B 1, C 2, D 3, E 4);
 tuple_record!(A 0, B 1, C 2, D 3, E 4, F 5);
+
+/// Declares a struct whose fields are records, and makes it a record: its words are those of its fields, in order.
+///
+/// ```
+/// use gearlongan::{Error, Value};
+/// use std::num::NonZero;
+///
+/// gearlongan::record! {
+///     /// What a server knows of a client.
+///     #[derive(Clone, Copy, Debug, PartialEq)]
+///     pub struct Session {
+///         pub user: Option<NonZero<u32>>,
+///         until: f64,
+///         address: [u8; 4],
+///     }
+/// }
+///
+/// let session = Session { user: NonZero::new(7), until: 8.5, address: [127, 0, 0, 1] };
+/// let value = Value::of(&session);
+/// assert_eq!(value, [7, 8.5f64.to_bits(), 127, 0, 0, 1]);
+/// assert_eq!(value.record(), Ok(session));
+/// ```
+///
+/// A struct of more than 16 words is stored by no program that compiles:
+///
+/// ```compile_fail,E0080
+/// gearlongan::record! {
+///     struct Long {
+///         words: [u64; 16],
+///         more: bool,
+///     }
+/// }
+/// gearlongan::Value::of(&Long { words: [0; 16], more: true });
+/// ```
+#[macro_export]
+macro_rules! record {
+    (
+        $(#[$of_struct:meta])*
+        $shown:vis struct $name:ident {
+            $($(#[$of_field:meta])* $field_shown:vis $field:ident: $kind:ty),* $(,)?
+        }
+    ) => {
+        $(#[$of_struct])*
+        $shown struct $name {
+            $($(#[$of_field])* $field_shown $field: $kind),*
+        }
+
+        impl $crate::Record for $name {
+            const WORDS: usize = 0 $(+ <$kind as $crate::Record>::WORDS)*;
+
+            #[inline]
+            fn write(&self, words: &mut [u64]) {
+                let rest = words;
+                $(let (own, rest) = rest.split_at_mut(<$kind as $crate::Record>::WORDS);
+                <$kind as $crate::Record>::write(&self.$field, own);)*
+                debug_assert!(rest.is_empty(), "a record has as many words as it says");
+            }
+
+            #[inline]
+            fn read(words: &[u64]) -> ::core::option::Option<Self> {
+                let rest = words;
+                $(let $field = <$kind as $crate::Record>::read(rest.get(..<$kind as $crate::Record>::WORDS)?)?;
+                let rest = rest.get(<$kind as $crate::Record>::WORDS..)?;)*
+                rest.is_empty().then_some($name { $($field),* })
+            }
+        }
+    };
+}

@@ -2,6 +2,7 @@
 use gearlongan::{Error, Key, Record, Value, MAX_WORDS};
 use std::collections::HashSet;
 use std::fmt::Debug;
+use std::num::NonZero;
 
 fn comes_back<R: Record + PartialEq + Debug>(record: R, words: &[u64]) {
     let value = Value::of(&record);
@@ -26,6 +27,83 @@ fn records_come_back() {
     comes_back(([1u64; 0], (2u64, [3u64, 4]), 5u64), &[2, 3, 4, 5]);
     comes_back((1u64, 2u64, 3u64, 4u64, 5u64, 6u64), &[1, 2, 3, 4, 5, 6]);
     comes_back(([1u64; 8], [2u64; 8]), &[[1; 8], [2; 8]].concat());
+}
+
+#[test]
+fn integers_of_each_width_come_back() {
+    comes_back(u8::MAX, &[255]);
+    comes_back(u16::MAX, &[65_535]);
+    comes_back(u32::MAX, &[4_294_967_295]);
+    comes_back(usize::MAX, &[u64::MAX]);
+    comes_back(-1i8, &[u64::MAX]);
+    comes_back(i16::MIN, &[u64::MAX - 32_767]);
+    comes_back(-7i32, &[u64::MAX - 6]);
+    comes_back(i64::MIN, &[1 << 63]);
+    comes_back(isize::MAX, &[u64::MAX >> 1]);
+    comes_back(3u128 << 64 | 7, &[7, 3]);
+    comes_back(-1i128, &[u64::MAX, u64::MAX]);
+    comes_back(i128::MIN, &[0, 1 << 63]);
+    comes_back([(true, -1i8); 8], &[1, u64::MAX].repeat(8));
+}
+
+#[test]
+fn other_types_of_a_word_come_back() {
+    comes_back((), &[]);
+    comes_back((true, false), &[1, 0]);
+    comes_back(['a', char::MAX], &[97, 0x10_ffff]);
+    comes_back((1.5f64, -0.0f32), &[1.5f64.to_bits(), 0x8000_0000]);
+    comes_back((NonZero::new(7u8), NonZero::<i64>::new(0)), &[7, 0]);
+    comes_back(NonZero::new(1u128 << 64), &[0, 1]);
+}
+
+#[test]
+fn words_that_are_no_record_are_refused() {
+    fn is_refused<R: Record + Debug + PartialEq>(words: &[u64]) {
+        let value = Value::new(words).expect("it is not too long");
+        assert_eq!(value.record::<R>(), Err(Error::WrongKind), "{words:?}");
+    }
+    is_refused::<u8>(&[256]);
+    is_refused::<u32>(&[1 << 32]);
+    is_refused::<i8>(&[128]);
+    is_refused::<i32>(&[1 << 31]);
+    is_refused::<bool>(&[2]);
+    is_refused::<bool>(&[257]);
+    is_refused::<char>(&[0xd800]);
+    is_refused::<char>(&[1 << 32 | 97]);
+    is_refused::<f32>(&[1 << 32]);
+    is_refused::<Option<NonZero<u16>>>(&[1 << 16]);
+    is_refused::<[bool; 2]>(&[0, 2]);
+    is_refused::<Session>(&[7, 2, 0, 0]);
+}
+
+gearlongan::record! {
+    /// A struct with a field of each kind.
+    #[derive(Clone, Copy, Debug, PartialEq)]
+    struct Session {
+        user: u32,
+        is_guest: bool,
+        /// Longitude and latitude.
+        place: [f32; 2],
+    }
+}
+
+gearlongan::record! {
+    #[derive(Debug, PartialEq)]
+    struct Nothing {}
+}
+
+gearlongan::record! {
+    #[derive(Debug, PartialEq)]
+    struct Nested { words: [u64; 2], rest: u64, session: Session }
+}
+
+#[test]
+fn structs_of_fields_come_back() {
+    let session = Session { user: 7, is_guest: true, place: [1.0, 2.0] };
+    comes_back(session, &[7, 1, 0x3f80_0000, 0x4000_0000]);
+    comes_back(Nothing {}, &[]);
+    // The names of fields are apart from those of the macro.
+    comes_back(Nested { words: [8, 9], rest: 10, session }, &[8, 9, 10, 7, 1, 0x3f80_0000, 0x4000_0000]);
 }
 
 #[test]

@@ -1,6 +1,7 @@
-//! The memory of slabs, as the C library counts it: the heaps take theirs from there too.
+//! The memory of slabs and tables, as the C library counts it: the heaps take theirs from there too.
 #![cfg(all(target_os = "linux", target_env = "gnu", target_pointer_width = "64"))]
 use gearlongan::slab::{Pool, Slab};
+use gearlongan::Table;
 use std::thread;
 
 /// C's `struct mallinfo2`.
@@ -67,4 +68,18 @@ fn slabs_are_small_and_leave_nothing_behind() {
     }
     let left = allocated().saturating_sub(begin);
     assert!(left < 2 * MIB, "{left} bytes are left");
+    a_table_is_small_and_leaves_little_behind();
+}
+
+// A part of the test above, since it counts all of the process.
+fn a_table_is_small_and_leaves_little_behind() {
+    let begin = allocated();
+    let table = Table::new();
+    let taken = allocated() - begin;
+    assert!(taken <= 160 << 10, "a new table took {taken} bytes");
+    assert!((0..10_000u64).all(|n| table.insert(&n).is_ok()));
+    drop(table);
+    // The block of the table itself stays as long as a thread remembers it.
+    let left = allocated().saturating_sub(begin);
+    assert!(left < 16 << 10, "{left} bytes are left");
 }

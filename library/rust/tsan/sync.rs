@@ -6,10 +6,10 @@ use std::mem::MaybeUninit;
 use std::ops::{Deref, DerefMut};
 use std::sync::atomic::AtomicU8;
 use std::sync::atomic::Ordering::{Acquire, Relaxed, Release};
-pub use std::sync::{Arc, PoisonError, Weak};
+pub use std::sync::{Arc, PoisonError, TryLockError, Weak};
 use std::thread;
 
-#[derive(Debug)]
+#[derive(Debug, Default)]
 pub struct Mutex<T> {
     is_locked: AtomicU8,
     value: UnsafeCell<T>,
@@ -33,6 +33,13 @@ impl<T> Mutex<T> {
             thread::yield_now();
         }
         Ok(MutexGuard(self))
+    }
+
+    pub fn try_lock(&self) -> Result<MutexGuard<'_, T>, TryLockError<MutexGuard<'_, T>>> {
+        match self.is_locked.compare_exchange(0, 1, Acquire, Relaxed) {
+            Ok(_) => Ok(MutexGuard(self)),
+            Err(_) => Err(TryLockError::WouldBlock),
+        }
     }
 
     pub fn get_mut(&mut self) -> Result<&mut T, PoisonError<&mut T>> {

@@ -33,8 +33,6 @@ pub(super) struct Member {
     skips: u32,
     // The last search found that all shards with room are taken.
     asked: bool,
-    // Its thread remembers the slab, and gives all this back as it ends.
-    pub(super) is_remembered: bool,
 }
 
 impl Member {

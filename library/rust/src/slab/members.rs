@@ -1,141 +1,42 @@
-//! What all threads have of a slab's heaps, in a table by the numbers of threads.
-//!
-//! The slab owns the table. A thread only remembers which slabs have something of it, by weak references, and gives
-//! that back as it ends. So a slab that is dropped frees its heaps at once.
+//! What all threads have of a slab's heaps.
 use super::chunk::Chunk;
 use super::config::Limits;
 use super::heaps::{Heaps, Need};
 use super::member::{remove, Member, Own};
-use super::{number, thread};
+use super::number;
+use crate::threads::{Leave, Slots};
 use crate::{Error, Key};
-use std::cell::{Cell, UnsafeCell};
-use std::panic::RefUnwindSafe;
-use std::sync::{Arc, OnceLock, Weak};
+use std::sync::{Arc, Weak};
 
 /// How often the end of a thread tries to leave its shard, while others are in the middle of a free there.
 const LEAVE_TRIES: u32 = 1000;
 
-/// The place of one thread in the table. The next begins on other cache lines.
-#[derive(Default)]
-#[repr(align(128))]
-struct Slot {
-    // Set while the member is borrowed alone.
-    is_changing: Cell<bool>,
-    member: UnsafeCell<Member>,
-}
-
-// SAFETY: a slot is used only by the thread that has its number, and no two threads have one at the same time: what a
-// thread did happens before what the next one with its number does. What is in it may go to another thread.
-unsafe impl Sync for Slot {}
-
-// No code of the user runs while the member is borrowed, so that no panic leaves it half changed.
-impl RefUnwindSafe for Slot {}
-
-impl Slot {
-    // The member, unless it is changing. The caller is the thread that has the number of the slot, and calls no code of
-    // the user while it has the result.
-    #[inline]
-    fn member(&self) -> Option<&Member> {
-        // SAFETY: only this thread uses the slot, and it is not within `change`. It does not come to it while it has
-        // the result, since no call of the library calls back.
-        (!self.is_changing.get()).then(|| unsafe { &*self.member.get() })
-    }
-
-    // Runs it with the member, unless it is changing: an allocator of the user may call the slab from within. The
-    // caller is as of `member`.
-    fn change<R>(&self, act: impl FnOnce(&mut Member) -> R) -> Option<R> {
-        if self.is_changing.replace(true) {
-            return None;
-        }
-        // SAFETY: only this thread uses the slot, and a call from within finds it changing.
-        let result = act(unsafe { &mut *self.member.get() });
-        self.is_changing.set(false);
-        Some(result)
-    }
-}
-
-/// The threads of the first numbers have a slot within the table. The others have buckets of 16, 32, 64 slots and so
-/// on, which are allocated as threads have the numbers for them.
-const FIRST: usize = 16;
-
-const BUCKETS: usize = 40;
-
 /// The heaps of a slab and what threads have of them.
 pub(super) struct Members {
     heaps: Heaps,
-    first: [Slot; FIRST],
-    buckets: [OnceLock<Box<[Slot]>>; BUCKETS],
+    slots: Slots<Member>,
     // Itself, as threads remember it.
     own: Weak<Members>,
-}
-
-// The bucket of a number after the first, and its place there.
-fn place(number: usize) -> (usize, usize) {
-    let power = number.max(FIRST).ilog2();
-    ((power - FIRST.ilog2()) as usize, number - (1 << power))
-}
-
-// The slots of a bucket. None if memory is refused.
-fn slots(bucket: usize) -> Option<Box<[Slot]>> {
-    let count = FIRST << bucket;
-    let mut slots = Vec::new();
-    slots.try_reserve_exact(count).ok()?;
-    slots.resize_with(count, Slot::default);
-    Some(slots.into_boxed_slice())
 }
 
 impl Members {
     /// Opens the first heap. Nothing of it is taken.
     pub(super) fn open(limits: Limits) -> Result<Arc<Members>, Error> {
         let heaps = Heaps::open(limits)?;
-        let (first, buckets) = (Default::default(), [const { OnceLock::new() }; BUCKETS]);
-        Ok(Arc::new_cyclic(|own| Members { heaps, first, buckets, own: own.clone() }))
-    }
-
-    #[inline]
-    fn slot(&self, number: usize) -> Option<&Slot> {
-        match self.first.get(number) {
-            Some(slot) => Some(slot),
-            None => self.later_slot(number),
-        }
-    }
-
-    fn later_slot(&self, number: usize) -> Option<&Slot> {
-        let (bucket, at) = place(number);
-        let bucket_of = self.buckets.get(bucket)?;
-        if bucket_of.get().is_none() {
-            // Another thread may be first.
-            _ = bucket_of.set(slots(bucket)?);
-        }
-        bucket_of.get()?.get(at)
+        Ok(Arc::new_cyclic(|own| Members { heaps, slots: Slots::new(), own: own.clone() }))
     }
 
     /// Runs it with what this thread has. None if the thread cannot have anything: it ends, memory is refused, or the
     /// call comes from an allocator below another.
     fn with_member<R>(&self, act: impl FnOnce(&mut Member) -> R) -> Option<R> {
-        let with = |member: &mut Member| {
-            member.is_remembered = member.is_remembered || thread::remember(self.own.clone());
-            member.is_remembered.then(|| act(member))
-        };
-        self.slot(thread::number()?)?.change(with).flatten()
+        self.slots.change(&self.own, act)
     }
 
     // What this thread has, if it has a shard that no other thread asked for.
     #[inline]
     fn owner(&self) -> Option<&Own> {
-        let member = self.slot(thread::number()?)?.member()?;
+        let member = self.slots.member()?;
         member.own.as_ref().filter(|_| !self.heaps.is_asked())
-    }
-
-    /// Gives back what the thread of this number has. The caller is that thread.
-    pub(super) fn leave(&self, number: usize) {
-        let Some(mut member) = self.slot(number).and_then(|slot| slot.change(std::mem::take)) else { return };
-        for _ in 0..LEAVE_TRIES {
-            if member.leave(&self.heaps) {
-                return;
-            }
-            std::thread::yield_now();
-        }
     }
 
     /// The number of a key for a value that is stored elsewhere. None if there is no room.
@@ -199,6 +100,18 @@ impl Members {
     }
 }
 
+impl Leave for Members {
+    fn leave(&self, number: usize) {
+        let Some(mut member) = self.slots.leave(number) else { return };
+        for _ in 0..LEAVE_TRIES {
+            if member.leave(&self.heaps) {
+                return;
+            }
+            std::thread::yield_now();
+        }
+    }
+}
+
 #[cfg(test)]
 mod tests {
     use super::*;
@@ -216,21 +129,6 @@ mod tests {
         let first = members.heaps.chunk(0).expect("it is open");
         while let Search::Found(_) = first.claim() {}
         first
-    }
-
-    #[test]
-    fn numbers_have_places_of_their_own() {
-        let places: Vec<_> = (16..1000).map(place).collect();
-        assert_eq!(
-            (places[0], places[15], places[16], places[47], places[48]),
-            ((0, 0), (0, 15), (1, 0), (1, 31), (2, 0))
-        );
-        assert!(places.iter().all(|(bucket, at)| *at < FIRST << bucket));
-        assert_eq!(places.iter().collect::<std::collections::HashSet<_>>().len(), 984);
-        let members = members();
-        let slots: std::collections::HashSet<_> =
-            (0..1000).flat_map(|n| members.slot(n)).map(|it| it as *const Slot).collect();
-        assert_eq!(slots.len(), 1000);
     }
 
     #[test]

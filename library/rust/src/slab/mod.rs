@@ -46,7 +46,6 @@ mod places;
 pub mod pool;
 mod store;
 mod system;
-mod thread;
 
 pub use clear::Clear;
 pub use config::{Config, DefaultConfig};

@@ -1,11 +1,10 @@
 //! The number of a thread, and what the end of a thread gives back.
 //!
 //! Numbers are small, no two threads have the same at the same time, and a number is used again once its thread has
-//! ended. A slab has a table by them.
-use super::members::Members;
+//! ended. A slab or a table has slots by them.
+use super::slots::Leave;
+use super::taken::Taken;
 use std::cell::{Cell, RefCell};
-use std::sync::atomic::AtomicU64;
-use std::sync::atomic::Ordering::{Acquire, Relaxed, Release};
 use std::sync::Weak;
 
 /// The thread has no number yet.
@@ -14,22 +13,25 @@ const NONE: usize = usize::MAX;
 /// The thread ends, and has no number any more.
 const ENDED: usize = usize::MAX - 1;
 
+/// The thread is about to have a number.
+const BEGINNING: usize = usize::MAX - 2;
+
 thread_local! {
     // It has no destructor, so that it can be read at any time.
     static NUMBER: Cell<usize> = const { Cell::new(NONE) };
-    static THREAD: RefCell<Thread> = const { RefCell::new(Thread { number: NONE, slabs: Vec::new(), prune_at: 8 }) };
+    static THREAD: RefCell<Thread> = const { RefCell::new(Thread { number: NONE, owners: Vec::new(), prune_at: 8 }) };
 }
 
-/// A bit for each number that a thread has: as many as Linux has threads at most. Memory that is not used stays zero,
-/// and takes none. (There is no lock, under which an allocator of the user could call a slab.)
-static NUMBERS: [AtomicU64; 1 << 16] = [const { AtomicU64::new(0) }; 1 << 16];
+/// The numbers that threads have: as many as Linux has threads at most. Memory that is not used stays zero, and takes
+/// none.
+static NUMBERS: [Taken; 1 << 16] = [const { Taken::free(64) }; 1 << 16];
 
 /// What a thread gives back as it ends.
 struct Thread {
     number: usize,
-    // The slabs that have something of this thread. A slab that was dropped is one that cannot be upgraded.
-    slabs: Vec<Weak<Members>>,
-    // With this many slabs it looks which of them were dropped.
+    // The slabs and tables that have something of this thread. One that was dropped cannot be upgraded.
+    owners: Vec<Weak<dyn Leave>>,
+    // With this many it looks which of them were dropped.
     prune_at: usize,
 }
 
@@ -39,9 +41,9 @@ impl Drop for Thread {
             return;
         }
         let number = NUMBER.replace(ENDED);
-        for slab in self.slabs.drain(..) {
-            if let Some(members) = slab.upgrade() {
-                members.leave(number);
+        for owner in self.owners.drain(..) {
+            if let Some(owner) = owner.upgrade() {
+                owner.leave(number);
             }
         }
         give_back(number);
@@ -50,59 +52,53 @@ impl Drop for Thread {
 
 // The lowest number that no thread has. None if all are taken.
 fn lease() -> Option<usize> {
-    let lowest = |bits| (bits != u64::MAX).then(|| bits | (bits + 1));
-    let lease_of = |(at, bits): (usize, &AtomicU64)| {
-        // What the thread did that gave the number back happens before what this one does.
-        let before = bits.fetch_update(Acquire, Relaxed, lowest).ok()?;
-        Some(at * 64 + before.trailing_ones() as usize)
-    };
-    NUMBERS.iter().enumerate().find_map(lease_of)
+    NUMBERS.iter().enumerate().find_map(|(at, taken)| Some(at * 64 + taken.take_lowest()?))
 }
 
 fn give_back(number: usize) {
-    if let Some(bits) = NUMBERS.get(number / 64) {
-        bits.fetch_and(!(1 << (number % 64)), Release);
+    if let Some(taken) = NUMBERS.get(number / 64) {
+        taken.give_back(number % 64);
     }
 }
 
-/// The number of this thread. None while it ends.
+/// The number of this thread, or one that no slot has.
 #[inline]
-pub(super) fn number() -> Option<usize> {
-    let number = NUMBER.get();
-    if number < ENDED {
-        return Some(number);
-    }
-    first_number()
+pub(super) fn known() -> usize {
+    NUMBER.get()
 }
 
-#[cold]
-fn first_number() -> Option<usize> {
-    if NUMBER.get() == ENDED {
-        return None;
+/// The number of this thread, which it has from now on. None while it ends, and if an allocator calls from within this.
+pub(crate) fn number() -> Option<usize> {
+    match NUMBER.get() {
+        ENDED | BEGINNING => return None,
+        NONE => {}
+        number => return Some(number),
     }
+    // A call from within would register the destructor twice.
+    NUMBER.set(BEGINNING);
     // What gives the number back is there before the number is.
     let with = |thread: &RefCell<Thread>| {
         let mut thread = thread.try_borrow_mut().ok()?;
-        let number = lease()?;
-        thread.number = number;
-        NUMBER.set(number);
-        Some(number)
+        thread.number = lease()?;
+        Some(thread.number)
     };
-    THREAD.try_with(with).ok().flatten()
+    let number = THREAD.try_with(with).ok().flatten();
+    NUMBER.set(number.unwrap_or(NONE));
+    number
 }
 
-/// Remembers that a slab has something of this thread: whether it is remembered.
-pub(super) fn remember(slab: Weak<Members>) -> bool {
+/// Remembers that a slab or a table has something of this thread: whether it is remembered.
+pub(super) fn remember(owner: Weak<dyn Leave>) -> bool {
     let with = |thread: &RefCell<Thread>| {
         let Ok(mut thread) = thread.try_borrow_mut() else { return false };
-        if thread.slabs.len() >= thread.prune_at {
-            thread.slabs.retain(|slab| slab.strong_count() > 0);
-            thread.prune_at = 8 + 2 * thread.slabs.len();
+        if thread.owners.len() >= thread.prune_at {
+            thread.owners.retain(|owner| owner.strong_count() > 0);
+            thread.prune_at = 8 + 2 * thread.owners.len();
         }
-        if thread.slabs.try_reserve(1).is_err() {
+        if thread.owners.try_reserve(1).is_err() {
             return false;
         }
-        thread.slabs.push(slab);
+        thread.owners.push(owner);
         true
     };
     THREAD.try_with(with).unwrap_or(false)
