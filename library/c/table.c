@@ -5,7 +5,8 @@
 #include <pthread.h>
 #include <stdatomic.h>
 
-enum { WHOLE = 384, ALL_OWN = 60 }; /* the values of a word of one shard of the least table, and the places of threads */
+/* The values of a word of one shard of the least table, and the places of threads. */
+enum { WHOLE = 384, ALL_OWN = 60 };
 
 static const uint64_t words[17] = {7, 8, 9};
 
@@ -244,7 +245,8 @@ static void *works(void *number) {
         IS(shardheap_table_take(&table, other, room, 16, &length), SHARDHEAP_OK);
         TRUE(length == 2 && room[0] == me && room[1] == n);
         IS(shardheap_table_contains(&table, other), SHARDHEAP_GONE);
-        uint32_t code = n % 2 ? shardheap_table_remove(&table, keys[n]) : shardheap_table_take(&table, keys[n], room, 16, &length);
+        uint32_t code = n % 2 ? shardheap_table_remove(&table, keys[n])
+                              : shardheap_table_take(&table, keys[n], room, 16, &length);
         TRUE(code == SHARDHEAP_OK || code == SHARDHEAP_GONE);
         removed += code == SHARDHEAP_OK;
     }

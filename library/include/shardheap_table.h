@@ -31,19 +31,19 @@
      - A thread that finds no place uses a shared one, and looks for one of its own at each call. So does each thread in
        destructors that run after that of this library. With 64 threads or fewer a call waits for a lock only while
        others use all four shared places.
-     - An insert that finds no room, or no memory for more, tries the resting and the shared places before it is refused.
-       It does not try the room of other threads' places.
+     - An insert that finds no room, or no memory for more, tries the resting and the shared places before it is
+       refused. It does not try the room of other threads' places.
      - An allocator may call a table, also from within a call of the same thread on that table. Such a call waits for no
        lock: it has a place that is free at once, or is refused as NO_PLACE.
    Open and close are for one thread: no other call on the table runs meanwhile, and threads may end. A thread whose
    first call on any table comes in the last round of its destructors keeps its place after its end.
 
-   ORDER. A get finds a value whose insert happens before it, and does not find one whose removal happens before it. That
-   is tested, and not proved: the contracts order two passes by receipts alone, which a table has not. Each step of the
-   heap is a sequentially consistent atomic operation.
+   ORDER. A get finds a value whose insert happens before it, and does not find one whose removal happens before it.
+   That is tested, and not proved: the contracts order two passes by receipts alone, which a table has not. Each step of
+   the heap is a sequentially consistent atomic operation.
 
-   SIGNALS, FORK AND UNLOADING. No call is async-signal-safe. Calls in a child forked from a process with threads are not
-   allowed. A library that has libshardheap.a inside is not unloaded while threads exist that used a table.
+   SIGNALS, FORK AND UNLOADING. No call is async-signal-safe. Calls in a child forked from a process with threads are
+   not allowed. A library that has libshardheap.a inside is not unloaded while threads exist that used a table.
 
    MISUSE. Each call returns NULL for a null pointer, and NO_HANDLE for a handle that was not initialised. Each but an
    open returns EMPTY for a table that was not opened or was closed. OVERLAP means that two pointers lead to the same
@@ -188,7 +188,8 @@ SHARDHEAP_API uint32_t shardheap_table_get(const shardheap_table *table, uint64_
     return shardheap_table_fill(shardheap_table_raw_get, table, key, words, room, length);
 }
 
-/* Whether a key has a value: OK if it has. It writes nothing to shared memory, as a get. BAD_KEY, GONE, NO_PLACE, EMPTY.
+/* Whether a key has a value: OK if it has. It writes nothing to shared memory, as a get. BAD_KEY, GONE, NO_PLACE,
+   EMPTY.
 
        code = shardheap_table_contains(&table, key); */
 SHARDHEAP_API uint32_t shardheap_table_contains(const shardheap_table *table, uint64_t key) {
@@ -196,8 +197,8 @@ SHARDHEAP_API uint32_t shardheap_table_contains(const shardheap_table *table, ui
     return code == SHARDHEAP_OK ? shardheap_table_raw_contains(table->at, key) : code;
 }
 
-/* Removes a key: no later get finds it. Of all calls that remove or take it, by all threads, exactly one is OK. BAD_KEY,
-   GONE, NO_PLACE, EMPTY.
+/* Removes a key: no later get finds it. Of all calls that remove or take it, by all threads, exactly one is OK.
+   BAD_KEY, GONE, NO_PLACE, EMPTY.
 
        code = shardheap_table_remove(&table, key); */
 SHARDHEAP_API uint32_t shardheap_table_remove(shardheap_table *table, uint64_t key) {
