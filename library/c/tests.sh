@@ -63,8 +63,8 @@ threaded() {
 all() {
   local compiler=$1 rounds=$2 name
   shift 2
-  for name in session growing_table connections blocks misuse pointers whole reuse taking batches receipts keys own_keys \
-    growing memory checked table table_ends table_memory; do
+  for name in session growing_table connections blocks misuse pointers whole reuse taking batches receipts keys \
+    own_keys growing memory checked table table_ends table_memory; do
     compiled "$compiler" "$name" "$@"
     run "$name"
   done

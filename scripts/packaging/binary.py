@@ -1,8 +1,8 @@
 """The two forms of the library that a package has, of one archive: libshardheap.a and libshardheap.so.
 
 Both have the memory functions of library/src/memory.c and the tables of library/src/table.c inside, and the headers'
-calls by library/src/checked_calls.c. Both show these calls and those that they check, named .._raw_.., and nothing else, so that no name of theirs meets one of the
-program.
+calls by library/src/checked_calls.c. Both show these calls and those that they check, named .._raw_.., and nothing
+else, so that no name of theirs meets one of the program.
 """
 import pathlib
 import re
@@ -15,8 +15,8 @@ TOP = pathlib.Path(__file__).resolve().parent.parent.parent
 MAP = TOP / "library/shardheap.map"
 # What the library takes from the C library.
 TAKEN = {"malloc", "aligned_alloc", "realloc", "free", "madvise", "memcpy", "memmove", "memset", "memcmp", "bcmp"}
-# And what tables take of it besides.
-TAKEN |= {f"pthread_{it}" for it in ("key_create", "setspecific")}
+# And what tables take of it besides, and of the linker for what a thread has.
+TAKEN |= {"_GLOBAL_OFFSET_TABLE_"} | {f"pthread_{it}" for it in ("key_create", "setspecific")}
 TAKEN |= {f"pthread_mutex_{it}" for it in ("init", "destroy", "lock", "trylock", "unlock")}
 WARNINGS = ["-Wall", "-Wextra", "-Wpedantic", "-Wconversion", "-Werror"]
 
