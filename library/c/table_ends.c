@@ -4,11 +4,12 @@
 #include "check.h"
 #include <pthread.h>
 #include <semaphore.h>
+#include <stdatomic.h>
 
 static const uint64_t words[2] = {7, 8};
 static shardheap_table table = SHARDHEAP_INIT;
 static pthread_key_t before, after;
-static int called;
+static atomic_int called;
 
 /* Each call that a destructor may make. */
 static void uses(void) {
@@ -78,7 +79,11 @@ static void *outlives(void *other) {
     return NULL;
 }
 
-enum { THREADS = 8 };
+#ifdef FEWER_ROUNDS
+enum { THREADS = 8, ROUNDS = 10 };
+#else
+enum { THREADS = 8, ROUNDS = 100 };
+#endif
 
 static void closes(shardheap_table *other, int rounds, int waits) {
     pthread_t threads[THREADS];
@@ -107,7 +112,7 @@ int main(void) {
     sem_init(&closed, 0, 0);
     closes(NULL, 5, 1);
     closes(&other, 5, 1);
-    closes(NULL, 100, 0);
+    closes(NULL, ROUNDS, 0);
     puts("table_ends: destructors before and after the table's own, and tables that end before their threads");
     return 0;
 }
