@@ -6,17 +6,17 @@
 #include <stdio.h>
 #include <stdlib.h>
 
-static int checks;
+static int checks; /* by all threads */
 
 static void same_code(uint32_t got, uint32_t wanted, const char *call, const char *file, int line) {
-    checks++;
+    __atomic_add_fetch(&checks, 1, __ATOMIC_RELAXED);
     if (got == wanted) return;
     fprintf(stderr, "%s:%d: %s is %s and not %s\n", file, line, call, shardheap_name(got), shardheap_name(wanted));
     exit(1);
 }
 
 static void true_that(int what, const char *text, const char *file, int line) {
-    checks++;
+    __atomic_add_fetch(&checks, 1, __ATOMIC_RELAXED);
     if (what) return;
     fprintf(stderr, "%s:%d: %s\n", file, line, text);
     exit(1);

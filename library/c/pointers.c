@@ -172,7 +172,8 @@ int main(void) {
     TRUE(strcmp(shardheap_name(SHARDHEAP_NO_HANDLE), "NoHandle") == 0);
     TRUE(strcmp(shardheap_name(SHARDHEAP_OTHER_HEAP), "OtherHeap") == 0);
     TRUE(strcmp(shardheap_name(SHARDHEAP_NO_KEY), "NoKey") == 0);
-    TRUE(strcmp(shardheap_name(SHARDHEAP_NO_KEY + 1), "unknown") == 0);
+    TRUE(strcmp(shardheap_name(SHARDHEAP_NO_PLACE), "NoPlace") == 0);
+    TRUE(strcmp(shardheap_name(SHARDHEAP_NO_PLACE + 1), "unknown") == 0);
     printf("pointers: %d checks passed\n", checks);
     return 0;
 }

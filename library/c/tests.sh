@@ -22,12 +22,15 @@ takes_memory() {
   gcc -std=c11 $warnings -O2 -fPIC -c library/src/memory.c -o "$memory"
 }
 
-# compiled COMPILER NAME FLAG..: a test's program.
+# compiled COMPILER NAME FLAG..: a test's program. Those of tables compile table.c too, with the same flags.
 compiled() {
   local compiler=$1 name=$2 wrap=
   shift 2
   case $name in
-    memory | signals) wrap=-Wl,--wrap=malloc,--wrap=aligned_alloc,--wrap=realloc,--wrap=free ;;
+    table* | connections) set -- "$@" library/src/table.c ;;
+  esac
+  case $name in
+    memory | table_memory | signals) wrap=-Wl,--wrap=malloc,--wrap=aligned_alloc,--wrap=realloc,--wrap=free ;;
     blocks) wrap=-Wl,--wrap=madvise ;;
   esac
   # shellcheck disable=SC2086,SC2154
@@ -60,8 +63,8 @@ threaded() {
 all() {
   local compiler=$1 rounds=$2 name
   shift 2
-  for name in session growing_table blocks misuse pointers whole reuse taking batches receipts keys own_keys growing \
-    memory checked; do
+  for name in session growing_table connections blocks misuse pointers whole reuse taking batches receipts keys \
+    own_keys growing memory checked table table_ends table_memory; do
     compiled "$compiler" "$name" "$@"
     run "$name"
   done
@@ -72,7 +75,8 @@ all() {
 in_checked_mode() {
   local compiler=$1 rounds=$2 name
   shift 2
-  for name in session growing_table pointers whole reuse taking batches receipts keys own_keys growing memory; do
+  for name in session growing_table connections pointers whole reuse taking batches receipts keys own_keys growing \
+    memory table table_ends table_memory; do
     compiled "$compiler" "$name" -DSHARDHEAP_CHECKED "$@"
     run "$name"
   done
@@ -93,36 +97,47 @@ alone() {
   run signals 500 "$((limit - 10))"
 }
 
-# The example in the head of the header, as a program: each call returns OK.
+# head_example HEADER: the example in the head of the header, as a program: each call returns OK.
 head_example() {
+  local close=${1%.h}_close
   {
-    printf '#include "shardheap.h"\nint main(void) {\n    uint32_t code = 0;\n'
-    sed -n '/^ \{7\}#include/,/^ \{7\}shardheap_close/s/^ \{7\}\([^#].*;\)\(    .*\)\{0,1\}$/    \1/p' \
-      library/include/shardheap.h | sed '/shardheap_close/!s/^    shardheap_\w\+(/    code |= &/'
+    printf '#include "%s"\nint main(void) {\n    uint32_t code = 0;\n' "$1"
+    sed -n "/^ \{7\}#include/,/^ \{7\}$close/s/^ \{7\}\([^#].*;\)\(    .*\)\{0,1\}\$/    \1/p" \
+      "library/include/$1" | sed "/$close/!s/^    shardheap_\w\+(/    code |= &/"
     printf '    return code != 0 || length != 2 || room[0] != 7 || room[1] != 8;\n}\n'
   } > "$out/head.c"
   # shellcheck disable=SC2086
-  gcc -std=c11 $warnings -g -Ilibrary/include "$out/head.c" "$archive" "$memory" -lpthread -o "$out/head"
+  gcc -std=c11 $warnings -g -Ilibrary/include "$out/head.c" library/src/table.c "$archive" "$memory" -lpthread \
+    -o "$out/head"
   run head && return
-  echo "the example in the head of shardheap.h does not do what its comments say" >&2
+  echo "the example in the head of $1 does not do what its comments say" >&2
   return 1
 }
 
-# The examples in the header's comments, which begin in column eight. That of the head is run.
+# The examples in the headers' comments, which begin in column eight. Those of the heads are run.
 examples() {
-  echo "== the header's examples"
+  echo "== the headers' examples"
   {
-    printf '#include "shardheap.h"\nuint64_t examples(void);\nuint64_t examples(void) {\n'
+    printf '#include "shardheap_table.h"\nuint64_t examples(void);\nuint64_t examples(void) {\n'
     printf '    shardheap heap = SHARDHEAP_INIT;\n    shardheap_pass pass = SHARDHEAP_INIT;\n'
-    printf '    shardheap_receipt receipt = SHARDHEAP_INIT;\n'
+    printf '    shardheap_receipt receipt = SHARDHEAP_INIT;\n    shardheap_table table = SHARDHEAP_INIT;\n'
     printf '    uint32_t code, page = 0;\n'
     printf '    uint64_t words[2] = {7, 8}, room[16], key = 0, second = 1, length = 0, count;\n'
     sed -n '/---- A heap/,$s/^ \{7\}\([^ ].*;\)\(    .*\)\{0,1\}\( \*\/\)\{0,1\}$/    \1/p' library/include/shardheap.h
+    sed -n '/---- A table/,$s/^ \{7\}\([^ ].*;\)\(    .*\)\{0,1\}\( \*\/\)\{0,1\}$/    \1/p' \
+      library/include/shardheap_table.h
     printf '    return code + page + key + length + count;\n}\n'
   } > "$out/examples.c"
   # shellcheck disable=SC2086
   gcc -std=c11 $warnings -fsyntax-only -Ilibrary/include "$out/examples.c"
-  head_example
+  head_example shardheap.h
+  head_example shardheap_table.h
+}
+
+# tables SEEDS: threads of a table that take turns, each order of which comes from a seed, and planted faults.
+tables() {
+  echo "== threads of a table that take turns"
+  timeout "$limit" python3 library/c/table_turns.py "$out" "$1" "$memory" "$archive"
 }
 
 # The example of README.md in C, which is a whole program. Its comment says what it prints.

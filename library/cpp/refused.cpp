@@ -12,6 +12,32 @@ struct too_long {
     char bytes[129];
 };
 
+void tables(gearlongan::table<double> &numbers, gearlongan::table<float> &others, gearlongan::key_of<double> half);
+void tables(gearlongan::table<double> &numbers, gearlongan::table<float> &others, gearlongan::key_of<double> half) {
+    // A key is of the table's type, and no number.
+    (void)others.get(half); //~ no
+    others.remove(half); //~ no
+    (void)numbers.get(gearlongan::key(5)); //~ no
+    (void)numbers.get(5); //~ no
+    (void)(half == gearlongan::key_of<float>(5)); //~ operator==
+
+    gearlongan::table<double> copy = numbers; //~ deleted
+    gearlongan::table<owns_memory> texts; //~ a record is a trivially copyable type
+    gearlongan::table<too_long> longs; //~ a record is a trivially copyable type
+    numbers.insert(0.5); //~ nodiscard
+    numbers.take(half); //~ nodiscard
+    numbers.get(half); //~ nodiscard
+    numbers.try_remove(half); //~ nodiscard
+
+    // Several threads call what is const and what is not. A const table does not change.
+    const gearlongan::table<double> &constant = numbers;
+    (void)constant.get(half), (void)constant.contains(half), (void)constant.size();
+    constant.remove(half); //~ const
+    (void)constant.insert(0.5); //~ const
+    (void)constant.take(half); //~ const
+    (void)others;
+}
+
 void refused(gearlongan::heap &heap, gearlongan::pass &pass, gearlongan::shard &shard, const gearlongan::key key);
 void refused(gearlongan::heap &heap, gearlongan::pass &pass, gearlongan::shard &shard, const gearlongan::key key) {
     gearlongan::guard guard = pass.get(key);

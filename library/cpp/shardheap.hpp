@@ -12,15 +12,16 @@
 //     assert(!pass.load(key));
 //
 // The head of shardheap.h says what heaps, passes, shards, keys, holds and receipts are, and what its calls return.
-// This header changes none of that. It is not proved, as that header is not.
+// This header changes none of that. It is not proved, as that header is not. A table of records that any thread uses
+// without a pass is a gearlongan::table, over the calls of shardheap_table.h.
 //
 // NAMESPACE. It is `gearlongan`, because `shardheap` is a type of shardheap.h: C++ allows no namespace of that name
 // beside it. `gearlongan` is the name of the crate for Rust, too.
 //
-// HANDLES. A heap, a growing heap, a pass, a shard, a caller, a guard and a receipt can be moved and not copied. One
-// that was default-constructed, closed or moved from is empty. It may be destroyed, assigned to and filled. Any other
-// call on it returns errc::empty. To move a handle onto itself does nothing. An assignment first closes what the target
-// holds.
+// HANDLES. A heap, a growing heap, a pass, a shard, a caller, a guard, a receipt and a table can be moved and not
+// copied. One that was default-constructed, closed or moved from is empty. It may be destroyed, assigned to and filled.
+// Any other call on it returns errc::empty. To move a handle onto itself does nothing. An assignment first closes what
+// the target holds.
 //
 // GUARDS. A guard refers to its pass or shard, as an iterator refers to its container. While a guard exists, its pass
 // is not moved, closed, or destroyed; nor does it adopt or leave. Otherwise the hold is lost, or the guard refers to an
@@ -39,7 +40,8 @@
 //
 // THREADS. The rules are those of shardheap.h. A pass, with its guards, is used by one thread at a time, and may go to
 // another thread by whatever orders the two. The calls on a handle are therefore not const. A const member function may
-// be called by several threads at once, except those of a guard, which use its pass.
+// be called by several threads at once, except those of a guard, which use its pass. All calls on a table may, except
+// that it is moved, opened, closed and destroyed by one thread alone.
 //
 // SIGNALS. In a signal handler a program may use the forms that do not throw, of the calls that shardheap.h allows
 // there, and a guard's destructor.
@@ -70,6 +72,7 @@
 #include "gearlongan/ranges.hpp"
 #include "gearlongan/readers.hpp"
 #include "gearlongan/receipts.hpp"
+#include "gearlongan/tables.hpp"
 #include "gearlongan/values.hpp"
 
 #endif

@@ -2,20 +2,30 @@
 # read library/c/tests.sh before: `archive`, `memory`, `out`, `warnings`, `has` and `run` are its.
 # shellcheck shell=bash disable=SC2154
 
-# cpp_compiled COMPILER STANDARD NAME FLAG..: a test's program.
+# of_c_as COMPILER: the compiler of C that belongs to one of C++.
+of_c_as() {
+  case $1 in
+    clang++*) echo "clang${1#clang++}" ;;
+    *) echo "gcc${1#g++}" ;;
+  esac
+}
+
+# cpp_compiled COMPILER STANDARD NAME FLAG..: a test's program, with tables, which are compiled with the same flags.
 cpp_compiled() {
   local compiler=$1 standard=$2 name=$3 sources=("library/cpp/$3.cpp") wrap=
   shift 3
+  # shellcheck disable=SC2086
+  "$(of_c_as "$compiler")" -std=c11 $warnings -g "$@" -Ilibrary/include -c library/src/table.c -o "$out/cpp-table.o"
   case $name in
-    tests) sources+=(library/cpp/{values,threads,handing,growing}.cpp) ;;
+    tests) sources+=(library/cpp/{values,threads,handing,growing,tables}.cpp) ;;
     waiting) wrap=$(printf -- ' -Wl,--wrap=shardheap_raw_%s' leave take load receipt_make) ;;
     plain) set -- "$@" -fno-exceptions -fno-rtti ;;
     examples) sources=("$out/examples.cpp") ;;
     readme) sources=("$out/examples.cpp.readme.cpp") ;;
   esac
   # shellcheck disable=SC2086
-  "$compiler" "-std=$standard" $warnings -Wshadow -g "$@" -Ilibrary/include -Ilibrary/cpp "${sources[@]}" "$archive" \
-    "$memory" $wrap -lpthread -o "$out/cpp-$name"
+  "$compiler" "-std=$standard" $warnings -Wshadow -g "$@" -Ilibrary/include -Ilibrary/cpp "${sources[@]}" \
+    "$out/cpp-table.o" "$archive" "$memory" $wrap -lpthread -o "$out/cpp-$name"
 }
 
 # cpp_run COMPILER STANDARD NAME FLAG..: compiles a test, and runs it.
@@ -29,7 +39,7 @@ cpp_all() {
   local compiler=$1 standard=$2 name
   shift 2
   python3 library/cpp/examples.py "$out/examples.cpp"
-  for name in tests waiting plain checked examples; do
+  for name in tests waiting plain checked examples entities; do
     cpp_run "$compiler" "$standard" "$name" "$@"
   done
   cpp_compiled "$compiler" "$standard" readme "$@"
@@ -59,7 +69,7 @@ cpp_other_standards() {
   for standard in c++20 c++23 c++2b; do
     "$1" "-std=$standard" -fsyntax-only -x c++ /dev/null 2> /dev/null || continue
     echo "== C++ by $1, $standard"
-    for source in tests values threads handing growing waiting checked; do
+    for source in tests values threads handing growing tables waiting checked entities; do
       # shellcheck disable=SC2086
       "$1" "-std=$standard" $warnings -Wshadow -fsyntax-only -Ilibrary/include -Ilibrary/cpp "library/cpp/$source.cpp"
     done

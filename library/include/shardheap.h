@@ -173,7 +173,8 @@ typedef enum shardheap_code {
     SHARDHEAP_MOVED = 25,      /* SHARDHEAP_CHECKED: the handle was filled at another place */
     SHARDHEAP_BUSY = 26,       /* SHARDHEAP_CHECKED: another call uses the handle */
     SHARDHEAP_OTHER_HEAP = 27, /* SHARDHEAP_CHECKED: the key or the receipt is not of this heap */
-    SHARDHEAP_NO_KEY = 28      /* there is no further key */
+    SHARDHEAP_NO_KEY = 28,     /* there is no further key */
+    SHARDHEAP_NO_PLACE = 29    /* of shardheap_table.h: the table has no place for the call */
 } shardheap_code;
 
 /* The name of a code, and "unknown" for other numbers. */
@@ -182,7 +183,7 @@ SHARDHEAP_API const char *shardheap_name(uint32_t code) {
         "Ok",     "BadKey", "Gone",    "Crowded", "HoldsFull", "NotHeld", "TooLong",
         "Full",   "Memory", "Taken",   "NoShard", "Waiting",   "BadShape", "unknown",
         "Empty",  "Occupied", "NoPass", "Short",  "Null",      "BadLayout", "Owns",   "Away",
-        "NoPage", "Overlap", "NoHandle", "Moved", "Busy",    "OtherHeap", "NoKey",
+        "NoPage", "Overlap", "NoHandle", "Moved", "Busy",    "OtherHeap", "NoKey",  "NoPlace",
     };
     return code < sizeof names / sizeof names[0] ? names[code] : "unknown";
 }

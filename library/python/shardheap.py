@@ -63,6 +63,7 @@ class Code(enum.IntEnum):
     BUSY = 26
     OTHER_HEAP = 27
     NO_KEY = 28
+    NO_PLACE = 29
 
 
 class Layout(enum.IntEnum):

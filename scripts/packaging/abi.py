@@ -6,6 +6,8 @@ import tempfile
 
 TOP = pathlib.Path(__file__).resolve().parent.parent.parent
 STORED = TOP / "library/abi.txt"
+# The headers, each of which includes those before it.
+HEADERS = [TOP / "library/include/shardheap.h", TOP / "library/include/shardheap_table.h"]
 STRUCT = re.compile(r"^typedef struct (\w+) \{\n(.*?)^\} \1;", re.M | re.S)
 FIELD = re.compile(r"^ +(?:const )?\w+ \*?(\w+)(?:\[\d+\])?;", re.M)
 NUMBER = re.compile(r"^ +(SHARDHEAP_\w+) = \d+", re.M)
@@ -17,9 +19,13 @@ def version():
     return re.search(r'(?m)^version = "(.*)"$', (TOP / "library/rust/Cargo.toml").read_text())[1]
 
 
-def calls(header):
+def text_of(headers):
+    return "".join(it.read_text() for it in headers)
+
+
+def calls(headers):
     """The calls that the library exports, each in one line with the types of what it returns and takes."""
-    found = [" ".join(it.split()) for it in CALL.findall(header.read_text())]
+    found = [" ".join(it.split()) for it in CALL.findall(text_of(headers))]
     return [re.sub(r" ?\b\w+(?=[,)])", "", it) if not it.endswith("(void)") else it for it in found]
 
 
@@ -27,26 +33,27 @@ def name_of(call):
     return re.search(r"(shardheap_\w+)\(", call)[1]
 
 
-def asked(header):
+def asked(headers):
     """A program that prints the sizes, offsets and numbers."""
-    text, prints = header.read_text(), []
+    text, prints = text_of(headers), []
     for struct, body in STRUCT.findall(text):
         prints.append(f'printf("size {struct} %zu, aligned to %zu\\n", sizeof({struct}), _Alignof({struct}));')
         for field in FIELD.findall(body):
             prints.append(f'printf("offset {struct}.{field} %zu, size %zu\\n", offsetof({struct}, {field}), '
                           f"sizeof((({struct} *)0)->{field}));")
     prints += [f'printf("number {it} %d\\n", (int){it});' for it in NUMBER.findall(text)]
-    return "\n".join([f'#include "{header}"', "#include <stdio.h>", "int main(void) {", *prints, "}\n"])
+    includes = [f'#include "{it}"' for it in headers]
+    return "\n".join([*includes, "#include <stdio.h>", "int main(void) {", *prints, "}\n"])
 
 
-def measured(header):
-    """The lines of the header, in its order. A call has no version."""
+def measured(headers):
+    """The lines of the headers, in their order. A call has no version."""
     with tempfile.TemporaryDirectory(prefix="abi-") as room:
         program = pathlib.Path(room) / "asked"
-        subprocess.run(["gcc", "-std=c11", "-w", "-x", "c", "-", "-o", program], input=asked(header), text=True,
+        subprocess.run(["gcc", "-std=c11", "-w", "-x", "c", "-", "-o", program], input=asked(headers), text=True,
                        check=True)
         printed = subprocess.run([program], check=True, capture_output=True, text=True).stdout
-    return printed.splitlines() + [f"call {it}" for it in calls(header)]
+    return printed.splitlines() + [f"call {it}" for it in calls(headers)]
 
 
 def lines():

@@ -1,8 +1,8 @@
 """The two forms of the library that a package has, of one archive: libshardheap.a and libshardheap.so.
 
-Both have the memory functions of library/src/memory.c inside, and the header's calls by library/src/checked_calls.c.
-Both show these calls and those named shardheap_raw_.. and nothing else, so that no name of theirs meets one of the
-program.
+Both have the memory functions of library/src/memory.c and the tables of library/src/table.c inside, and the headers'
+calls by library/src/checked_calls.c. Both show these calls and those that they check, named .._raw_.., and nothing
+else, so that no name of theirs meets one of the program.
 """
 import pathlib
 import re
@@ -15,6 +15,9 @@ TOP = pathlib.Path(__file__).resolve().parent.parent.parent
 MAP = TOP / "library/shardheap.map"
 # What the library takes from the C library.
 TAKEN = {"malloc", "aligned_alloc", "realloc", "free", "madvise", "memcpy", "memmove", "memset", "memcmp", "bcmp"}
+# And what tables take of it besides, and of the linker for what a thread has.
+TAKEN |= {"_GLOBAL_OFFSET_TABLE_"} | {f"pthread_{it}" for it in ("key_create", "setspecific")}
+TAKEN |= {f"pthread_mutex_{it}" for it in ("init", "destroy", "lock", "trylock", "unlock")}
 WARNINGS = ["-Wall", "-Wextra", "-Wpedantic", "-Wconversion", "-Werror"]
 
 
@@ -23,8 +26,8 @@ def ran(*words):
 
 
 def declared():
-    """The calls that the header declares, and those that it has with checks."""
-    return {abi.name_of(it) for it in abi.calls(TOP / "library/include/shardheap.h")}
+    """The calls that the headers declare, and those that they have with checks."""
+    return {abi.name_of(it) for it in abi.calls(abi.HEADERS)}
 
 
 def shown(file, *words):
@@ -36,21 +39,22 @@ def compare(file, found, wanted):
     """Stops at a name that only one of both has."""
     for name in sorted(found ^ wanted):
         sys.exit(f"package: {file.name} {'shows' if name in found else 'does not show'} {name}, "
-                 f"which the header {'does not declare' if name in found else 'declares'}")
+                 f"which {'no header declares' if name in found else 'a header declares'}")
 
 
 def take_nothing_else(compiled):
-    """Stops if the library takes more from elsewhere than the C library's memory."""
+    """Stops if the library takes more from elsewhere than memory and what tables need of threads."""
     more = set(re.findall(r"^ +U (\w+)$", ran("nm", "-u", compiled), re.M)) - TAKEN
     if more:
         sys.exit(f"package: the library would need {', '.join(sorted(more))} of the program that links it")
 
 
 def static(archive, made, room):
-    """Makes libshardheap.a: one relocatable object of the archive, the memory functions and the checked calls."""
+    """Makes libshardheap.a: one relocatable object of the archive, the memory functions, the tables and the checked
+    calls."""
     whole, compiled, names = (room / it for it in ("whole.o", "shardheap.o", "names"))
     how = ["-std=c11", *WARNINGS, "-O2", "-march=x86-64", "-fPIC", "-I", TOP / "library/include"]
-    ours = {TOP / f"library/src/{it}.c": room / f"{it}.o" for it in ("memory", "checked_calls")}
+    ours = {TOP / f"library/src/{it}.c": room / f"{it}.o" for it in ("memory", "table", "checked_calls")}
     for source, made_of_it in ours.items():
         ran("gcc", *how, "-c", source, "-o", made_of_it)
     ran("ld", "-r", "--whole-archive", archive, "--no-whole-archive", *ours.values(), "-o", whole)
@@ -66,6 +70,8 @@ def shared(archive, made, name):
     """Makes the shared library of libshardheap.a, under the name that programs look for."""
     how = [f"-Wl,-soname,{name}", f"-Wl,--version-script={MAP}", "-Wl,--no-undefined", "-Wl,--build-id=sha1"]
     how += ["-Wl,-z,relro", "-Wl,-z,now", "-Wl,-z,noexecstack"]
+    # (the end of a thread calls into it, so that it stays as long as the process)
+    how += ["-Wl,-z,nodelete"]
     ran("gcc", "-shared", *how, "-Wl,--whole-archive", archive, "-Wl,--no-whole-archive", "-o", made)
     ran("strip", "--strip-unneeded", "--remove-section=.comment", made)
     made.chmod(0o644)

@@ -1,6 +1,7 @@
 """Lays a package out below a prefix: the header, both libraries, what finds them, the Rust crates and the documents."""
 import shutil
 
+import abi
 import binary
 import crates
 import licences
@@ -9,7 +10,7 @@ from common import SONAME, TEMPLATES, TOP, filled, version
 
 DOCUMENTS = "share/doc/libshardheap-dev"
 # The programs in C that a user may copy. Those in Rust are in the crate.
-EXAMPLES = ["session.c", "growing_table.c"]
+EXAMPLES = ["session.c", "growing_table.c", "connections.c"]
 PYTHON = "share/shardheap/python"
 
 
@@ -27,9 +28,9 @@ def libraries(archive, folder, room):
 
 
 def headers(folder):
-    """The header, and that of C++ with the headers that it includes."""
+    """The headers, and that of C++ with those that it includes."""
     folder.mkdir()
-    for file in (TOP / "library/include/shardheap.h", TOP / "library/cpp/shardheap.hpp"):
+    for file in (*abi.HEADERS, TOP / "library/cpp/shardheap.hpp"):
         shutil.copy(file, folder)
     shutil.copytree(TOP / "library/cpp/gearlongan", folder / "gearlongan")
 

@@ -63,8 +63,8 @@ UNCRATED, CRATED = "cd $PACKAGES\ntar -xzf gearlongan-*.crate\n", """
 tar -czf $(ls gearlongan-*.crate) gearlongan-*/
 rm -r gearlongan-*/"""
 # The names that the header declares, and those that a file shows.
-DECLARED = r"""sed -n 's/^[a-z0-9_]* \(shardheap_raw_[a-z_]*\)(.*/\1/p' $PREFIX/include/shardheap.h > raw
-sed -n 's/^SHARDHEAP_API [^(]*\(shardheap_[a-z_]*\)(.*/\1/p' $PREFIX/include/shardheap.h | sort - raw > declared"""
+DECLARED = r"""sed -n 's/^[a-z0-9_]* \(shardheap_[a-z_]*\)(.*/\1/p' $PREFIX/include/shardheap*.h > raw
+sed -n 's/^SHARDHEAP_API [^(]*\(shardheap_[a-z_]*\)(.*/\1/p' $PREFIX/include/shardheap*.h | sort - raw > declared"""
 SHOWN = "awk '$2 ~ /[B-Z]/ {sub(/@.*/, \"\", $3); print $3}' | grep -v SHARDHEAP_0 | sort > shown"
 
 

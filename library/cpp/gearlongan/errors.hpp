@@ -48,6 +48,7 @@ enum class [[nodiscard]] errc : std::uint32_t {
     busy = SHARDHEAP_BUSY,
     other_heap = SHARDHEAP_OTHER_HEAP,
     no_key = SHARDHEAP_NO_KEY,
+    no_place = SHARDHEAP_NO_PLACE,
     wrong_size = 1000, ///< of this header alone: the value has another number of words than the record
 };
 

@@ -3,6 +3,7 @@
 #define GEARLONGAN_HANDLES_HPP
 
 #include "gearlongan/errors.hpp"
+#include "shardheap_table.h"
 
 #include <cstdint>
 #include <utility>
@@ -14,9 +15,13 @@ namespace detail {
 inline std::uint32_t begin(shardheap *handle) noexcept { return shardheap_begin_heap(handle); }
 inline std::uint32_t begin(shardheap_pass *handle) noexcept { return shardheap_begin_pass(handle); }
 inline std::uint32_t begin(shardheap_receipt *handle) noexcept { return shardheap_begin_receipt(handle); }
+inline std::uint32_t begin(shardheap_table *handle) noexcept { return shardheap_table_begin(handle); }
 inline void settle(shardheap *handle) noexcept { shardheap_settle_heap(handle, SHARDHEAP_OK); }
 inline void settle(shardheap_pass *handle) noexcept { shardheap_settle_pass(handle, SHARDHEAP_OK); }
 inline void settle(shardheap_receipt *handle) noexcept { shardheap_settle_receipt(handle, SHARDHEAP_OK); }
+inline void settle(shardheap_table *handle) noexcept {
+    shardheap_settle(handle, handle->full, &handle->seal, SHARDHEAP_OK);
+}
 
 // Moves what is in a handle to one that is empty. In checked mode a handle that another call uses stays as it is.
 template <class Handle> void shift(Handle &from, Handle &to) noexcept {
@@ -30,8 +35,9 @@ template <class Handle> void shift(Handle &from, Handle &to) noexcept {
 
 inline void close(shardheap *handle) noexcept { shardheap_close(handle); }
 inline void close(shardheap_receipt *handle) noexcept { shardheap_receipt_close(handle); }
+inline void close(shardheap_table *handle) noexcept { shardheap_table_close(handle); }
 
-/// What a heap, a growing heap and a receipt have in common: a handle that can be moved, and closes itself.
+/// What a heap, a growing heap, a receipt and a table have in common: a handle that can be moved, and closes itself.
 template <class Handle> class owned {
 public:
     owned(const owned &) = delete;
@@ -42,6 +48,7 @@ public:
 
     /// The handle, for a call of shardheap.h that this header does not have. It stays the property of this object.
     [[nodiscard]] Handle *raw() noexcept { return &raw_; }
+    [[nodiscard]] const Handle *raw() const noexcept { return &raw_; }
 
     /// Empties the object, as its destructor does.
     ///

@@ -1,0 +1,239 @@
+// Tables of records that any thread uses, without a pass. A part of shardheap.hpp, which says what holds of all.
+#ifndef GEARLONGAN_TABLES_HPP
+#define GEARLONGAN_TABLES_HPP
+
+#include "gearlongan/handles.hpp"
+#include "gearlongan/values.hpp"
+
+#include <cstddef>
+#include <cstdint>
+#include <cstring>
+#include <functional>
+#include <optional>
+
+namespace gearlongan {
+
+/// The key of a record of type R in a table: a number that no other record of its table ever has. It converts to no key
+/// of another type. That it is of another table of the same type is not found.
+///
+///     using number_key = gearlongan::key_of<double>;
+///     static_assert(sizeof(number_key) == 8 && !std::is_convertible_v<number_key, gearlongan::key_of<float>>);
+///     assert(number_key(4096).number() == 4096);
+template <class R> class key_of {
+public:
+    constexpr key_of() noexcept = default;
+    explicit constexpr key_of(std::uint64_t number) noexcept : number_(number) {}
+    [[nodiscard]] constexpr std::uint64_t number() const noexcept { return number_; }
+
+    friend constexpr bool operator==(key_of a, key_of b) noexcept { return a.number_ == b.number_; }
+    friend constexpr bool operator!=(key_of a, key_of b) noexcept { return a.number_ != b.number_; }
+    friend constexpr bool operator<(key_of a, key_of b) noexcept { return a.number_ < b.number_; }
+    friend constexpr bool operator>(key_of a, key_of b) noexcept { return b < a; }
+    friend constexpr bool operator<=(key_of a, key_of b) noexcept { return !(b < a); }
+    friend constexpr bool operator>=(key_of a, key_of b) noexcept { return !(a < b); }
+
+private:
+    std::uint64_t number_ = 0;
+};
+
+/// What a table has room for as it opens, and how far it grows.
+struct table_room {
+    std::uint32_t threads = 2; ///< that insert at the same time, 1 to 64; each has room of its own
+    std::uint64_t values = 1;  ///< of each of these threads, at least
+    std::uint32_t chunks = 64; ///< in all, 1 to 256: an insert that finds no room opens another
+};
+
+/// A table of records of type R, which is trivially copyable and has at most 128 bytes. Any number of threads use one
+/// object, at the same time, except that it is moved, closed and destroyed by one thread while no other uses it. The
+/// head of shardheap_table.h says which calls take a lock or memory. The refusals of all calls here include
+/// errc::empty.
+///
+///     auto numbers = gearlongan::table<double>::open();
+///     const gearlongan::key_of<double> half = numbers.insert(0.5);
+///     std::thread([&] { assert(numbers.get(half) == 0.5); }).join();
+///     assert(numbers.take(half) == 0.5 && !numbers.get(half));    // from now on, for ever
+template <class R> class [[nodiscard]] table : public detail::owned<shardheap_table> {
+    static_assert(is_record_v<R>, "a record is a trivially copyable type of at most 128 bytes");
+
+public:
+    using key_type = key_of<R>;
+
+    // (a user-provided one, as an empty table may be const)
+    table() noexcept {} // NOLINT(modernize-use-equals-default)
+    table(table &&) noexcept = default;
+    table &operator=(table &&) noexcept = default;
+    ~table() = default;
+
+    /// Opens a table in this object, which is empty. occupied, memory; bad_shape, if a number is outside its limits or
+    /// no first chunk has the room.
+    ///
+    ///     gearlongan::table<double> numbers;
+    ///     assert(numbers.try_open({4, 10000, 257}) == gearlongan::errc::bad_shape);
+    ///     assert(numbers.try_open() == gearlongan::errc::ok && numbers.size() == 0);
+    errc try_open(table_room first = {}) noexcept {
+        return static_cast<errc>(
+            shardheap_table_open_for(raw(), first.threads, first.values, detail::words_of<R>, first.chunks));
+    }
+
+    /// Stores a record. memory, no_place; full, if the table has all its chunks and no place that it tried has room.
+    ///
+    ///     auto numbers = gearlongan::table<double>::open();
+    ///     gearlongan::key_of<double> half;
+    ///     assert(numbers.try_insert(0.5, half) == gearlongan::errc::ok);
+    errc try_insert(const R &record, key_type &into) noexcept {
+        std::uint64_t number = 0;
+        const detail::record_words<R> value(record);
+        const auto code = static_cast<errc>(shardheap_table_insert(raw(), value.words, detail::words_of<R>, &number));
+        if (code == errc::ok) into = key_type(number);
+        return code;
+    }
+
+    /// Copies a record. bad_key, gone, no_place.
+    ///
+    ///     auto numbers = gearlongan::table<double>::open();
+    ///     double half = 0;
+    ///     assert(numbers.try_get(numbers.insert(0.5), half) == gearlongan::errc::ok && half == 0.5);
+    errc try_get(key_type of, R &into) const noexcept {
+        words_read words;
+        return words.copied(shardheap_table_get(raw(), of.number(), words.all, words.most, &words.length), into);
+    }
+
+    /// Whether a key has a record: ok if it has. bad_key, gone, no_place.
+    ///
+    ///     auto numbers = gearlongan::table<double>::open();
+    ///     assert(numbers.try_contains(gearlongan::key_of<double>(~0ull)) == gearlongan::errc::bad_key);
+    errc try_contains(key_type of) const noexcept {
+        return static_cast<errc>(shardheap_table_contains(raw(), of.number()));
+    }
+
+    /// Removes a key: no later get finds it. Of all calls that remove or take it, exactly one is ok. bad_key, gone,
+    /// no_place.
+    ///
+    ///     auto numbers = gearlongan::table<double>::open();
+    ///     assert(numbers.try_remove(numbers.insert(0.5)) == gearlongan::errc::ok);
+    errc try_remove(key_type of) noexcept { return static_cast<errc>(shardheap_table_remove(raw(), of.number())); }
+
+    /// Copies a record, and removes its key. bad_key, gone, no_place.
+    ///
+    ///     auto numbers = gearlongan::table<double>::open();
+    ///     double half = 0;
+    ///     assert(numbers.try_take(numbers.insert(0.5), half) == gearlongan::errc::ok && numbers.size() == 0);
+    errc try_take(key_type of, R &into) noexcept {
+        words_read words;
+        return words.copied(shardheap_table_take(raw(), of.number(), words.all, words.most, &words.length), into);
+    }
+
+    /// Takes a place for this thread beforehand. Calls are served without it. memory, no_place.
+    ///
+    ///     auto numbers = gearlongan::table<double>::open();
+    ///     assert(numbers.try_enter() == gearlongan::errc::ok);
+    errc try_enter() noexcept { return static_cast<errc>(shardheap_table_enter(raw())); }
+
+    /// Lets the place of this thread rest, for another thread to have it. no_place.
+    ///
+    ///     auto numbers = gearlongan::table<double>::open();
+    ///     assert(numbers.try_rest() == gearlongan::errc::ok);
+    errc try_rest() noexcept { return static_cast<errc>(shardheap_table_rest(raw())); }
+
+    /// How many records there are: exact if no call runs, and otherwise off by at most the calls that run. 0 of an
+    /// empty object.
+    ///
+    ///     auto numbers = gearlongan::table<double>::open();
+    ///     const auto half = numbers.insert(0.5);
+    ///     assert(numbers.size() == 1 && numbers.remove(half) && numbers.size() == 0);
+    [[nodiscard]] std::uint64_t size() const noexcept { return shardheap_table_length(raw()); }
+
+#if defined(__cpp_exceptions)
+    /// Opens a table.
+    ///
+    ///     auto numbers = gearlongan::table<double>::open({4, 10000, 256});    // 10,000 numbers for each of 4 threads
+    [[nodiscard]] static table open(table_room first = {}) {
+        table opened;
+        detail::check(opened.try_open(first));
+        return opened;
+    }
+
+    /// Stores a record, and returns its key.
+    ///
+    ///     auto numbers = gearlongan::table<double>::open();
+    ///     assert(numbers.insert(0.5) != numbers.insert(0.5));
+    [[nodiscard]] key_type insert(const R &record) {
+        key_type into;
+        detail::check(try_insert(record, into));
+        return into;
+    }
+
+    /// Copies a record: nothing if the key is gone.
+    ///
+    ///     auto numbers = gearlongan::table<double>::open();
+    ///     if (auto half = numbers.get(numbers.insert(0.5))) assert(*half == 0.5);
+    [[nodiscard]] std::optional<R> get(key_type of) const {
+        detail::record_room<R> room;
+        if (!detail::found(try_get(of, room.record))) return std::nullopt;
+        return room.record;
+    }
+
+    /// Whether a key has a record.
+    ///
+    ///     auto numbers = gearlongan::table<double>::open();
+    ///     assert(numbers.contains(numbers.insert(0.5)));
+    [[nodiscard]] bool contains(key_type of) const { return detail::found(try_contains(of)); }
+
+    /// Removes a key, and returns whether this call removed it.
+    ///
+    ///     auto numbers = gearlongan::table<double>::open();
+    ///     const auto half = numbers.insert(0.5);
+    ///     assert(numbers.remove(half) && !numbers.remove(half));
+    bool remove(key_type of) { return detail::found(try_remove(of)); }
+
+    /// Copies a record, and removes its key: nothing if the key is gone. So of all calls that take or remove it, one
+    /// alone has it.
+    ///
+    ///     auto numbers = gearlongan::table<double>::open();
+    ///     const auto half = numbers.insert(0.5);
+    ///     assert(numbers.take(half) == 0.5 && !numbers.take(half));
+    [[nodiscard]] std::optional<R> take(key_type of) {
+        detail::record_room<R> room;
+        if (!detail::found(try_take(of, room.record))) return std::nullopt;
+        return room.record;
+    }
+
+    /// Takes a place for this thread beforehand, as try_enter does.
+    ///
+    ///     auto numbers = gearlongan::table<double>::open();
+    ///     numbers.enter();
+    void enter() { detail::check(try_enter()); }
+
+    /// Lets the place of this thread rest, as try_rest does.
+    ///
+    ///     auto numbers = gearlongan::table<double>::open();
+    ///     numbers.rest();
+    void rest() { detail::check(try_rest()); }
+#endif
+
+private:
+    // What a get and a take read into.
+    struct words_read {
+        static constexpr std::size_t most = detail::words_of<R>;
+        std::uint64_t all[most]; // NOLINT(cppcoreguidelines-avoid-c-arrays)
+        std::uint64_t length = 0;
+
+        // (each value of a table has the words of a record, unless a call of C stored another)
+        errc copied(std::uint32_t code, R &into) const noexcept {
+            if (code == SHARDHEAP_SHORT || (code == SHARDHEAP_OK && length != most)) return errc::wrong_size;
+            if (code == SHARDHEAP_OK) std::memcpy(static_cast<void *>(&into), all, sizeof(R));
+            return static_cast<errc>(code);
+        }
+    };
+};
+
+} // namespace gearlongan
+
+/// The hash of a key, for std::unordered_map and std::unordered_set.
+template <class R> struct std::hash<gearlongan::key_of<R>> {
+    [[nodiscard]] std::size_t operator()(gearlongan::key_of<R> of) const noexcept {
+        return std::hash<std::uint64_t>{}(of.number());
+    }
+};
+
+#endif
