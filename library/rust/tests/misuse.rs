@@ -106,7 +106,7 @@ fn a_value_holds_the_guard_of_another() {
     for n in 0..100 {
         let entry = last.and_then(|key| slab.clone().get_owned(key));
         let key = slab.insert(Linked(n, entry, dropped.clone())).expect("there is room");
-        assert!(last.map_or(true, |key| slab.remove(key)));
+        assert!(last.is_none_or(|key| slab.remove(key)));
         last = Some(key);
     }
     assert_eq!(dropped.load(SeqCst), 0, "each has a guard of the one before");
@@ -220,7 +220,7 @@ fn a_value_uses_its_pool_while_it_is_made_and_cleared() {
         fn clear(&mut self) {
             let pool = POOL.with_borrow(|pool| pool.clone());
             let removed = self.0.take().zip(pool).map(|(key, pool)| pool.clear(key));
-            assert!(removed.map_or(true, |removed| removed));
+            assert!(removed.is_none_or(|removed| removed));
             self.1.clear();
         }
     }
@@ -229,8 +229,8 @@ fn a_value_uses_its_pool_while_it_is_made_and_cleared() {
     for _ in 0..COUNT {
         let key = pool.create_with(|it| it.1.push_str("outer")).expect("there is room");
         let inner = pool.get(key).and_then(|it| (it.1 == "outer").then_some(it.0).flatten());
-        assert!(inner.map_or(true, |key| pool.get(key).is_some_and(|it| it.1 == "inner")));
-        assert!(pool.clear(key) && inner.map_or(true, |key| pool.get(key).is_none()));
+        assert!(inner.is_none_or(|key| pool.get(key).is_some_and(|it| it.1 == "inner")));
+        assert!(pool.clear(key) && inner.is_none_or(|key| pool.get(key).is_none()));
     }
     POOL.set(None);
 }
@@ -356,7 +356,7 @@ fn threads_use_keys_in_no_order() {
                             stored += 1;
                         }
                         3 => _ = slab.remove(key),
-                        4 if kept.is_empty() => assert!(slab.take(key).map_or(true, |value| value.0 == key)),
+                        4 if kept.is_empty() => assert!(slab.take(key).is_none_or(|value| value.0 == key)),
                         5 => kept.clear(),
                         _ => kept.extend(slab.clone().get_owned(key)),
                     }
