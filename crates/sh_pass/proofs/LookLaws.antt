@@ -33,6 +33,7 @@ use Rattle.sh_pass.specs.declared.looking.Glance.TheVariants.{Seen, Gone, Early}
 use Rattle.sh_pass.specs.Deciding.{Stepped, FirstFinds, LastFinds, LooksDecide, IsLive, IsPast, IsEarly}
 use Rattle.sh_pass.specs.Growing.{Grows}
 use Rattle.sh_pass.specs.Looking.{IsLooking, LookGrows}
+use Rattle.sh_pass.specs.Rooms.{TakesSeen}
 use Rattle.sh_pass.proofs.DecidedLaws.{stepped, stepped_then, stepped_on, begins_on}
 use Rattle.sh_pass.proofs.GrowthLaws.{grew, grows_as, grows_on, grows_after, grows_to}
 
@@ -95,6 +96,12 @@ module _ {layout : Layout} {heap : Heap} {t u : Seat (Unit {0}) View} (k : ℕ) 
   heard_is_not_early false named live past is heard =
       let z : false ≡ true = sym past
       ∙ d.heard refl k x (place_is (plan_of layout t.me.0.shape) k x named).unpacks refl heard live in cc
+
+-- a look that ends there leaves the room as it was
+pub off_stays : {M : Type 0} (takes : M → List ℕ → M → Type 0) (past : Bool) (room : M)
+    → TakesSeen takes (cond past Gone Early) room [] room
+off_stays takes true room = refl
+off_stays takes false room = refl
 
 -- a load in between
 pub looks_on : {layout : Layout} {heap : Heap} {v : View} {t u : Seat (Unit {0}) View} (k : ℕ) (x : KeyRef) (s : Sight)

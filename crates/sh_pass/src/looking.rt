@@ -8,7 +8,9 @@ ghost use Rattle.sh_table.specs.Seats.{IsSeat};
 ghost use Rattle.sh_table.specs.Views.{HeardOfInsert};
 ghost use Rattle.sh_pass.specs.Deciding.{Stepped, LooksDecide};
 ghost use Rattle.sh_pass.specs.Looking.{HasMeasured, LookEnds, LookGrows};
+ghost use Rattle.sh_pass.specs.Rooms.{LookFills};
 
+use crate::room::Room;
 use sh_key::KeyLayout;
 use sh_slots::{KeyRef, is_live_at, is_past_at};
 use sh_step::operands::ONE_WORD;
@@ -50,19 +52,19 @@ fn off_live(generation: u32, found: u64) -> Glance
 
 // Ends a look by the word of its value, which is the only one.
 #[inline(always)]
-fn look_at_word<L: KeyLayout>(
+fn look_at_word<L: KeyLayout, M: Room>(
     table: &HeapTable<L>,
     seat: &mut PassSeat,
     key: u64,
     name: KeyRef,
-    value: &mut Value,
+    room: &mut M,
 ) -> Glance
     requires seat { IsSeat L.layout table.now seat.old }
     requires slot { name.slot < 48 }
     requires looking { HasMeasured key name 1 1 seat.old.me.0 }
     ensures seat { IsSeat L.layout table.now seat.new }
-    ensures does { LookEnds key name 1 1 result value.new seat.old.me.0 seat.new.me.0 }
-    ensures stays { result ≢ Glance.Seen → value.new ≡ value.old }
+    ensures does { LookFills M.takes (λ value. LookEnds key name 1 1 result value seat.old.me.0 seat.new.me.0)
+        result room.old room.new }
 {
     let word = table.look_only_word(seat, key, name, first_word(name.slot, ONE_WORD));
     let only = Value::from(word);
@@ -70,28 +72,28 @@ fn look_at_word<L: KeyLayout>(
     if !is_live_at(name.generation, state) {
         return Glance::Gone;
     }
-    value.set(word);
+    room.put_word(word);
     Glance::Seen
 }
 
 // Ends a look by the words of its value, as many as the page has from the first one on. (It is a function of its own,
 // so that a look at a value of one word clears no room for more.)
 #[inline(never)]
-fn look_at_words<L: KeyLayout>(
+fn look_at_words<L: KeyLayout, M: Room>(
     table: &HeapTable<L>,
     seat: &mut PassSeat,
     key: u64,
     name: KeyRef,
     class_word: u64,
     count: u64,
-    value: &mut Value,
+    room: &mut M,
 ) -> Glance
     requires seat { IsSeat L.layout table.now seat.old }
     requires slot { name.slot < 48 }
     requires looking { HasMeasured key name class_word count seat.old.me.0 }
     ensures seat { IsSeat L.layout table.now seat.new }
-    ensures does { LookEnds key name class_word count result value.new seat.old.me.0 seat.new.me.0 }
-    ensures stays { result ≢ Glance.Seen → value.new ≡ value.old }
+    ensures does { LookFills M.takes (λ value. LookEnds key name class_word count result value seat.old.me.0
+        seat.new.me.0) result room.old room.new }
 {
     let mut seen = Value::empty();
     let first = first_word(name.slot, class_word);
@@ -102,28 +104,27 @@ fn look_at_words<L: KeyLayout>(
     if !is_live_at(name.generation, after) {
         return Glance::Gone;
     }
-    *value = seen;
+    room.put(seen.words());
     Glance::Seen
 }
 
-/// Looks at a key. If its value is seen, it is then the caller's, replacing what that was. Otherwise the caller's value
-/// stays as it was.
+/// Looks at a key. A value that it sees is put into the caller's room, which otherwise stays as it was.
 #[inline(always)]
-pub(crate) fn look_at<L: KeyLayout>(
+pub(crate) fn look_at<L: KeyLayout, M: Room>(
     table: &HeapTable<L>,
     seat: &mut PassSeat,
     key: u64,
     name: KeyRef,
-    value: &mut Value,
+    room: &mut M,
 ) -> Glance
     requires seat { IsSeat L.layout table.now seat.old }
     requires idle { seat.old.me.0.own.body.hand ≡ Idle }
     requires name { place_named (plan_of L.layout seat.old.me.0.shape) key ≡ Some name }
     ensures seat { IsSeat L.layout table.now seat.new }
-    ensures grows { LookGrows key result value.new seat.old.me.0 seat.new.me.0 }
+    ensures grows { LookFills M.takes (λ value. LookGrows key result value seat.old.me.0 seat.new.me.0) result room.old
+        room.new }
     ensures decides { Stepped (LooksDecide key name result) seat.old.me.0 seat.new.me.0 }
     ensures unheard { result ≡ Glance.Early → ¬ HeardOfInsert seat.old.me.0 key }
-    ensures stays { result ≢ Glance.Seen → value.new ≡ value.old }
 {
     let before = table.look_first(seat, key, name);
     if !is_live_at(name.generation, before) {
@@ -133,8 +134,8 @@ pub(crate) fn look_at<L: KeyLayout>(
     let count = table.look_length(seat, key, name, class_word);
     // (Tests alone find a value of one word: the processor guesses how they end, and fetches the word meanwhile.)
     if class_word == ONE_WORD && count == 1 {
-        look_at_word(table, seat, key, name, value)
+        look_at_word(table, seat, key, name, room)
     } else {
-        look_at_words(table, seat, key, name, class_word, count, value)
+        look_at_words(table, seat, key, name, class_word, count, room)
     }
 }

@@ -1,4 +1,4 @@
-use Rattle.std.proofs.Common.{◌∙◌, refl, sym, subst}
+use Rattle.std.proofs.Common.{◌∙◌, [], refl, sym, subst}
 use Rattle.sh_slots.specs.declared.hand.Sight.TheVariants.{Bare, Classed}
 use Rattle.sh_slots.specs.Slots.{past_at}
 use Rattle.sh_step.specs.Plans.{plan_of}
@@ -6,9 +6,9 @@ use Rattle.sh_step.proofs.LookupLaws.{place_is}
 use Rattle.sh_pass.specs.declared.looking.Glance.{Glance}
 use Rattle.sh_pass.specs.Deciding.{Stepped, LooksDecide}
 use Rattle.sh_pass.specs.Looking.{LookGrows}
+use Rattle.sh_pass.specs.Rooms.{LookFills}
 use Rattle.sh_pass.proofs.LookLaws.{may_look, can_look_on, look_begins, look_off, looks_on, measured}
-use Rattle.sh_pass.proofs.LookLaws.{heard_is_not_early}
-use Rattle.sh_pass.proofs.LookLaws.{one_word}
+use Rattle.sh_pass.proofs.LookLaws.{heard_is_not_early, off_stays, one_word}
 use Rattle.sh_pass.proofs.looking.look_at.Goals as goal
 
 pub look_first-before-requires : goal.look_first-before-requires
@@ -20,16 +20,17 @@ look_first-before-requires g c = record {
 
 pub returns-then-not-is_live_at-clause-grows : goal.returns-then-not-is_live_at-clause-grows
 returns-then-not-is_live_at-clause-grows g c =
-    let off = look_off c.args.key c.args.name c.look_first-before.result c.look_first-before.ensures c.args.value.now
+    let off = look_off c.args.key c.args.name c.look_first-before.result c.look_first-before.ensures []
     (past_at c.args.name.generation c.look_first-before.result)
     (sym c.is_live_at.ensures ∙ c.if-not-is_live_at.true) refl in
-    let P : Glance → Type 0 = λ a. LookGrows c.args.key a c.args.value.now c.args.seat.now.me.0
-    c.look_first-before.new.seat.me.0 in
-    subst P (sym c.off_live.ensures) off.0
+    let P : Glance → Type 0 = λ a. LookFills g.M.Room.takes (λ value. LookGrows c.args.key a value
+    c.args.seat.now.me.0 c.look_first-before.new.seat.me.0) a c.args.room.now c.args.room.now in
+    subst P (sym c.off_live.ensures) ([], off.0, off_stays g.M.Room.takes
+    (past_at c.args.name.generation c.look_first-before.result) c.args.room.now)
 
 pub returns-then-not-is_live_at-clause-decides : goal.returns-then-not-is_live_at-clause-decides
 returns-then-not-is_live_at-clause-decides g c =
-    let off = look_off c.args.key c.args.name c.look_first-before.result c.look_first-before.ensures c.args.value.now
+    let off = look_off c.args.key c.args.name c.look_first-before.result c.look_first-before.ensures []
     (past_at c.args.name.generation c.look_first-before.result)
     (sym c.is_live_at.ensures ∙ c.if-not-is_live_at.true) refl in
     let P : Glance → Type 0 = λ a. Stepped (LooksDecide c.args.key c.args.name a) c.args.seat.now.me.0
@@ -88,17 +89,22 @@ look_at_words-requires-clause-slot g c =
 pub returns-then-count-eq1-clause-grows : goal.returns-then-count-eq1-clause-grows
 returns-then-count-eq1-clause-grows g c =
     let live = sym c.is_live_at.ensures ∙ c.if-not-is_live_at.false in
-    (c.look_at_word.ensures.does.ends c.args.seat.now.me.0 (one_word c.args.key c.args.name
-    c.look_class-class_word.result
-    c.look_length-count.result (measured c.args.key c.args.name c.look_first-before.result
-    c.look_class-class_word.result c.look_length-count.result c.look_first-before.ensures live
-    c.look_class-class_word.ensures c.look_length-count.ensures) c.if-class_word-eq-ONE_WORD.true
-    c.if-count-eq1.true)).0
+    (
+      c.look_at_word.ensures.does.0,
+      (c.look_at_word.ensures.does.1.ends c.args.seat.now.me.0 (one_word c.args.key c.args.name
+          c.look_class-class_word.result
+          c.look_length-count.result (measured c.args.key c.args.name c.look_first-before.result
+          c.look_class-class_word.result c.look_length-count.result c.look_first-before.ensures live
+          c.look_class-class_word.ensures c.look_length-count.ensures) c.if-class_word-eq-ONE_WORD.true
+          c.if-count-eq1.true)).0,
+      c.look_at_word.ensures.does.2,
+    )
+
 
 pub returns-then-count-eq1-clause-decides : goal.returns-then-count-eq1-clause-decides
 returns-then-count-eq1-clause-decides g c =
     let live = sym c.is_live_at.ensures ∙ c.if-not-is_live_at.false in
-    (c.look_at_word.ensures.does.ends c.args.seat.now.me.0 (one_word c.args.key c.args.name
+    (c.look_at_word.ensures.does.1.ends c.args.seat.now.me.0 (one_word c.args.key c.args.name
     c.look_class-class_word.result
     c.look_length-count.result (measured c.args.key c.args.name c.look_first-before.result
     c.look_class-class_word.result c.look_length-count.result c.look_first-before.ensures live
@@ -108,13 +114,18 @@ returns-then-count-eq1-clause-decides g c =
 pub returns-else-class_word-eq-ONE_WORD-clause-grows : goal.returns-else-class_word-eq-ONE_WORD-clause-grows
 returns-else-class_word-eq-ONE_WORD-clause-grows g c =
     let live = sym c.is_live_at.ensures ∙ c.if-not-is_live_at.false in
-    (c.look_at_words.ensures.does.ends c.args.seat.now.me.0 (measured c.args.key c.args.name c.look_first-before.result
-    c.look_class-class_word.result c.look_length-count.result c.look_first-before.ensures live
-    c.look_class-class_word.ensures c.look_length-count.ensures)).0
+    (
+      c.look_at_words.ensures.does.0,
+      (c.look_at_words.ensures.does.1.ends c.args.seat.now.me.0 (measured c.args.key c.args.name c.look_first-before.result
+          c.look_class-class_word.result c.look_length-count.result c.look_first-before.ensures live
+          c.look_class-class_word.ensures c.look_length-count.ensures)).0,
+      c.look_at_words.ensures.does.2,
+    )
+
 
 pub returns-else-class_word-eq-ONE_WORD-clause-decides : goal.returns-else-class_word-eq-ONE_WORD-clause-decides
 returns-else-class_word-eq-ONE_WORD-clause-decides g c =
     let live = sym c.is_live_at.ensures ∙ c.if-not-is_live_at.false in
-    (c.look_at_words.ensures.does.ends c.args.seat.now.me.0 (measured c.args.key c.args.name c.look_first-before.result
+    (c.look_at_words.ensures.does.1.ends c.args.seat.now.me.0 (measured c.args.key c.args.name c.look_first-before.result
     c.look_class-class_word.result c.look_length-count.result c.look_first-before.ensures live
     c.look_class-class_word.ensures c.look_length-count.ensures)).1

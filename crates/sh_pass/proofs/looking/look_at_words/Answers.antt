@@ -1,4 +1,4 @@
-use Rattle.std.proofs.Common.{◌≡◌, ◌<◌, ◌+◌, ◌++◌, ◌∷◌, ◌∙◌, [], List, ℕ, refl, sym, subst, arith, length}
+use Rattle.std.proofs.Common.{◌≡◌, ◌<◌, ◌≤◌, ◌+◌, ◌++◌, ◌∷◌, ◌∙◌, [], List, ℕ, refl, sym, subst, arith, length}
 use Rattle.sh_slots.specs.declared.hand.Sight.{Sight}
 use Rattle.sh_slots.specs.declared.hand.Sight.TheVariants.{Measured}
 use Rattle.sh_step.specs.Rows.{payload_word}
@@ -80,21 +80,32 @@ returns-then-not-is_live_at-clause-does g c =
     let few = c.words_to_read-i-end.ensures.few in
     let is = c.loop-i.invariant.2 in
     let past = c.loop-i-test.false in
-    let at = c.loop-i.auto.i-end in record {
-      decided = λ same. cc;
-      ends = λ v r. look_loses c.args.key c.args.name c.args.class_word c.args.count c.loop-i.seen
-          c.look_again-after.result (3 + c.loop-i.i) (c.loop-i.invariant.1 v r) c.look_again-after.ensures
-          c.args.value.now (omega arith) (sym c.is_live_at.ensures ∙ c.if-not-is_live_at.true);
-    }
+    let at = c.loop-i.auto.i-end in (
+      [],
+      record {
+        decided = λ same. cc;
+        ends = λ v r. look_loses c.args.key c.args.name c.args.class_word c.args.count c.loop-i.seen
+            c.look_again-after.result (3 + c.loop-i.i) (c.loop-i.invariant.1 v r) c.look_again-after.ensures
+            [] (omega arith) (sym c.is_live_at.ensures ∙ c.if-not-is_live_at.true);
+      },
+      refl,
+    )
+
+pub put-requires : goal.put-requires
+put-requires g c = subst (λ (ws : List ℕ). length ws ≤ 16) (sym c.words.ensures.words) c.words.ensures.few
 
 pub returns-clause-does : goal.returns-clause-does
 returns-clause-does g c =
     let few = c.words_to_read-i-end.ensures.few in
     let is = c.loop-i.invariant.2 in
     let past = c.loop-i-test.false in
-    let at = c.loop-i.auto.i-end in record {
-      decided = λ same. cc;
-      ends = λ v r. look_sees c.args.key c.args.name c.args.class_word c.args.count c.loop-i.seen
-          c.look_again-after.result (3 + c.loop-i.i) (c.loop-i.invariant.1 v r) c.look_again-after.ensures
-          (omega arith) (sym c.is_live_at.ensures ∙ c.if-not-is_live_at.false);
-    }
+    let at = c.loop-i.auto.i-end in (
+      c.loop-i.seen,
+      record {
+        decided = λ same. cc;
+        ends = λ v r. look_sees c.args.key c.args.name c.args.class_word c.args.count c.loop-i.seen
+            c.look_again-after.result (3 + c.loop-i.i) (c.loop-i.invariant.1 v r) c.look_again-after.ensures
+            (omega arith) (sym c.is_live_at.ensures ∙ c.if-not-is_live_at.false);
+      },
+      subst (λ ws. g.M.Room.takes c.args.room.now ws c.put.new.self) c.words.ensures.words c.put.ensures,
+    )
