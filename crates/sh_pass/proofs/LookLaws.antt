@@ -131,13 +131,6 @@ pub one_word : {v w : View} (k : ℕ) (x : KeyRef) (c m : ℕ) → IsLooking k x
 one_word {v = v} {w = w} k x c m r one only = subst (λ n. IsLooking k x (Measured 1 n []) 3 v w) only
     (subst (λ d. IsLooking k x (Measured d m []) 3 v w) one r)
 
-pub only_word : {layout : Layout} {heap : Heap} {v : View} {t u : Seat (Unit {0}) View} (k : ℕ) (x : KeyRef) (n : ℕ)
-    (words : List ℕ) → IsLooking k x (Measured 1 1 []) 3 v t.me.0
-    → Did layout heap action.LookOn (move.LookOn k x (Measured 1 1 [])) n t u → words ≡ n ∷ []
-    → IsLooking k x (Measured 1 1 words) 4 v u.me.0
-only_word {v = v} {u = u} k x n words r d are =
-    subst (λ ws. IsLooking k x (Measured 1 1 ws) 4 v u.me.0) (sym are) (looks_on k x (Measured 1 1 []) n 3 r d)
-
 -- what was read with one more word of the value
 pub sight_more : (c m n : ℕ) (u : List ℕ) → length u < 16 → sight_with (Measured c m u) n ≡ Measured c m (u ++ n ∷ [])
 sight_more c m n u few = ap (λ b. Measured c m (cond b (u ++ n ∷ []) u)) (lt_true (length u) 16 few)

@@ -1,7 +1,7 @@
 //! Looking at a key: reading its value without a hold.
 ghost use Rattle.std.specs.Prelude.{◌≡◌, ◌≢◌, ◌+◌, ◌<◌, ◌≤◌, Some, cond, ℕ};
 ghost use Rattle.sh_slots.specs.declared.hand.Hand.TheVariants.{Idle};
-ghost use Rattle.sh_slots.specs.Slots.{past_at};
+ghost use Rattle.sh_slots.specs.Slots.{live_at, past_at};
 ghost use Rattle.sh_step.specs.Moves.{place_named};
 ghost use Rattle.sh_step.specs.Plans.{plan_of};
 ghost use Rattle.sh_table.specs.Seats.{IsSeat};
@@ -12,10 +12,11 @@ ghost use Rattle.sh_pass.specs.Rooms.{LookFills};
 
 use crate::room::Room;
 use sh_key::KeyLayout;
-use sh_slots::{KeyRef, is_live_at, is_past_at};
+use sh_slots::{KeyRef, is_past_at};
 use sh_step::operands::ONE_WORD;
 use sh_table::{HeapTable, PassSeat, first_word};
-use sh_value::Value;
+use sh_value::WORDS_MAX;
+use sh_word::COUNT_LIMIT;
 
 // How many words a look reads: as the length says that it found, but no more than a value has, and than the page has
 // from the first word on. (The length may be of another value than the class.)
@@ -37,6 +38,15 @@ pub enum Glance {
     Gone,
     /// The slot as it was before the key's value was there, which decides nothing.
     Early,
+}
+
+// Whether the slot has a live value of this generation, by one comparison: the bits above its count are the generation,
+// not marked, present.
+#[inline(always)]
+fn is_live(generation: u32, found: u64) -> bool
+    ensures { result ≡ live_at generation found }
+{
+    found / u64::from(COUNT_LIMIT) == u64::from(generation) * 4 + 1
 }
 
 // What a look is by a first word that is not live.
@@ -67,9 +77,8 @@ fn look_at_word<L: KeyLayout, M: Room>(
         result room.old room.new }
 {
     let word = table.look_only_word(seat, key, name, first_word(name.slot, ONE_WORD));
-    let only = Value::from(word);
-    let state = table.look_again(seat, key, name, ONE_WORD, 1, &only);
-    if !is_live_at(name.generation, state) {
+    let state = table.look_again(seat, key, name, ONE_WORD, 1, &[word]);
+    if !is_live(name.generation, state) {
         return Glance::Gone;
     }
     room.put_word(word);
@@ -95,16 +104,19 @@ fn look_at_words<L: KeyLayout, M: Room>(
     ensures does { LookFills M.takes (λ value. LookEnds key name class_word count result value seat.old.me.0
         seat.new.me.0) result room.old room.new }
 {
-    let mut seen = Value::empty();
+    let mut words = [0; WORDS_MAX];
     let first = first_word(name.slot, class_word);
-    for i in 0..words_to_read(first, count) {
-        seen.push(table.look_word(seat, key, name, class_word, count, &seen, first));
+    let many = words_to_read(first, count) as usize;
+    for i in 0..many {
+        let word = table.look_word(seat, key, name, class_word, count, &words[..i], first);
+        words[i] = word;
     }
-    let after = table.look_again(seat, key, name, class_word, count, &seen);
-    if !is_live_at(name.generation, after) {
+    let seen = &words[..many];
+    let after = table.look_again(seat, key, name, class_word, count, seen);
+    if !is_live(name.generation, after) {
         return Glance::Gone;
     }
-    room.put(seen.words());
+    room.put(seen);
     Glance::Seen
 }
 
@@ -127,7 +139,7 @@ pub(crate) fn look_at<L: KeyLayout, M: Room>(
     ensures unheard { result ≡ Glance.Early → ¬ HeardOfInsert seat.old.me.0 key }
 {
     let before = table.look_first(seat, key, name);
-    if !is_live_at(name.generation, before) {
+    if !is_live(name.generation, before) {
         return off_live(name.generation, before);
     }
     let class_word = table.look_class(seat, key, name);
