@@ -1,13 +1,37 @@
--- One chunk more in a leave that goes over all of them.
+-- What a leave does in a chunk, and in one chunk more of those that it goes over.
 use Rattle.std.proofs.Common.{◌≡◌, ◌≢◌, ℕ, ◌+◌, ◌<◌, ◌≤◌, List, Option, None, arith, below_more, get_or, inl, inr}
-use Rattle.std.proofs.Common.{refl, subst, sym, ◌∙◌}
-use Rattle.std.specs.Prelude.{Result, Ok, Err}
+use Rattle.std.proofs.Common.{length, refl, subst, sym, ◌∙◌}
+use Rattle.std.specs.Prelude.{Result, Ok, Err, IfErr, OnErr, OnOk, slice_set}
+use Rattle.std.specs.Result.{result_and}
+use Rattle.std.proofs.lemmas.List.{get_or-set_same}
 use Rattle.sh_value.specs.declared.refusal.Refusal.{Refusal}
 use Rattle.sh_value.specs.declared.refusal.Refusal.TheVariants as refusal
 use Rattle.sh_grown.specs.declared.chunk_member.ChunkMember.{ChunkMember}
 use Rattle.sh_grown.specs.Inserts.{OwnsNone}
 use Rattle.sh_grown.specs.Leaving.{LeavesIdle, LeftOrWaits}
 use Rattle.sh_grown.specs.Refusals.{WaitsThere}
+use Rattle.sh_grown.proofs.Places.{inside}
+
+-- ---- in one chunk
+
+-- it was left, and that is what is there then
+pub left_here : (xs : List (Option ChunkMember)) (i : ℕ) (place : Option ChunkMember)
+    (answer : Result (Unit {0}) Refusal) → i < length xs → OnOk answer (OwnsNone place)
+    → OnOk answer (OwnsNone (get_or (slice_set xs i place) i None))
+left_here xs i place (Ok u) less left = subst OwnsNone (sym (get_or-set_same xs i place None less)) left
+left_here xs i place (Err why) less left = tt
+
+-- or the caller has to keep what it found there
+pub waits_here : (xs : List (Option ChunkMember)) (i : ℕ) (found place : Option ChunkMember)
+    (answer : Result (Unit {0}) Refusal) → i < length xs → found ≡ get_or xs i found
+    → OnErr answer (WaitsThere found place)
+    → OnErr answer (WaitsThere (get_or xs i None) (get_or (slice_set xs i place) i None))
+waits_here xs i found place (Ok u) less is waits = tt
+waits_here xs i found place (Err why) less is waits =
+    subst (λ o. WaitsThere (get_or xs i None) o) (sym (get_or-set_same xs i place None less))
+    (subst (λ o. WaitsThere o place) (is ∙ inside xs i found None less) waits)
+
+-- ---- in each chunk
 
 -- what a leave that goes over all chunks has done at this one: those from it on are as they were
 pub record LeftSoFar (k : ℕ) (old : List (Option ChunkMember)) (answer : Result (Unit {0}) Refusal)
@@ -53,7 +77,7 @@ module _ (k : ℕ) (old now new : List (Option ChunkMember))
   )
 
   -- this one was left
-  pub one_left : (answer : Result (Unit {0}) Refusal) → LeftSoFar k old answer now → OwnsNone (get_or new k None)
+  one_left : (answer : Result (Unit {0}) Refusal) → LeftSoFar k old answer now → OwnsNone (get_or new k None)
       → LeftSoFar (k + 1) old answer new
   one_left (Ok u) so here = record {
     done = record {
@@ -76,7 +100,7 @@ module _ (k : ℕ) (old now new : List (Option ChunkMember))
   }
 
   -- this one has to be kept
-  pub one_waits : (answer : Result (Unit {0}) Refusal) (why : Refusal) → LeftSoFar k old answer now
+  one_waits : (answer : Result (Unit {0}) Refusal) (why : Refusal) → LeftSoFar k old answer now
       → why ≡ refusal.Waiting → WaitsThere (get_or now k None) (get_or new k None)
       → LeftSoFar (k + 1) old (Err why) new
   one_waits answer why so is here =
@@ -91,3 +115,11 @@ module _ (k : ℕ) (old now new : List (Option ChunkMember))
         };
         rest = rest_more so.rest;
       }
+
+  -- either of both
+  pub left_more : (one answer : Result (Unit {0}) Refusal) → LeftSoFar k old answer now
+      → OnOk one (OwnsNone (get_or new k None)) → IfErr one (λ why. why ≡ refusal.Waiting)
+      → OnErr one (WaitsThere (get_or now k None) (get_or new k None))
+      → LeftSoFar (k + 1) old (result_and one answer) new
+  left_more (Ok u) answer so left err waits = one_left answer so left
+  left_more (Err why) answer so left err waits = one_waits answer why so err waits

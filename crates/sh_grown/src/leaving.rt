@@ -44,9 +44,7 @@ impl Caller {
     {
         let mut answer = Ok(());
         for chunk in 0..self.met.len() {
-            if let Err(why) = self.leave_in(chunk) {
-                answer = Err(why);
-            }
+            answer = self.leave_in(chunk).and(answer);
         }
         answer
     }
@@ -68,13 +66,13 @@ impl Caller {
     }
 
     /// Leaves its shards and gives its passes back, from the last chunk to the first, so that its number can be claimed
-    /// again. Refused as `Waiting` as `leave` is: then the caller comes back.
+    /// again. Refused as `Waiting` as `leave_idle` is: then the caller comes back.
     pub fn end(self) -> Result<(), (Self, Refusal)>
         ensures { IfErr result (λ back. Stays self back.0 × (back.1 ≡ Waiting)
             × KeepsMembers self.met.items back.0.met.items) }
     {
         let mut caller = self;
-        if let Err(why) = caller.leave() {
+        if let Err(why) = caller.leave_idle() {
             return Err((caller, why));
         }
         caller.give_back();
