@@ -56,10 +56,10 @@ module _ (k : ℕ) (old now new : List (Option ChunkMember))
   before : (P : Option ChunkMember → Type 0) (j : ℕ) → j < k → P (get_or now j None) → P (get_or new j None)
   before P j less so = subst P (sym (apart j (λ e. omega (arith, less, e)))) so
 
-  each_more : (answer : Result (Unit {0}) Refusal) → LeavesIdle k old answer now
+  each_left : (answer : Result (Unit {0}) Refusal) → LeavesIdle k old answer now
       → LeftOrWaits (get_or old k None) (get_or new k None) → (chunk : ℕ) → chunk < k + 1
       → LeftOrWaits (get_or old chunk None) (get_or new chunk None)
-  each_more answer done here =
+  each_left answer done here =
       below_more (λ j. LeftOrWaits (get_or old j None) (get_or new j None)) k
       (λ j less. before (LeftOrWaits (get_or old j None)) j less (done.each j less)) here
 
@@ -81,7 +81,7 @@ module _ (k : ℕ) (old now new : List (Option ChunkMember))
       → LeftSoFar (k + 1) old answer new
   one_left (Ok u) so here = record {
     done = record {
-      each = each_more (Ok u) so.done (inl here);
+      each = each_left (Ok u) so.done (inl here);
       left = below_more (λ j. OwnsNone (get_or new j None)) k
           (λ j less. before OwnsNone j less (so.done.left j less)) here;
       err = tt;
@@ -91,7 +91,7 @@ module _ (k : ℕ) (old now new : List (Option ChunkMember))
   }
   one_left (Err why) so here = record {
     done = record {
-      each = each_more (Err why) so.done (inl here);
+      each = each_left (Err why) so.done (inl here);
       left = tt;
       err = so.done.err;
       waits = still so.done.waits;
@@ -108,7 +108,7 @@ module _ (k : ℕ) (old now new : List (Option ChunkMember))
       subst (λ o. WaitsThere o (get_or new k None)) (so.rest k (omega arith)) here in
       record {
         done = record {
-          each = each_more answer so.done (inr kept);
+          each = each_left answer so.done (inr kept);
           left = tt;
           err = is;
           waits = (k, omega arith, kept);

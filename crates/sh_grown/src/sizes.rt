@@ -74,7 +74,7 @@ impl HeapSize {
     }
 
     /// How many values of this many words its pages have slots for, if each page is for values of that length. It is 0
-    /// for more than 16 words, since no value has so many.
+    /// for more than 16 words, which no value has.
     pub fn capacity(&self, words: usize) -> u64
         ensures { result ≡ room_in self.now words }
     {
