@@ -41,7 +41,7 @@ impl HeapSize {
     }
 
     // The size with one chunk more, of this shape.
-    #[tactic(auto, using(crate::proofs::Sizes::few_more))]
+    #[tactic(auto, using(crate::proofs::SizeSums::few_more))]
     fn with(self, shape: &Shape) -> HeapSize
         requires { self.chunks < 256 }
         ensures { result ≡ size_with shape.now self }

@@ -1,7 +1,7 @@
 use Rattle.std.proofs.Common.{◌≡◌, ◌+◌, ◌∙◌, arith, length, subst, sym}
 use Rattle.sh_grown.specs.Leaving.{LeavesIdle}
 use Rattle.sh_grown.proofs.Keeping.{keeps_then, stays_then}
-use Rattle.sh_grown.proofs.Leaving.{LeftSoFar, left_more}
+use Rattle.sh_grown.proofs.LeftChunks.{LeftSoFar, left_more}
 use Rattle.sh_grown.proofs.caller.Caller.leave_idle.Goals as goal
 
 pub leave_in-requires : goal.leave_in-requires

@@ -1,7 +1,7 @@
 use Rattle.std.proofs.Common.{◌≡◌, length}
 use Rattle.sh_grown.specs.Callers.{Stays}
 use Rattle.sh_grown.specs.Keeping.{KeepsMembers}
-use Rattle.sh_grown.proofs.Leaving.{LeftSoFar}
+use Rattle.sh_grown.proofs.LeftChunks.{LeftSoFar}
 use Rattle.sh_grown.proofs.caller.Caller.leave_idle.Given as goal
 
 abbrev pub invariant-loop-chunk : goal.invariant-loop-chunk

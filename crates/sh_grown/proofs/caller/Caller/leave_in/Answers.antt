@@ -1,7 +1,7 @@
 use Rattle.std.proofs.lemmas.List.{get_or-set_other, length-set}
 use Rattle.std.proofs.Common.{None}
 use Rattle.sh_grown.proofs.Keeping.{one_kept, place_found}
-use Rattle.sh_grown.proofs.Leaving.{left_here, waits_here}
+use Rattle.sh_grown.proofs.LeftChunks.{left_here, waits_here}
 use Rattle.sh_grown.proofs.OfChunks.{keeps_of}
 use Rattle.sh_grown.proofs.caller.Caller.leave_in.Goals as goal
 

@@ -1,6 +1,6 @@
 use Rattle.std.proofs.Common.{◌≡◌, ℕ, ap, arith, inl, inr, length, refl, subst}
 use Rattle.sh_grown.specs.Sizes.{SizesBelow, size_with}
-use Rattle.sh_grown.proofs.Sizes.{size_more}
+use Rattle.sh_grown.proofs.SizeSums.{size_more}
 use Rattle.sh_grown.proofs.growing.Growing.size.Goals as goal
 
 pub loop-number-preserved-in_default : goal.loop-number-preserved-in_default
