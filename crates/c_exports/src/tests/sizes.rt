@@ -58,7 +58,8 @@ fn a_heap_has_the_layout_that_it_was_opened_with(rt: HostRuntime) {
     }
 }
 
-// The first chunk has one shard of 8 pages: 8 x 195 + 2 = 1,562 words. The 385th value opens the second one, of as many.
+// The first chunk has one shard of 8 pages: 8 x 195 + 2 = 1,562 words. The 385th value opens the second chunk, which has
+// as many.
 #[test]
 fn a_growing_heap_has_the_size_of_its_chunks(rt: HostRuntime) {
     let alloc = rt.alloc();

@@ -21,6 +21,6 @@ invariant_of-self c =
     record {
       of_chunks = does_of
           (λ v a w. ReadIntoDoes (key_within c.args.guard.now.key) v c.args.value.now a c.read_guard_at.new.value w)
-          met.growing met.met.items c.chunk_of-chunk.result c.index_mut.result.now c.read_guard_at.new.place c.read_guard_at.result
-          met.of_chunks c.index_mut.ensures.value c.read_guard_at.ensures;
+          met.growing met.met.items c.chunk_of-chunk.result c.index_mut.result.now c.read_guard_at.new.place
+          c.read_guard_at.result met.of_chunks c.index_mut.ensures.value c.read_guard_at.ensures;
     }

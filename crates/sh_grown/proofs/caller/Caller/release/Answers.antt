@@ -21,6 +21,6 @@ invariant_of-self c =
     record {
       of_chunks = does_of
           (ReleaseDoes chunked (key_within c.args.hold.key))
-          met.growing met.met.items c.chunk_of-chunk.result c.index_mut.result.now c.release_at.new.place c.release_at.result
-          met.of_chunks c.index_mut.ensures.value c.release_at.ensures;
+          met.growing met.met.items c.chunk_of-chunk.result c.index_mut.result.now c.release_at.new.place
+          c.release_at.result met.of_chunks c.index_mut.ensures.value c.release_at.ensures;
     }
