@@ -30,8 +30,8 @@ impl Caller {
     /// Leaves each shard that it owns in which no other caller has begun a free that is yet to end, also behind one in
     /// which a free has to end. So others can insert there. Refused as `Waiting` if it still owns a shard.
     ///
-    /// A caller that inserts seldom calls it between its inserts, so that a chunk of few shards serves many callers. The
-    /// next insert may go to any shard, and takes the steps of an adoption.
+    /// A caller that inserts seldom calls it between its inserts, so that a chunk of few shards serves many callers.
+    /// The next insert may go to any shard, and takes the steps of an adoption.
     ///
     /// ```text
     /// let key = caller.insert(alloc, &value)?;
