@@ -1,8 +1,9 @@
-use Rattle.std.proofs.Common.{◌≡◌, ℕ, ◌<◌, [], Option, Some, slice_get, sym, subst, arith}
-use Rattle.std.specs.Prelude.{IfSome}
+use Rattle.std.proofs.Common.{◌≡◌, ℕ, ◌<◌, [], Some, slice_get, sym, subst, arith}
+use Rattle.std.specs.Prelude.{IfOk, Result}
 use Rattle.std.specs.List.{All}
 use Rattle.std.proofs.lemmas.Bool.{eqb-true}
 use Rattle.std.proofs.lemmas.List.{nil_from_length}
+use Rattle.script_orders.specs.declared.found.Limit.{Limit}
 use Rattle.script_orders.specs.declared.level.Level.{Level}
 use Rattle.script_orders.specs.declared.state.State.{State}
 use Rattle.script_orders.specs.Reached.{IsReached}
@@ -16,20 +17,21 @@ loop-alloc-preserved g c =
     let p = c.args.program.now in
     let held = c.loop-alloc.invariant in
     let level = c.loop-alloc.level.states.items in
-    let next = c.in-Some.next.states.items in
+    let next = c.in-Ok.next.states.items in
     let old = c.loop-alloc.whole.found.items in
     let new = c.next_level.new.whole.found.items in
     let goes = c.in_ok-next.ensures in
     let reached : All (IsReached layout p) next =
-    subst (λ (o : Option Level). IfSome o (λ l. All (IsReached layout p) l.states.items)) c.in-Some.is goes.reached in
-    let followed = subst (λ (o : Option Level). IfSome o (λ l. (place : ℕ) (s : State) → slice_get level place ≡ Some s
-    → (pass : ℕ) → pass < p.shape.passes → IsFollowed layout p l.states.items s pass)) c.in-Some.is goes.followed in
-    let ends = subst (λ (o : Option Level). IfSome o (λ l. (place : ℕ) (s : State) → slice_get level place ≡ Some s
-    → AllRest layout p s → HasEnd layout p new s)) c.in-Some.is goes.ends in
+    subst (λ (o : Result Level Limit). IfOk o (λ l. All (IsReached layout p) l.states.items)) c.in-Ok.is goes.reached in
+    let followed = subst (λ (o : Result Level Limit). IfOk o (λ l. (place : ℕ) (s : State) → slice_get level place ≡ Some s
+    → (pass : ℕ) → pass < p.shape.passes → IsFollowed layout p l.states.items s pass)) c.in-Ok.is goes.followed in
+    let ends = subst (λ (o : Result Level Limit). IfOk o (λ l. (place : ℕ) (s : State) → slice_get level place ≡ Some s
+    → AllRest layout p s → HasEnd layout p new s)) c.in-Ok.is goes.ends in
     record {
+      played = goes.heap;
       reached = reached;
       found = goes.found;
-      covered = λ order is. covered_on layout p level next old new c.in_ok-level.ensures.heap held.reached reached
+      covered = λ order is. covered_on layout p level next old new c.in_ok-heap.ensures.heap held.reached reached
           followed ends goes.keeps order is (held.covered order is);
     }
 

@@ -36,6 +36,7 @@ loop-state-preserved g c =
           (held.followed place s (omega arith) at pass within)
     ] in
     record {
+      played = goes.heap;
       reached = goes.all;
       found = elim c.if-not-branch.branch [
         | then-not-branch+in_ok-add_end w ↦
@@ -85,8 +86,8 @@ returns-clause-ends g c = λ place s at rest.
     let count = ap (λ (xs : List State). length xs) c.deref-state-items.ensures.value in
     c.loop-state.invariant.ends place s (omega arith) at rest
 
-pub returns-then-len-most-clause-keeps : goal.returns-then-len-most-clause-keeps
-returns-then-len-most-clause-keeps g c = λ rs ps has.
+pub returns-in-Some-clause-keeps : goal.returns-in-Some-clause-keeps
+returns-in-Some-clause-keeps g c = λ rs ps has.
     let kept = c.loop-state.invariant.keeps rs ps has in
     elim c.if-not-branch.branch [
       | then-not-branch+in_ok-add_end w ↦
