@@ -2,7 +2,7 @@ mod ListSteps
 mod Changing
 mod Stepping
 mod Listed
-mod Alike
+mod SameWords
 mod LaneTests
 mod LineOptions
 mod LineLists

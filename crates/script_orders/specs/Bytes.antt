@@ -1,7 +1,7 @@
 -- How many bytes are counted of what a walk keeps.
-use Rattle.std.specs.Prelude.{ℕ, ◌+◌, ◌-◌, ◌*◌, ◌^◌, ◌==◌, nat_lt, cond, min, List, Option, Some, None, Vec, length}
+use Rattle.std.specs.Prelude.{ℕ, ◌+◌, ◌-◌, ◌*◌, ◌^◌, ◌==◌, nat_lt, cond, min, Option, Some, None, length, vec_items}
 use Rattle.std.specs.List.{sum_by}
-use Rattle.std.specs.Rc.{Rc, rc_value}
+use Rattle.std.specs.Rc.{rc_value}
 use Rattle.script_orders.specs.declared.found.Found.{Found}
 use Rattle.script_orders.specs.declared.found.Limit.{Limit}
 use Rattle.script_orders.specs.declared.found.Limit.TheVariants as limit
@@ -24,7 +24,7 @@ state_bytes s = 256 + 12 * length s.order.items + 16 * length s.changes.items
 
 abbrev pub found_bytes : Found → ℕ
 found_bytes f = 192 + 12 * length f.witness.items + length f.pages.items
-    + sum_by (λ lines. length lines.items + 40) f.replies.items
+    + sum_by (λ lines. length (vec_items lines) + 40) f.replies.items
 
 -- the limit that so many states and bytes pass
 abbrev pub limit_passed : Room → (states bytes : ℕ) → Option Limit
