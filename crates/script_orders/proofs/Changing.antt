@@ -26,33 +26,33 @@ word_append (x ∷ xs) ys n was = ap (λ (w : ℕ). cond (x.number == n) x.word 
 word_passes : (f : ℕ → Bool) (xs : List Change) (n was : ℕ) → f n ≡ true
     → word_in (filter (λ (c : Change). f c.number) xs) n was ≡ word_in xs n was
 word_passes f [] n was h = refl
-word_passes f (x ∷ xs) n was h = go (f x.number) refl where
-  go : (b : Bool) → f x.number ≡ b
+word_passes f (x ∷ xs) n was h = go (f x.number) refl (word_passes f xs n was h) where
+  go : (b : Bool) → f x.number ≡ b → word_in (filter (λ (c : Change). f c.number) xs) n was ≡ word_in xs n was
       → word_in (cond b (x ∷ filter (λ (c : Change). f c.number) xs) (filter (λ (c : Change). f c.number) xs)) n was
       ≡ cond (x.number == n) x.word (word_in xs n was)
-  go true is = ap (λ (w : ℕ). cond (x.number == n) x.word w) (word_passes f xs n was h)
-  go false is = elim (cases_eq x.number n) [
+  go true is rest = ap (λ (w : ℕ). cond (x.number == n) x.word w) rest
+  go false is rest = elim (cases_eq x.number n) [
     | inl same ↦ absurd (let z : true ≡ false = sym h ∙ ap f (sym same) ∙ is in cc)
     | inr ne ↦
-        word_passes f xs n was h
+        rest
         ∙ sym (ap (λ (b : Bool). cond b x.word (word_in xs n was)) (ne_eqb x.number n ne))
   ]
 
 word_fails : (f : ℕ → Bool) (xs : List Change) (n was : ℕ) → f n ≡ false
     → word_in (filter (λ (c : Change). f c.number) xs) n was ≡ was
 word_fails f [] n was h = refl
-word_fails f (x ∷ xs) n was h = go (f x.number) refl where
-  go : (b : Bool) → f x.number ≡ b
+word_fails f (x ∷ xs) n was h = go (f x.number) refl (word_fails f xs n was h) where
+  go : (b : Bool) → f x.number ≡ b → word_in (filter (λ (c : Change). f c.number) xs) n was ≡ was
       → word_in (cond b (x ∷ filter (λ (c : Change). f c.number) xs) (filter (λ (c : Change). f c.number) xs)) n was
       ≡ was
-  go true is = elim (cases_eq x.number n) [
+  go true is rest = elim (cases_eq x.number n) [
     | inl same ↦ absurd (let z : true ≡ false = sym is ∙ ap f same ∙ h in cc)
     | inr ne ↦
         ap (λ (b : Bool). cond b x.word (word_in (filter (λ (c : Change). f c.number) xs) n was))
         (ne_eqb x.number n ne)
-        ∙ word_fails f xs n was h
+        ∙ rest
   ]
-  go false is = word_fails f xs n was h
+  go false is rest = rest
 
 one_at : (n word was : ℕ) → word_in (record { number = n; word = word } ∷ []) n was ≡ word
 one_at n word was = ap (λ (b : Bool). cond b word was) (eq-eqb n n refl)
@@ -130,12 +130,12 @@ lower from to (c ∷ cs) le h = (let low = h.0 in omega arith, h.1)
 ascend_filter : (f : ℕ → Bool) (from : ℕ) (cs : List Change) → Ascend from cs
     → Ascend from (filter (λ (c : Change). f c.number) cs)
 ascend_filter f from [] h = tt
-ascend_filter f from (c ∷ cs) h = go (f c.number) where
-  go : (b : Bool) → Ascend from
+ascend_filter f from (c ∷ cs) h = go (f c.number) (ascend_filter f (c.number + 1) cs h.1) where
+  go : (b : Bool) → Ascend (c.number + 1) (filter (λ (d : Change). f d.number) cs) → Ascend from
       (cond b (c ∷ filter (λ (d : Change). f d.number) cs) (filter (λ (d : Change). f d.number) cs))
-  go true = (h.0, ascend_filter f (c.number + 1) cs h.1)
-  go false = let low = h.0 in lower (c.number + 1) from (filter (λ (d : Change). f d.number) cs) (omega arith)
-      (ascend_filter f (c.number + 1) cs h.1)
+  go true rest = (h.0, rest)
+  go false rest =
+      let low = h.0 in lower (c.number + 1) from (filter (λ (d : Change). f d.number) cs) (omega arith) rest
 
 ascend_join : (from n : ℕ) (xs ys : List Change) → from ≤ n → Ascend from xs → AllBelow n xs → Ascend n ys
     → Ascend from (xs ++ ys)
@@ -145,23 +145,24 @@ ascend_join from n (x ∷ xs) ys le h less k =
 
 filter_below : (n : ℕ) (cs : List Change) → AllBelow n (filter (λ (c : Change). nat_lt c.number n) cs)
 filter_below n [] = tt
-filter_below n (c ∷ cs) = go (nat_lt c.number n) refl where
-  go : (b : Bool) → nat_lt c.number n ≡ b → AllBelow n
+filter_below n (c ∷ cs) = go (nat_lt c.number n) refl (filter_below n cs) where
+  go : (b : Bool) → nat_lt c.number n ≡ b → AllBelow n (filter (λ (d : Change). nat_lt d.number n) cs) → AllBelow n
       (cond b (c ∷ filter (λ (d : Change). nat_lt d.number n) cs) (filter (λ (d : Change). nat_lt d.number n) cs))
-  go true is = (ltb-true c.number n is, filter_below n cs)
-  go false is = filter_below n cs
+  go true is rest = (ltb-true c.number n is, rest)
+  go false is rest = rest
 
 filter_above : (n from : ℕ) (cs : List Change) → Ascend from cs
     → Ascend (n + 1) (filter (λ (c : Change). nat_lt n c.number) cs)
 filter_above n from [] h = tt
-filter_above n from (c ∷ cs) h = go (nat_lt n c.number) refl where
-  go : (b : Bool) → nat_lt n c.number ≡ b → Ascend (n + 1)
+filter_above n from (c ∷ cs) h = go (nat_lt n c.number) refl (filter_above n (c.number + 1) cs h.1) where
+  go : (b : Bool) → nat_lt n c.number ≡ b → Ascend (n + 1) (filter (λ (d : Change). nat_lt n d.number) cs)
+      → Ascend (n + 1)
       (cond b (c ∷ filter (λ (d : Change). nat_lt n d.number) cs) (filter (λ (d : Change). nat_lt n d.number) cs))
-  go true is = (
+  go true is rest = (
     let less = ltb-true n c.number is in omega arith,
     ascend_filter (λ (m : ℕ). nat_lt n m) (c.number + 1) cs h.1,
   )
-  go false is = filter_above n (c.number + 1) cs h.1
+  go false is rest = rest
 
 below_join : (n : ℕ) (xs ys : List Change) → AllBelow n xs → AllBelow (n + 1) ys → AllBelow (n + 1) (xs ++ ys)
 below_join n [] ys h k = k

@@ -90,25 +90,26 @@ differ_push old s none differ i j u v is js same = elim (get_pushed old i u s is
 
 any_push : (xs : List ℕ) (p y : ℕ) → list_any (nat_eq p) xs ≡ true → list_any (nat_eq p) (xs ++ y ∷ []) ≡ true
 any_push [] p y h = absurd (let z : false ≡ true = h in cc)
-any_push (x ∷ xs) p y h = go (nat_eq p x) h where
-  go : (b : Bool) → (b || list_any (nat_eq p) xs) ≡ true → (b || list_any (nat_eq p) (xs ++ y ∷ [])) ≡ true
-  go true k = refl
-  go false k = any_push xs p y k
+any_push (x ∷ xs) p y h = go (nat_eq p x) (λ k. any_push xs p y k) h where
+  go : (b : Bool) → (list_any (nat_eq p) xs ≡ true → list_any (nat_eq p) (xs ++ y ∷ []) ≡ true)
+      → (b || list_any (nat_eq p) xs) ≡ true → (b || list_any (nat_eq p) (xs ++ y ∷ [])) ≡ true
+  go true rest k = refl
+  go false rest k = rest k
 
 any_last : (xs : List ℕ) (p : ℕ) → list_any (nat_eq p) (xs ++ p ∷ []) ≡ true
 any_last [] p = ap (λ (b : Bool). b || false) (eq-eqb p p refl)
-any_last (x ∷ xs) p = go (nat_eq p x) where
-  go : (b : Bool) → (b || list_any (nat_eq p) (xs ++ p ∷ [])) ≡ true
-  go true = refl
-  go false = any_last xs p
+any_last (x ∷ xs) p = go (nat_eq p x) (any_last xs p) where
+  go : (b : Bool) → list_any (nat_eq p) (xs ++ p ∷ []) ≡ true → (b || list_any (nat_eq p) (xs ++ p ∷ [])) ≡ true
+  go true rest = refl
+  go false rest = rest
 
 pub any_at : (xs : List ℕ) (p : ℕ) → list_any (nat_eq p) xs ≡ true → (k : ℕ) × (slice_get xs k ≡ Some p)
 any_at [] p h = absurd (let z : false ≡ true = h in cc)
-any_at (x ∷ xs) p h = go (nat_eq p x) refl h where
-  go : (b : Bool) → nat_eq p x ≡ b → (b || list_any (nat_eq p) xs) ≡ true
-      → (k : ℕ) × (slice_get (x ∷ xs) k ≡ Some p)
-  go true same k = (0, λ i. Some (sym (eqb-true p x same) i))
-  go false other k = let rest = any_at xs p k in (suc rest.0, rest.1)
+any_at (x ∷ xs) p h = go (nat_eq p x) refl (λ k. any_at xs p k) h where
+  go : (b : Bool) → nat_eq p x ≡ b → (list_any (nat_eq p) xs ≡ true → (k : ℕ) × (slice_get xs k ≡ Some p))
+      → (b || list_any (nat_eq p) xs) ≡ true → (k : ℕ) × (slice_get (x ∷ xs) k ≡ Some p)
+  go true same rest k = (0, λ i. Some (sym (eqb-true p x same) i))
+  go false other rest k = let found = rest k in (suc found.0, found.1)
 
 -- none of the states with a mark is alike, so no state is
 pub none_filed : {Z S : Type 0} (map : HashMap ℕ (Vec ℕ Z) S) (states : List State) (mark : ℕ) (t : State)

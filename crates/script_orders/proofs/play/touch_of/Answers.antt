@@ -112,7 +112,7 @@ after-left-requires g c =
     subst (λ (o : Operation). HasRoom o found)
     (sym (ap (λ (s : Step). s.operation) c.step-step.ensures
     ∙ ap (λ (ns : Numbers). (step_at (plan_of layout ns) m).operation) c.shape-shape.ensures.is))
-    (step_has_room layout k e part m c.shape-shape.ensures.reached at is n found place looked c.type_inv.found)
+    (step_has_room layout k e part m c.shape-shape.ensures.reached at is n found place looked (c.words.type_inv n))
 
 pub returns-clause-is : goal.returns-clause-is
 returns-clause-is g c =

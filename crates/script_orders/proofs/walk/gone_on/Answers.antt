@@ -53,14 +53,14 @@ returns-in_default-touch_of-clause-next g c =
     (found_at p.lines.now p.lines.now line event refl there.3.0 there.1) due
     (c.in_default-touch_of.ensures.is w (runs.2))
 
-pub outcome-outcome-requires-clause-there : goal.outcome-outcome-requires-clause-there
-outcome-outcome-requires-clause-there g c =
+pub outcome-requires-clause-there : goal.outcome-requires-clause-there
+outcome-requires-clause-there g c =
     let lines = c.args.program.now.lines.now in
     let there = c.in-Some-get.ensures.lookup in
     found_at lines lines c.in-Some-next_line.line c.in-Some-get.event.now refl there.3.0 there.1
 
-pub after-requires : goal.after-requires
-after-requires g c =
+pub after-requires-2 : goal.after-requires-2
+after-requires-2 g c =
     let s = c.args.state.now in
     let less = slice_get_within (lanes_of s) c.args.pass (did c.in-Some.lane.now) c.in-Some.ensures in
     let long : length (lanes_of s) ≡ length s.lanes.items =

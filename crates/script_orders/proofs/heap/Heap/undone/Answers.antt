@@ -20,6 +20,6 @@ returns-clause-played g c =
     record {
       heap = c.requires.heap;
       begins = c.requires.begins;
-      plays = subst (λ (order : List ℕ). RunsWorld layout p.shape (done_by p order) (Ok c.in_ok-opened.field-0))
-          (sym c.clear.ensures.items) (played_none layout p c.in_ok-opened.field-0 c.in_ok-opened.ensures);
+      plays = subst (λ (order : List ℕ). RunsWorld layout p.shape (done_by p order) (Ok c.in_ok-self.field-0))
+          (sym c.clear.ensures.items) (played_none layout p c.in_ok-self.field-0 c.in_ok-self.ensures);
     }

@@ -28,10 +28,10 @@ invariant_of-self c =
     let place = c.in-Some.place in
     let alike = c.in-Some.ensures in
     let there = c.index_mut-there.result.now in
-    let both = record there { orders = c.plus-there.result } in
+    let both : State = record there { orders = c.plus-there.result } in
     let is = c.index_mut-there.ensures.value in
     let at = found_at old old place there refl (slice_get_within old place alike.0 alike.1) is in
-    let same = record { lanes = refl; changes = refl } in
+    let same : AreAlike there both = record { lanes = refl; changes = refl } in
     record {
       bytes_are = c.args.self.now.bytes_are
           ∙ ap counted (sym (sum_kept state_bytes old place both there

@@ -18,6 +18,9 @@ loop-place-preserved c = λ k place less at alike.
       | inr ne ↦ c.loop-place.invariant k place (omega arith) at alike
     ]
 
+pub returns-then-is_alike_at : goal.returns-then-is_alike_at
+returns-then-is_alike_at c = c.is_alike_at.ensures.0 c.if-is_alike_at.true
+
 pub returns : goal.returns
 returns c = λ k place at.
     let less = slice_get_within c.args.places.now k place at in
