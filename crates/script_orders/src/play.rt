@@ -1,5 +1,6 @@
 //! Doing lines on a heap.
 ghost use Rattle.std.specs.Prelude.{◌≡◌, ◌<◌, false, None, MatchOption, IfSome, IfOk, OnErr, Ok, is_some, length};
+ghost use Rattle.std.specs.Prelude.{slice_index};
 ghost use Rattle.sh_shape.specs.declared.places.Place.{Place};
 ghost use Rattle.sh_shape.specs.Places.{IsPlace, number};
 ghost use Rattle.sh_step.specs.declared.body.Body.{Body};
@@ -54,6 +55,14 @@ pub struct Touch {
     pub replies: bool,
 }
 
+// The word of this number.
+fn word_at(words: &[u64], number: usize) -> u64
+    requires { number < length words.now }
+    ensures { result ≡ slice_index words.now number }
+{
+    words[number]
+}
+
 // Whether the move decides a reply, by the word that it finds.
 fn has_reply(the_move: &Move, found: u64) -> bool
     ensures { (plan : Plan) (p : Body) → result ≡ is_some ((row_of plan p the_move.now).reply found) }
@@ -89,7 +98,7 @@ pub fn touch_of<L: KeyLayout>(world: &World<L>, event: &Event) -> Option<Touch>
     let the_move = Move::of::<L>(&shape, part, &event.action)?;
     let step = the_move.step::<L>(&shape);
     let number = shape.index(step.place);
-    let found = world.words()[number];
+    let found = word_at(world.words(), number);
     let seen = seen::<L>(&the_move, found);
     let left = step.operation.after(found);
     let replies = has_reply(&the_move, found);

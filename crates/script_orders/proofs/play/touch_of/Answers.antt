@@ -107,12 +107,13 @@ after-left-requires g c =
     let place : n ≡ number k.shape (step_at (plan_of layout k.shape) m).place =
     c.index-number.ensures.is ∙ ap (λ (s : Step). number c.shape-shape.result s.place) c.step-step.ensures
     ∙ ap (λ (ns : Numbers). number ns (step_at (plan_of layout ns) m).place) c.shape-shape.ensures.is in
-    let found : ℕ = get_or c.words.result.now n 0 in
-    let looked : found ≡ get_or k.words n 0 = ap (λ (ws : List ℕ). get_or ws n 0) c.words.ensures.is in
+    let found : ℕ = c.word_at-found.result in
+    let looked : found ≡ get_or k.words n 0 = c.word_at-found.ensures
+    ∙ ap (λ (ws : List ℕ). get_or ws n 0) c.words.ensures.is in
     subst (λ (o : Operation). HasRoom o found)
     (sym (ap (λ (s : Step). s.operation) c.step-step.ensures
     ∙ ap (λ (ns : Numbers). (step_at (plan_of layout ns) m).operation) c.shape-shape.ensures.is))
-    (step_has_room layout k e part m c.shape-shape.ensures.reached at is n found place looked (c.words.type_inv n))
+    (step_has_room layout k e part m c.shape-shape.ensures.reached at is n found place looked c.word_at-found.type_inv)
 
 pub returns-clause-is : goal.returns-clause-is
 returns-clause-is g c =
@@ -129,8 +130,9 @@ returns-clause-is g c =
     let place : n ≡ number k.shape (step_at (plan_of layout k.shape) m).place =
     c.index-number.ensures.is ∙ ap (λ (s : Step). number c.shape-shape.result s.place) c.step-step.ensures
     ∙ ap (λ (ns : Numbers). number ns (step_at (plan_of layout ns) m).place) c.shape-shape.ensures.is in
-    let found : ℕ = get_or c.words.result.now n 0 in
-    let looked : found ≡ get_or k.words n 0 = ap (λ (ws : List ℕ). get_or ws n 0) c.words.ensures.is in
+    let found : ℕ = c.word_at-found.result in
+    let looked : found ≡ get_or k.words n 0 = c.word_at-found.ensures
+    ∙ ap (λ (ws : List ℕ). get_or ws n 0) c.words.ensures.is in
     λ w stands. sees layout k e part m c.shape-shape.ensures.reached at is found c.seen-seen.result
     (looked ∙ ap (λ (i : ℕ). get_or k.words i 0) place) (c.seen-seen.ensures k.shape) w stands
 
@@ -149,8 +151,9 @@ returns-clause-leaves g c =
     let place : n ≡ number k.shape (step_at (plan_of layout k.shape) m).place =
     c.index-number.ensures.is ∙ ap (λ (s : Step). number c.shape-shape.result s.place) c.step-step.ensures
     ∙ ap (λ (ns : Numbers). number ns (step_at (plan_of layout ns) m).place) c.shape-shape.ensures.is in
-    let found : ℕ = get_or c.words.result.now n 0 in
-    let looked : found ≡ get_or k.words n 0 = ap (λ (ws : List ℕ). get_or ws n 0) c.words.ensures.is in
+    let found : ℕ = c.word_at-found.result in
+    let looked : found ≡ get_or k.words n 0 = c.word_at-found.ensures
+    ∙ ap (λ (ws : List ℕ). get_or ws n 0) c.words.ensures.is in
     let left : c.after-left.result ≡ operate (step_at (plan_of layout k.shape) m).operation found =
     c.after-left.ensures.is ∙ ap (λ (s : Step). operate s.operation found) c.step-step.ensures
     ∙ ap (λ (ns : Numbers). operate (step_at (plan_of layout ns) m).operation found) c.shape-shape.ensures.is in
@@ -172,8 +175,9 @@ returns-clause-quiet g c = λ none.
     let place : n ≡ number k.shape (step_at (plan_of layout k.shape) m).place =
     c.index-number.ensures.is ∙ ap (λ (s : Step). number c.shape-shape.result s.place) c.step-step.ensures
     ∙ ap (λ (ns : Numbers). number ns (step_at (plan_of layout ns) m).place) c.shape-shape.ensures.is in
-    let found : ℕ = get_or c.words.result.now n 0 in
-    let looked : found ≡ get_or k.words n 0 = ap (λ (ws : List ℕ). get_or ws n 0) c.words.ensures.is in
+    let found : ℕ = c.word_at-found.result in
+    let looked : found ≡ get_or k.words n 0 = c.word_at-found.ensures
+    ∙ ap (λ (ws : List ℕ). get_or ws n 0) c.words.ensures.is in
     λ w stands. sym (quiet layout k e part m c.shape-shape.ensures.reached at is n found place looked
     (sym (c.has_reply-replies.ensures (plan_of layout k.shape) part) ∙ none) w stands)
 
@@ -192,8 +196,9 @@ returns-clause-place g c =
     let place : n ≡ number k.shape (step_at (plan_of layout k.shape) m).place =
     c.index-number.ensures.is ∙ ap (λ (s : Step). number c.shape-shape.result s.place) c.step-step.ensures
     ∙ ap (λ (ns : Numbers). number ns (step_at (plan_of layout ns) m).place) c.shape-shape.ensures.is in
-    let found : ℕ = get_or c.words.result.now n 0 in
-    let looked : found ≡ get_or k.words n 0 = ap (λ (ws : List ℕ). get_or ws n 0) c.words.ensures.is in (
+    let found : ℕ = c.word_at-found.result in
+    let looked : found ≡ get_or k.words n 0 = c.word_at-found.ensures
+    ∙ ap (λ (ws : List ℕ). get_or ws n 0) c.words.ensures.is in (
       (step_at (plan_of layout k.shape) m).place,
       step_has_place layout k e part m c.shape-shape.ensures.reached at is,
       sym place,

@@ -1,15 +1,27 @@
-use Rattle.std.proofs.Common.{◌≡◌, ℕ, ◌<◌, [], Some, slice_get, sym, subst, arith}
+use Rattle.std.proofs.Common.{◌≡◌, ℕ, ◌<◌, [], Some, slice_get, sym, subst, arith, inl}
 use Rattle.std.specs.Prelude.{IfOk, Result}
 use Rattle.std.specs.List.{All}
 use Rattle.std.proofs.lemmas.Bool.{eqb-true}
 use Rattle.std.proofs.lemmas.List.{nil_from_length}
+use Rattle.std.proofs.lemmas.List.Elements.{All-nil}
 use Rattle.script_orders.specs.declared.found.Limit.{Limit}
 use Rattle.script_orders.specs.declared.level.Level.{Level}
 use Rattle.script_orders.specs.declared.state.State.{State}
-use Rattle.script_orders.specs.Reached.{IsReached}
+use Rattle.script_orders.specs.Reached.{IsReached, IsOutcome}
 use Rattle.script_orders.specs.Walks.{IsFollowed, AllRest, HasEnd}
 use Rattle.script_orders.proofs.Complete.{covered_on, covered_at_end}
 use Rattle.script_orders.proofs.walk.explore.Goals as goal
+
+pub loop-alloc-init : goal.loop-alloc-init
+loop-alloc-init g c =
+    let layout = g.L.KeyLayout.layout in
+    let p = c.args.program.now in
+    record {
+      played = c.in_ok-heap.ensures;
+      reached = c.in_ok-level.ensures.reached layout;
+      found = subst (All (IsOutcome layout p)) (sym c.new.ensures.items) (All-nil (IsOutcome layout p));
+      covered = λ order is. inl (c.in_ok-level.ensures.begins layout order);
+    }
 
 pub loop-alloc-preserved : goal.loop-alloc-preserved
 loop-alloc-preserved g c =
