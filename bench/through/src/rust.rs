@@ -5,7 +5,7 @@ use std::fmt::Display;
 use std::ops::Deref;
 use std::process::exit;
 
-/// What uses keys. Each lies in lines of the cache of its own.
+/// What uses keys. Each is in lines of the cache of its own.
 #[repr(align(64))]
 pub enum Any {
     Shard(Shard),
