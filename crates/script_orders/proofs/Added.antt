@@ -3,15 +3,16 @@ use Rattle.std.proofs.Common.{◌≡◌, ℕ, ◌<◌, List, [], ◌∷◌, ◌+
 use Rattle.std.proofs.Common.{subst, arith, inl, inr, set, map}
 use Rattle.std.specs.Prelude.{vec_items}
 use Rattle.std.specs.List.{All}
+use Rattle.std.specs.Rc.{rc_value}
 use Rattle.std.proofs.lemmas.Bool.{cases_eq}
 use Rattle.std.proofs.lemmas.List.{length-set, get_or-set_same, get_or-set_other}
 use Rattle.std.proofs.lemmas.List.Elements.{All-nil, All-cons, All-append}
 use Rattle.std.proofs.lemmas.Option.{slice_get_within, get_or_from_slice_get}
 use Rattle.sh_key.specs.Layout.{Layout}
 use Rattle.script_orders.specs.declared.found.Program.{Program}
-use Rattle.script_orders.specs.declared.lane.Lane.{Lane}
+use Rattle.script_orders.specs.declared.changes.Change.{Change}
 use Rattle.script_orders.specs.declared.state.State.{State}
-use Rattle.script_orders.specs.Lanes.{did}
+use Rattle.script_orders.specs.Lanes.{Did, did}
 use Rattle.script_orders.specs.Reached.{LeadsTo, lanes_of, IsReached}
 use Rattle.script_orders.specs.States.{AreAlike, HasAlike, WithOrders, Added}
 use Rattle.script_orders.specs.States.Added.{merged, pushed}
@@ -31,13 +32,16 @@ all_set P xs i y less here all k d within = elim (cases_eq k i) [
 pub all_push : {A : Type 0} (P : A → Type 0) (xs : List A) (y : A) → P y → All P xs → All P (xs ++ y ∷ [])
 all_push P xs y here all = All-append P xs (y ∷ []) all (All-cons P y [] here (All-nil P))
 
+lanes_same : (s u : State) → u.lanes ≡ s.lanes → lanes_of u ≡ lanes_of s
+lanes_same s u is = λ i. map (λ lane. did (rc_value lane)) (is i).items
+
 with_orders : (layout : Layout) (p : Program) (s t u : State) → WithOrders s t u → IsReached layout p s
     → IsReached layout p u
 with_orders layout p s t u with' reached =
-    subst (λ (os : List ℕ). LeadsTo layout p os u.words.items (lanes_of u)) (sym (ap vec_items with'.order))
-    (subst (λ (ws : List ℕ). LeadsTo layout p s.order.items ws (lanes_of u)) (sym (ap vec_items with'.words))
-    (subst (λ (ls : List Lane). LeadsTo layout p s.order.items s.words.items (map did ls))
-    (sym (ap vec_items with'.lanes)) reached))
+    subst (λ (os : List ℕ). LeadsTo layout p os u.changes.items (lanes_of u)) (sym (ap vec_items with'.order))
+    (subst (λ (cs : List Change). LeadsTo layout p s.order.items cs (lanes_of u)) (sym (ap vec_items with'.changes))
+    (subst (λ (ds : List Did). LeadsTo layout p s.order.items s.changes.items ds)
+    (sym (lanes_same s u with'.lanes)) reached))
 
 pub added_reached : (layout : Layout) (p : Program) (old new : List State) (s : State) → Added old s new
     → All (IsReached layout p) old → IsReached layout p s → All (IsReached layout p) new
@@ -54,8 +58,8 @@ added_reached layout p old new s (pushed none is) all reached =
 
 with_alike : (s t u x : State) → WithOrders s t u → AreAlike s x → AreAlike u x
 with_alike s t u x with' alike = record {
-  lanes = ap (λ (ls : List Lane). map did ls) (ap vec_items with'.lanes) ∙ alike.lanes;
-  words = ap vec_items with'.words ∙ alike.words;
+  lanes = lanes_same s u with'.lanes ∙ alike.lanes;
+  changes = ap vec_items with'.changes ∙ alike.changes;
 }
 
 pub keeps_alike : (old new : List State) (s : State) → Added old s new → (t : State) → HasAlike old t → HasAlike new t
@@ -87,7 +91,7 @@ has_added old new s (pushed none is) = (
   s,
   ap (λ (xs : List State). slice_get xs (length old)) is
       ∙ get_last old s,
-  record { lanes = refl; words = refl },
+  record { lanes = refl; changes = refl },
 )
 
 pub followed_kept : (layout : Layout) (p : Program) (old new : List State) (s : State) (pass : ℕ)

@@ -9,16 +9,18 @@ use Rattle.sh_key.specs.Layout.{Layout}
 use Rattle.sh_step.specs.declared.action.Event.{Event}
 use Rattle.sh_step.specs.Plans.{Plan}
 use Rattle.sh_core.specs.declared.outcome.Outcome.{Outcome}
-use Rattle.sh_core.specs.Kept.{HoldsWords}
 use Rattle.sh_core.specs.Outcomes.{row_of_event, outcome_of}
 use Rattle.sh_core.specs.Worlds.{World, step, run_from}
 use Rattle.sh_core.proofs.Words.Stepping.{outcome_skipped}
 use Rattle.sh_core.proofs.WaitFree.{skipped}
+use Rattle.script_orders.specs.declared.changes.Change.{Change}
 use Rattle.script_orders.specs.declared.found.Program.{Program}
 use Rattle.script_orders.specs.declared.state.State.{State}
+use Rattle.script_orders.specs.Changes.{HasChanges}
 use Rattle.script_orders.specs.Lanes.{Did, and_then}
 use Rattle.script_orders.specs.Orders.{is_of, lines_within, reply_line, replies_from}
-use Rattle.script_orders.specs.Reached.{plan_in, world_by, replies_by, is_due, IsWorldOf, lanes_of, IsReached}
+use Rattle.script_orders.specs.Reached.{plan_in, world_before, world_by, replies_by, is_due, IsWorldOf, lanes_of}
+use Rattle.script_orders.specs.Reached.{IsReached}
 use Rattle.script_orders.specs.States.{AreAlike}
 use Rattle.script_orders.specs.Walks.{HasPassed, ComesTo}
 use Rattle.script_orders.proofs.FirstLines.{IsFirst, next_left, lines_with_next, lines_with_other}
@@ -33,7 +35,7 @@ use Rattle.script_orders.proofs.Skipped.{skipped_at}
 
 pub leads_to_it : (layout : Layout) (p : Program) (s : State) → IsReached layout p s → ComesTo layout p s.order.items s
 leads_to_it layout p s reached = record {
-  world = record { words = reached.holds; parts = refl };
+  world = record { changed = reached.changed; parts = refl };
   each = λ a d at.
       let done = reached.each a d at in record {
         upto = d.behind;
@@ -49,8 +51,9 @@ pub comes_alike : (layout : Layout) (p : Program) (order : List ℕ) (s t : Stat
     → IsReached layout p t → AreAlike s t → ComesTo layout p order t → ComesTo layout p order s
 comes_alike layout p order s t reached also alike comes = record {
   world = record {
-    words = subst (λ (ws : List ℕ). HoldsWords p.shape ws (world_by layout p order).words) (sym alike.words)
-        comes.world.words;
+    changed =
+        subst (λ (cs : List Change). HasChanges p.shape cs (world_before layout p).words
+        (world_by layout p order).words) (sym alike.changes) comes.world.changed;
     parts = comes.world.parts ∙ sym (parts_same layout p s t reached also alike.lanes);
   };
   each = λ a d at. comes.each a d (sym (ap (λ (ls : List Did). slice_get ls a) alike.lanes) ∙ at);

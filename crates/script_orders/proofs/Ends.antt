@@ -12,6 +12,7 @@ use Rattle.sh_key.specs.Layout.{Layout}
 use Rattle.sh_step.specs.declared.action.Event.{Event}
 use Rattle.sh_step.specs.Plans.{Plan}
 use Rattle.sh_core.specs.Worlds.{World}
+use Rattle.script_orders.specs.declared.changes.Change.{Change}
 use Rattle.script_orders.specs.declared.found.Program.{Program}
 use Rattle.script_orders.specs.Lanes.{Did, nothing}
 use Rattle.script_orders.specs.Orders.{is_of, lines_within, IsOfSome, IsOrder, events_of}
@@ -77,8 +78,8 @@ left_of_some lines lanes passes from (suc k) less =
 
 -- ---- the whole order
 
-module _ (layout : Layout) (p : Program) (order words : List ℕ) (lanes : List Did)
-    (leads : LeadsTo layout p order words lanes) (rests : (a : ℕ) (d : Did) → slice_get lanes a ≡ Some d
+module _ (layout : Layout) (p : Program) (order : List ℕ) (changes : List Change) (lanes : List Did)
+    (leads : LeadsTo layout p order changes lanes) (rests : (a : ℕ) (d : Did) → slice_get lanes a ≡ Some d
     → HasNoNext (plan_in layout p) (world_by layout p order).parts p.lines.now a d.behind) where
   abbrev its_lines : List Event
   its_lines = p.lines.now

@@ -1,24 +1,29 @@
 -- A pass does its next line: the order with it leads to what it left.
 use Rattle.std.proofs.Common.{◌≡◌, ◌≢◌, ℕ, ◌+◌, ◌-◌, ◌<◌, ◌==◌, Bool, cond, List, [], ◌∷◌, ◌++◌, sym, ap, ◌∙◌}
 use Rattle.std.proofs.Common.{subst, arith, Some, slice_get, inl, inr, append_assoc, append-nil, eq-eqb, ne_eqb}
-use Rattle.std.specs.Prelude.{slice_set}
+use Rattle.std.specs.Prelude.{Ok, slice_set}
 use Rattle.std.specs.List.{filter}
 use Rattle.std.proofs.lemmas.Bool.{cases_eq}
 use Rattle.std.proofs.lemmas.List.{length-set}
 use Rattle.std.proofs.lemmas.List.Elements.{filter-append, All-append}
 use Rattle.std.proofs.lemmas.Option.{slice_get_within}
 use Rattle.sh_key.specs.Layout.{Layout}
+use Rattle.sh_shape.specs.Shape.{Numbers}
 use Rattle.sh_step.specs.declared.action.Event.{Event}
-use Rattle.sh_step.specs.Plans.{Plan}
+use Rattle.sh_step.specs.declared.body.Body.{Body}
+use Rattle.sh_step.specs.Plans.{Plan, plan_of}
 use Rattle.sh_core.specs.declared.outcome.Outcome.{Outcome}
-use Rattle.sh_core.specs.Kept.{HoldsWords}
+use Rattle.sh_core.specs.Kept.{KeptWorld, Represents, StepsWorld, RunsWorld}
 use Rattle.sh_core.specs.Outcomes.{outcome_of}
 use Rattle.sh_core.specs.Worlds.{World, step, run, run_from, open_world}
 use Rattle.sh_core.proofs.Words.Steps.{run_snoc}
+use Rattle.script_orders.specs.declared.changes.Change.{Change}
 use Rattle.script_orders.specs.declared.found.Program.{Program}
+use Rattle.script_orders.specs.Changes.{HasChanges}
 use Rattle.script_orders.specs.Lanes.{Did, and_then}
 use Rattle.script_orders.specs.Orders.{is_of, lines_within, IsOfSome, events_of, reply_line, replies_from}
-use Rattle.script_orders.specs.Reached.{plan_in, done_by, world_by, replies_by, IsNext, HasDone, LeadsTo}
+use Rattle.script_orders.specs.Reached.{plan_in, world_before, done_by, world_by, replies_by, IsNext, HasDone}
+use Rattle.script_orders.specs.Reached.{LeadsTo}
 use Rattle.script_orders.specs.Seen.{Sees}
 use Rattle.script_orders.proofs.ListSteps.{get_set_same, get_set_other}
 use Rattle.script_orders.proofs.Parts.{step_other, left_by, step_own, does_step}
@@ -98,10 +103,29 @@ module _ (plan : Plan) (w : World) (lines : List Event) (pass behind n : ℕ) (e
       ∙ ap (λ (v : World). replies_from plan v (e ∷ []) a) (skips_run plan w es passed_skips)
       ∙ reply_one plan w e a
 
+pub played_on : (layout : Layout) (p : Program) (order : List ℕ) (pass behind n : ℕ) (e : Event) (o : Outcome)
+    (k k' : KeptWorld) → RunsWorld layout p.shape (done_by p order) (Ok k)
+    → IsNext (plan_of layout k.shape) k.parts p.lines.now pass behind n → slice_get p.lines.now n ≡ Some e
+    → StepsWorld layout k e o k'
+    → RunsWorld layout p.shape (done_by p (order ++ lines_within p.lines.now pass behind (n + 1))) (Ok k')
+played_on layout p order pass behind n e o k k' (fits, same, stands) next there steps =
+    let w : World = world_by layout p order in
+    let more : List ℕ = lines_within p.lines.now pass behind (n + 1) in
+    let P : Numbers → Type 0 = λ m. IsNext (plan_of layout m) k.parts p.lines.now pass behind n in
+    let Q : List Body → Type 0 = λ bs. IsNext (plan_in layout p) bs p.lines.now pass behind n in
+    let R : Numbers → Type 0 = λ m. Represents k' (step (plan_of layout m) w e) in
+    let led : world_by layout p (order ++ more) ≡ step (plan_in layout p) w e =
+    world_more layout p order more
+    ∙ world_after (plan_in layout p) w p.lines.now pass behind n e (subst Q stands.parts (subst P same next)) there in (
+      fits,
+      steps.shape ∙ same,
+      subst (λ (v : World). Represents k' v) (sym led) (subst R same (steps.world w stands)),
+    )
+
 -- ---- the order with the next line
 
-module _ (layout : Layout) (p : Program) (order words : List ℕ) (lanes : List Did)
-    (leads : LeadsTo layout p order words lanes) (pass n seen : ℕ) (d : Did) (at : slice_get lanes pass ≡ Some d)
+module _ (layout : Layout) (p : Program) (order : List ℕ) (changes : List Change) (lanes : List Did)
+    (leads : LeadsTo layout p order changes lanes) (pass n seen : ℕ) (d : Did) (at : slice_get lanes pass ≡ Some d)
     (next : IsNext (plan_in layout p) (world_by layout p order).parts p.lines.now pass d.behind n) (e : Event)
     (there : slice_get p.lines.now n ≡ Some e) (o : Outcome)
     (came : o ≡ outcome_of (plan_in layout p) (world_by layout p order) e)
@@ -198,12 +222,15 @@ module _ (layout : Layout) (p : Program) (order words : List ℕ) (lanes : List 
     | inr ne ↦ done_other a d' ne (sym (get_set_other lanes pass a new ne) ∙ is)
   ]
 
-  pub goes_on : (words' : List ℕ) → HoldsWords p.shape words' (step plan w e).words → pass < p.shape.passes
-      → LeadsTo layout p (order ++ more) words' (slice_set lanes pass new)
-  goes_on words' holds less = record {
+  pub goes_on : (changes' : List Change)
+      → HasChanges p.shape changes' (world_before layout p).words (step plan w e).words → pass < p.shape.passes
+      → LeadsTo layout p (order ++ more) changes' (slice_set lanes pass new)
+  goes_on changes' changed less = record {
     only = All-append (IsOfSome lines p.shape.passes) order more leads.only
         (lines_are_of lines p.shape.passes pass d.behind (n + 1) less);
-    holds = subst (λ (v : World). HoldsWords p.shape words' v.words) (sym world_is) holds;
+    changed =
+        subst (λ (v : World). HasChanges p.shape changes' (world_before layout p).words v.words) (sym world_is)
+        changed;
     count = length-set lanes pass new ∙ leads.count;
     each = done_each;
   }

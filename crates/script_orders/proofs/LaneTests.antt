@@ -6,8 +6,10 @@ use Rattle.std.specs.Cmp.Lexicographic.{pointwise}
 use Rattle.std.proofs.lemmas.Bool.{eqb-true}
 use Rattle.std.proofs.lemmas.Slice.Eq.{slice_eq-Decides, bytes_eq-Decides}
 use Rattle.sh_step.proofs.Truths.{no_bool, and2}
+use Rattle.script_orders.specs.contracts.changes.ChangePartialEq.TheImpl as change_eq
 use Rattle.script_orders.specs.contracts.lane.LanePartialEq.TheImpl as lane_eq
 use Rattle.script_orders.specs.contracts.lane.StepPartialEq.TheImpl as step_eq
+use Rattle.script_orders.specs.declared.changes.Change.{Change}
 use Rattle.script_orders.specs.declared.lane.Lane.{Lane}
 use Rattle.script_orders.specs.declared.lane.Step.{Step}
 use Rattle.script_orders.specs.Lanes.{Did, did}
@@ -48,19 +50,39 @@ lane_decides x y =
           (replies.1 (ap (λ (d : Did). d.replies) h))),
     )
 
-pub lanes_decide : (xs ys : List Lane) → Decides (pointwise lane_eq.eq-value.it xs ys) (map did xs ≡ map did ys)
-lanes_decide [] [] = (λ h. refl, λ h. refl)
-lanes_decide [] (y ∷ ys) = (λ h. no_bool h, λ h. absurd (let z : [] ≡ did y ∷ map did ys = h in cc))
-lanes_decide (x ∷ xs) [] = (λ h. no_bool h, λ h. absurd (let z : did x ∷ map did xs ≡ [] = h in cc))
-lanes_decide (x ∷ xs) (y ∷ ys) =
-    let here = lane_decides x y in
-    let rest = lanes_decide xs ys in (
-      λ h.
-          let k = and2 (lane_eq.eq-value.it x y) (pointwise lane_eq.eq-value.it xs ys) h in
-          λ i. here.0 k.0 i ∷ rest.0 k.1 i,
-      λ h.
-          let z : did x ∷ map did xs ≡ did y ∷ map did ys = h in
-          let a : did x ≡ did y = cc in
-          let b : map did xs ≡ map did ys = cc in
-          both (lane_eq.eq-value.it x y) (pointwise lane_eq.eq-value.it xs ys) (here.1 a) (rest.1 b),
-    )
+pub changes_decide : (xs ys : List Change) → Decides (pointwise change_eq.eq-value.it xs ys) (xs ≡ ys)
+changes_decide xs ys = slice_eq-Decides change_decides xs ys (pointwise change_eq.eq-value.it xs ys) refl where
+  change_decides : (x y : Change) → Decides (change_eq.eq-value.it x y) (x ≡ y)
+  change_decides x y = (
+    λ h.
+        let k = and2 (x.number == y.number) (x.word == y.word) h in
+        λ i. record { number = eqb-true x.number y.number k.0 i; word = eqb-true x.word y.word k.1 i },
+    λ h. both (x.number == y.number) (x.word == y.word) (eq-eqb x.number y.number (ap (λ (c : Change). c.number) h))
+        (eq-eqb x.word y.word (ap (λ (c : Change). c.word) h)),
+  )
+
+-- lanes, each in something that states may share
+
+module _ {R : Type 0} (lane_of : R → Lane) where
+  abbrev same_lanes : R → R → Bool
+  same_lanes x y = lane_eq.eq-value.it (lane_of x) (lane_of y)
+
+  abbrev did_in : R → Did
+  did_in x = did (lane_of x)
+
+  pub lanes_decide : (xs ys : List R) → Decides (pointwise same_lanes xs ys) (map did_in xs ≡ map did_in ys)
+  lanes_decide [] [] = (λ h. refl, λ h. refl)
+  lanes_decide [] (y ∷ ys) = (λ h. no_bool h, λ h. absurd (let z : [] ≡ did_in y ∷ map did_in ys = h in cc))
+  lanes_decide (x ∷ xs) [] = (λ h. no_bool h, λ h. absurd (let z : did_in x ∷ map did_in xs ≡ [] = h in cc))
+  lanes_decide (x ∷ xs) (y ∷ ys) =
+      let here = lane_decides (lane_of x) (lane_of y) in
+      let rest = lanes_decide xs ys in (
+        λ h.
+            let k = and2 (same_lanes x y) (pointwise same_lanes xs ys) h in
+            λ i. here.0 k.0 i ∷ rest.0 k.1 i,
+        λ h.
+            let z : did_in x ∷ map did_in xs ≡ did_in y ∷ map did_in ys = h in
+            let a : did_in x ≡ did_in y = cc in
+            let b : map did_in xs ≡ map did_in ys = cc in
+            both (same_lanes x y) (pointwise same_lanes xs ys) (here.1 a) (rest.1 b),
+      )

@@ -1,4 +1,8 @@
 mod ListSteps
+mod Changing
+mod Stepping
+mod Listed
+mod SameWords
 mod LaneTests
 mod LineOptions
 mod LineLists
@@ -9,6 +13,7 @@ mod Playing
 mod GoneOn
 mod Ends
 mod Walked
+mod Going
 mod Added
 mod Marked
 mod FirstLines

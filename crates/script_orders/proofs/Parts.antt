@@ -15,15 +15,16 @@ use Rattle.sh_step.specs.Parts.{newcomer}
 use Rattle.sh_step.specs.Plans.{Plan, plan_of}
 use Rattle.sh_step.specs.Rows.{Row}
 use Rattle.sh_core.specs.declared.outcome.Outcome.{Outcome}
-use Rattle.sh_core.specs.Kept.{KeptWorld, HoldsWords, Represents, StepsWorld}
+use Rattle.sh_core.specs.Kept.{KeptWorld, Represents, StepsWorld}
 use Rattle.sh_core.specs.Outcomes.{row_of_event, outcome_of}
 use Rattle.sh_core.specs.Words.{Words, read}
 use Rattle.sh_core.specs.Worlds.{World, step, apply, run, run_from, open_world}
 use Rattle.sh_core.proofs.Words.Steps.{step_moves}
 use Rattle.script_orders.specs.declared.found.Program.{Program}
 use Rattle.script_orders.specs.declared.state.State.{State}
+use Rattle.script_orders.specs.Changes.{HasChanges}
 use Rattle.script_orders.specs.Lanes.{Did, nothing}
-use Rattle.script_orders.specs.Reached.{plan_in, done_by, world_by, lanes_of, IsReached, IsWorldOf}
+use Rattle.script_orders.specs.Reached.{plan_in, done_by, world_before, world_by, lanes_of, IsReached, IsWorldOf}
 use Rattle.script_orders.specs.Seen.{Sees, DoesStep}
 use Rattle.script_orders.proofs.ListSteps.{get_set_same, get_set_other}
 use Rattle.script_orders.proofs.Skipped.{step_option, step_is}
@@ -150,7 +151,8 @@ outcome_relogged plan w e log = refl
 module _ (layout : Layout) (p : Program) (s t : State) (k k' : KeptWorld) (e : Event) (o : Outcome)
     (same : k.shape ≡ p.shape) (stands : Represents k (world_by layout p s.order.items))
     (steps : StepsWorld layout k e o k')
-    (holds : HoldsWords p.shape s.words.items (world_by layout p s.order.items).words) where
+    (changed : HasChanges p.shape s.changes.items (world_before layout p).words
+    (world_by layout p s.order.items).words) where
   abbrev state_plan : Plan
   state_plan = plan_in layout p
 
@@ -163,7 +165,7 @@ module _ (layout : Layout) (p : Program) (s t : State) (k k' : KeptWorld) (e : E
       count = stands.words.count;
       at = λ pl within.
           let there : IsPlace p.shape pl = subst (λ (n : Numbers). IsPlace n pl) same within in
-          stands.words.at pl within ∙ sym (holds.at pl there) ∙ is.words.at pl there;
+          stands.words.at pl within ∙ sym (changed.at pl there) ∙ is.changed.at pl there;
     };
     parts = stands.parts ∙ sym is.parts;
     log = refl;
@@ -179,18 +181,25 @@ module _ (layout : Layout) (p : Program) (s t : State) (k k' : KeptWorld) (e : E
       ∙ steps.outcome_is its_world stands
       ∙ ap (P its_world) same
 
-  pub world_alike : (v : World) → IsWorldOf layout p s v → t.words.items ≡ k'.words
+  pub world_alike : (v : World) → IsWorldOf layout p s v
+      → HasChanges p.shape t.changes.items (world_before layout p).words (step state_plan its_world e).words
       → world_by layout p t.order.items ≡ step state_plan its_world e → IsWorldOf layout p t (step state_plan v e)
-  world_alike v is words led =
+  world_alike v is changes led =
       let P : World → Numbers → Type 0 = λ u n. Represents k' (step (plan_of layout n) u e) in
       let mine = subst (P (relogged v k.log)) same (steps.world (relogged v k.log) (also_stands v is)) in
       let theirs = subst (P its_world) same (steps.world its_world stands) in
-      let Q : Numbers → List ℕ → Words → Type 0 = λ n ws u. HoldsWords n ws u in
       record {
-        words =
-            subst (λ (ws : List ℕ). Q p.shape ws (step state_plan v e).words) (sym words)
-            (subst (λ (n : Numbers). Q n k'.words (step state_plan v e).words) (steps.shape ∙ same)
-            (subst (Q k'.shape k'.words) (words_relogged state_plan v e k.log) mine.words));
+        changed = record {
+          at = λ pl within.
+              let there : IsPlace k'.shape pl =
+              subst (λ (n : Numbers). IsPlace n pl) (sym (steps.shape ∙ same)) within in
+              changes.at pl within
+              ∙ sym (theirs.words.at pl there)
+              ∙ mine.words.at pl there
+              ∙ ap (λ (ws : Words). read ws pl) (words_relogged state_plan v e k.log);
+          ascend = changes.ascend;
+          each = changes.each;
+        };
         parts =
             sym (parts_relogged state_plan v e k.log) ∙ sym mine.parts ∙ theirs.parts
             ∙ sym (ap (λ (u : World). u.parts) led);

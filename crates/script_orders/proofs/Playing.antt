@@ -12,12 +12,14 @@ use Rattle.sh_step.specs.declared.action.Event.{Event}
 use Rattle.sh_step.specs.Plans.{Plan, plan_of}
 use Rattle.sh_core.specs.declared.outcome.Outcome.{Outcome}
 use Rattle.sh_core.specs.Kept.{KeptWorld, Represents, HoldsWords, StepsWorld, RunsWorld}
+use Rattle.sh_core.specs.Words.{read}
 use Rattle.sh_core.specs.Worlds.{World, step, run, open_world}
 use Rattle.sh_core.proofs.Words.Steps.{run_snoc}
 use Rattle.script_orders.specs.declared.found.Program.{Program}
+use Rattle.script_orders.specs.Changes.{IsChange}
 use Rattle.script_orders.specs.Lanes.{Did, nothing}
 use Rattle.script_orders.specs.Orders.{lines_within, IsOfSome, events_of, replies_from}
-use Rattle.script_orders.specs.Reached.{plan_in, done_by, world_by, HasDone, LeadsTo}
+use Rattle.script_orders.specs.Reached.{plan_in, world_before, done_by, world_by, HasDone, LeadsTo}
 use Rattle.script_orders.specs.States.{left_of, all_left}
 use Rattle.script_orders.proofs.Stories.{story_none}
 use Rattle.script_orders.proofs.LineOptions.{left}
@@ -36,31 +38,27 @@ runs_step layout shape es e o k k' (fits, is, stands) steps =
       subst Q (sym (run_snoc plan (open_world plan) es e)) (subst P is (steps.world (run plan es) stands)),
     )
 
-done_more : (p : Program) (order : List ℕ) (i : ℕ) (xs : List Event) → i < length order
-    → events_of p.lines.now (get_or order i 0 ∷ []) ≡ xs
-    → done_by p (take (i + 1) order) ≡ done_by p (take i order) ++ xs
-done_more p order i xs less is =
-    ap (λ (o : List ℕ). done_by p o) (take_more order i 0 less)
-    ∙ ap (λ (es : List Event). p.before.now ++ es) (events_append p.lines.now (take i order) (get_or order i 0 ∷ [])
-    ∙ ap (λ (es : List Event). events_of p.lines.now (take i order) ++ es) is)
-    ∙ sym (append_assoc p.before.now (events_of p.lines.now (take i order)) xs)
+done_more : (p : Program) (order : List ℕ) (n : ℕ) (es : List Event) → events_of p.lines.now (n ∷ []) ≡ es
+    → done_by p (order ++ n ∷ []) ≡ done_by p order ++ es
+done_more p order n es is =
+    ap (λ (fs : List Event). p.before.now ++ fs) (events_append p.lines.now order (n ∷ [])
+    ∙ ap (λ (fs : List Event). events_of p.lines.now order ++ fs) is)
+    ∙ sym (append_assoc p.before.now (events_of p.lines.now order) es)
 
-pub played_more : (layout : Layout) (p : Program) (order : List ℕ) (i : ℕ) (e : Event) (o : Outcome) (k k' : KeptWorld)
-    → i < length order → slice_get p.lines.now (get_or order i 0) ≡ Some e
-    → RunsWorld layout p.shape (done_by p (take i order)) (Ok k) → StepsWorld layout k e o k'
-    → RunsWorld layout p.shape (done_by p (take (i + 1) order)) (Ok k')
-played_more layout p order i e o k k' less at runs steps =
+pub played_more : (layout : Layout) (p : Program) (order : List ℕ) (n : ℕ) (e : Event) (o : Outcome) (k k' : KeptWorld)
+    → slice_get p.lines.now n ≡ Some e → RunsWorld layout p.shape (done_by p order) (Ok k) → StepsWorld layout k e o k'
+    → RunsWorld layout p.shape (done_by p (order ++ n ∷ [])) (Ok k')
+played_more layout p order n e o k k' at runs steps =
     let P : List Event → Type 0 = λ es. RunsWorld layout p.shape es (Ok k') in
-    subst P (sym (done_more p order i (e ∷ []) less (event_one p.lines.now (get_or order i 0) e at)))
-    (runs_step layout p.shape (done_by p (take i order)) e o k k' runs steps)
+    subst P (sym (done_more p order n (e ∷ []) (event_one p.lines.now n e at)))
+    (runs_step layout p.shape (done_by p order) e o k k' runs steps)
 
-pub played_past : (layout : Layout) (p : Program) (order : List ℕ) (i : ℕ) (k : KeptWorld) → i < length order
-    → slice_get p.lines.now (get_or order i 0) ≡ None → RunsWorld layout p.shape (done_by p (take i order)) (Ok k)
-    → RunsWorld layout p.shape (done_by p (take (i + 1) order)) (Ok k)
-played_past layout p order i k less at runs =
+pub played_past : (layout : Layout) (p : Program) (order : List ℕ) (n : ℕ) (k : KeptWorld)
+    → slice_get p.lines.now n ≡ None → RunsWorld layout p.shape (done_by p order) (Ok k)
+    → RunsWorld layout p.shape (done_by p (order ++ n ∷ [])) (Ok k)
+played_past layout p order n k at runs =
     let P : List Event → Type 0 = λ es. RunsWorld layout p.shape es (Ok k) in
-    subst P (sym (done_more p order i [] less (event_none p.lines.now (get_or order i 0) at)
-    ∙ append-nil (done_by p (take i order)))) runs
+    subst P (sym (done_more p order n [] (event_none p.lines.now n at) ∙ append-nil (done_by p order))) runs
 
 pub played_none : (layout : Layout) (p : Program) (k : KeptWorld) → RunsWorld layout p.shape p.before.now (Ok k)
     → RunsWorld layout p.shape (done_by p []) (Ok k)
@@ -94,16 +92,18 @@ nothing_done layout p a = record {
       );
 }
 
-pub first_leads : (layout : Layout) (p : Program) (k : KeptWorld) (words : List ℕ) (lanes : List Did)
-    → RunsWorld layout p.shape p.before.now (Ok k) → words ≡ k.words → lanes ≡ replicate p.shape.passes nothing
-    → LeadsTo layout p [] words lanes
-first_leads layout p k words lanes runs same none =
-    let all = played_none layout p k runs in
-    let P : Numbers → Type 0 = λ n. HoldsWords n k.words (world_by layout p []).words in
-    let Q : List ℕ → Type 0 = λ ws. HoldsWords p.shape ws (world_by layout p []).words in
+pub first_leads : (layout : Layout) (p : Program) (lanes : List Did) → lanes ≡ replicate p.shape.passes nothing
+    → LeadsTo layout p [] [] lanes
+first_leads layout p lanes none =
+    let same : world_before layout p ≡ world_by layout p [] =
+    ap (λ (es : List Event). run (plan_in layout p) es) (sym (append-nil p.before.now)) in
     record {
       only = All-nil (IsOfSome p.lines.now p.shape.passes);
-      holds = subst Q (sym same) (subst P all.1 (all.2).words);
+      changed = record {
+        at = λ place within. ap (λ (w : World). read w.words place) same;
+        ascend = tt;
+        each = All-nil (IsChange p.shape (world_before layout p).words);
+      };
       count = ap (λ (ls : List Did). length ls) none ∙ length_nothing p.shape.passes;
       each = λ a d at.
           let is : d ≡ nothing =

@@ -11,7 +11,7 @@ use Rattle.sh_shape.proofs.PlaceLaws.{page_is_below}
 use Rattle.sh_step.specs.declared.action.Event.{Event}
 use Rattle.sh_step.specs.Plans.{plan_of}
 use Rattle.sh_core.specs.declared.accounts.Accounts.{Accounts}
-use Rattle.sh_core.specs.Kept.{KeptWorld, Represents, FromEvents}
+use Rattle.sh_core.specs.Kept.{KeptWorld, HoldsWords, Represents, FromEvents}
 use Rattle.sh_core.specs.Lists.{accounts, class_named, lists_of}
 use Rattle.sh_core.specs.Refines.{Always, KindsAddUp}
 use Rattle.sh_core.specs.Worlds.{run}
@@ -21,6 +21,7 @@ use Rattle.script_output.proofs.PageCounts.{are_counted, are_none}
 use Rattle.script_output.specs.AccountLines.{accounts_text, accounts_after, shard_text, page_text}
 use Rattle.script_orders.specs.declared.found.Program.{Program}
 use Rattle.script_orders.specs.declared.state.State.{State}
+use Rattle.script_orders.proofs.Listed.{listed}
 use Rattle.script_orders.specs.Reached.{plan_in, done_by, world_by, pages_by, IsReached, IsWorldOf, IsHeap}
 
 -- ---- the same pages have the same lines
@@ -79,10 +80,16 @@ pub pages_same : (layout : Layout) (p : Program) (s : State) (order : List ℕ) 
 pages_same layout p s order heap reached is =
     let w = world_by layout p s.order.items in
     let v = world_by layout p order in
-    let k : KeptWorld = record { shape = p.shape; words = s.words.items; parts = w.parts; log = w.log } in
-    let stands : Represents k w = record { words = reached.holds; parts = refl; log = refl } in
+    let list = listed layout p.shape heap.is_layout heap.is_shape heap.fits (done_by p s.order.items) in
+    let k : KeptWorld = record { shape = p.shape; words = list.0; parts = w.parts; log = w.log } in
+    let stands : Represents k w = record { words = list.1; parts = refl; log = refl } in
+    let also_holds : HoldsWords p.shape list.0 v.words = record {
+      count = (list.1).count;
+      at = λ place within.
+          (list.1).at place within ∙ sym (reached.changed.at place within) ∙ is.changed.at place within;
+    } in
     let stood : Represents (record k { log = v.log }) v =
-    record { words = is.words; parts = sym is.parts; log = refl } in
+    record { words = also_holds; parts = sym is.parts; log = refl } in
     let from : FromEvents layout k = record {
       is_layout = heap.is_layout;
       is_shape = heap.is_shape;

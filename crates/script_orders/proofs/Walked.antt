@@ -1,6 +1,6 @@
 -- What a pass does next in a state, or that it rests.
 use Rattle.std.proofs.Common.{◌≡◌, ℕ, ◌+◌, ◌<◌, ◌≤◌, false, true, List, ◌++◌, length, refl, sym, ap, ◌∙◌, subst, arith}
-use Rattle.std.proofs.Common.{Some, None, slice_get, get_or}
+use Rattle.std.proofs.Common.{Some, None, slice_get, get_or, map}
 use Rattle.std.specs.Prelude.{Ok, option_map, slice_set}
 use Rattle.std.proofs.lemmas.Option.{slice_get-map, slice_get_within, slice_get_read, slice_get_past}
 use Rattle.sh_key.specs.Layout.{Layout}
@@ -9,15 +9,18 @@ use Rattle.sh_step.specs.declared.action.Event.{Event}
 use Rattle.sh_step.specs.declared.body.Body.{Body}
 use Rattle.sh_step.specs.Plans.{Plan, plan_of}
 use Rattle.sh_core.specs.declared.outcome.Outcome.{Outcome}
-use Rattle.sh_core.specs.Kept.{KeptWorld, HoldsWords, StepsWorld, RunsWorld}
+use Rattle.sh_core.specs.Kept.{KeptWorld, Represents, StepsWorld, RunsWorld}
 use Rattle.sh_core.specs.Outcomes.{outcome_of}
-use Rattle.sh_core.specs.Worlds.{step}
+use Rattle.sh_core.specs.Worlds.{World, step}
+use Rattle.script_orders.specs.declared.changes.Change.{Change}
 use Rattle.script_orders.specs.declared.found.Program.{Program}
 use Rattle.script_orders.specs.declared.lane.Lane.{Lane}
 use Rattle.script_orders.specs.declared.state.State.{State}
+use Rattle.script_orders.specs.Changes.{HasChanges}
 use Rattle.script_orders.specs.Lanes.{Did, did, and_then}
 use Rattle.script_orders.specs.Orders.{lines_within, reply_line}
-use Rattle.script_orders.specs.Reached.{plan_in, done_by, world_by, is_due, IsNext, HasNoNext, LeadsTo, lanes_of}
+use Rattle.script_orders.specs.Reached.{plan_in, done_by, world_before, world_by, is_due, IsNext, HasNoNext, LeadsTo}
+use Rattle.script_orders.specs.Reached.{lanes_of}
 use Rattle.script_orders.specs.Reached.{IsReached, Rests}
 use Rattle.script_orders.specs.States.{Follows}
 use Rattle.script_orders.specs.Walks.{GoesTo}
@@ -26,21 +29,27 @@ use Rattle.script_orders.proofs.LineOptions.{past_not_due}
 use Rattle.script_orders.proofs.GoneOn.{goes_on, world_is}
 use Rattle.script_orders.proofs.Parts.{outcome_alike, world_alike}
 
-pub lane_at : (s : State) (pass : ℕ) (lane : Lane) → slice_get s.lanes.items pass ≡ Some lane
-    → slice_get (lanes_of s) pass ≡ Some (did lane)
-lane_at s pass lane at = slice_get-map did s.lanes.items pass ∙ ap (option_map did) at
+pub lane_at : {R : Type 0} (lanes : List R) (lane_of : R → Lane) (pass : ℕ) (lane : R)
+    → slice_get lanes pass ≡ Some lane
+    → slice_get (map (λ l. did (lane_of l)) lanes) pass ≡ Some (did (lane_of lane))
+lane_at lanes lane_of pass lane at =
+    slice_get-map (λ l. did (lane_of l)) lanes pass ∙ ap (option_map (λ l. did (lane_of l))) at
 
-pub rests_past : (layout : Layout) (p : Program) (s : State) (pass : ℕ) → slice_get s.lanes.items pass ≡ None
+pub lane_none : {R : Type 0} (lanes : List R) (lane_of : R → Lane) (pass : ℕ) → slice_get lanes pass ≡ None
+    → slice_get (map (λ l. did (lane_of l)) lanes) pass ≡ None
+lane_none lanes lane_of pass none =
+    slice_get-map (λ l. did (lane_of l)) lanes pass ∙ ap (option_map (λ l. did (lane_of l))) none
+
+pub rests_past : (layout : Layout) (p : Program) (s : State) (pass : ℕ) → slice_get (lanes_of s) pass ≡ None
     → Rests layout p s pass
-rests_past layout p s pass none d at =
-    let z : None ≡ Some d = sym (slice_get-map did s.lanes.items pass ∙ ap (option_map did) none) ∙ at in cc
+rests_past layout p s pass none d at = let z : None ≡ Some d = sym none ∙ at in cc
 
-module _ (layout : Layout) (p : Program) (s : State) (pass : ℕ) (lane : Lane) (k : KeptWorld)
-    (at : slice_get s.lanes.items pass ≡ Some lane)
+module _ (layout : Layout) (p : Program) (s : State) (pass : ℕ) (lane : Did) (k : KeptWorld)
+    (at : slice_get (lanes_of s) pass ≡ Some lane)
     (runs : RunsWorld layout p.shape (done_by p s.order.items) (Ok k)) where
   pub rests_idle : HasNoNext (plan_of layout k.shape) k.parts p.lines.now pass lane.behind → Rests layout p s pass
   rests_idle none d is =
-      let same : did lane ≡ d = let z : Some (did lane) ≡ Some d = sym (lane_at s pass lane at) ∙ is in cc in
+      let same : lane ≡ d = let z : Some lane ≡ Some d = sym at ∙ is in cc in
       let P : Numbers → Type 0 = λ n. HasNoNext (plan_of layout n) k.parts p.lines.now pass lane.behind in
       let Q : List Body → Type 0 = λ bs. HasNoNext (plan_in layout p) bs p.lines.now pass lane.behind in
       let R : Did → Type 0 = λ x.
@@ -50,9 +59,11 @@ module _ (layout : Layout) (p : Program) (s : State) (pass : ℕ) (lane : Lane) 
   goes : (t : State) (new : Did) (n seen : ℕ) (e : Event) (o : Outcome) (k' : KeptWorld) → IsReached layout p s
       → Sees (plan_of layout k.shape) (world_by layout p s.order.items) e seen
       → IsNext (plan_of layout k.shape) k.parts p.lines.now pass lane.behind n → slice_get p.lines.now n ≡ Some e
-      → StepsWorld layout k e o k' → new ≡ and_then (did lane) n seen (reply_line e o)
-      → Follows p.lines.now pass new k'.words s t → IsReached layout p t
-  goes t new n seen e o k' reached sees next there steps is follows =
+      → StepsWorld layout k e o k' → new ≡ and_then lane n seen (reply_line e o) → (changes : List Change)
+      → HasChanges p.shape changes (world_before layout p).words
+      (step (plan_in layout p) (world_by layout p s.order.items) e).words
+      → Follows p.lines.now pass new changes s t → IsReached layout p t
+  goes t new n seen e o k' reached sees next there steps is changes changed follows =
       let P : Numbers → Type 0 = λ m. IsNext (plan_of layout m) k.parts p.lines.now pass lane.behind n in
       let Q : List Body → Type 0 = λ bs. IsNext (plan_in layout p) bs p.lines.now pass lane.behind n in
       let next' : IsNext (plan_in layout p) (world_by layout p s.order.items).parts p.lines.now pass lane.behind n =
@@ -62,32 +73,28 @@ module _ (layout : Layout) (p : Program) (s : State) (pass : ℕ) (lane : Lane) 
       ∙ ap (λ (m : Numbers). outcome_of (plan_of layout m) (world_by layout p s.order.items) e) runs.1 in
       let sees' = subst (λ (m : Numbers). Sees (plan_of layout m) (world_by layout p s.order.items) e seen) runs.1 sees
       in
-      let stepped = steps.world (world_by layout p s.order.items) (runs.2) in
-      let H : Numbers → Numbers → Type 0 = λ a b.
-      HoldsWords a k'.words (step (plan_of layout b) (world_by layout p s.order.items) e).words in
-      let holds : H p.shape p.shape = subst (λ (b : Numbers). H p.shape b) runs.1
-      (subst (λ (a : Numbers). H a k.shape) (steps.shape ∙ runs.1) stepped.words) in
       let count = reached.count in
-      let within = slice_get_within (lanes_of s) pass (did lane) (lane_at s pass lane at) in
-      let led = goes_on layout p s.order.items s.words.items (lanes_of s) reached pass n seen (did lane)
-      (lane_at s pass lane at) next' e there o came sees' k'.words holds (omega arith) in
+      let within = slice_get_within (lanes_of s) pass lane at in
+      let led = goes_on layout p s.order.items s.changes.items (lanes_of s) reached pass n seen lane
+      at next' e there o came sees' changes changed (omega arith) in
       let behind : n + 1 ≡ new.behind = sym (ap (λ (d : Did). d.behind) is) in
       let order : s.order.items ++ lines_within p.lines.now pass lane.behind (n + 1) ≡ t.order.items =
       ap (λ (b : ℕ). s.order.items ++ lines_within p.lines.now pass lane.behind b) behind
-      ∙ sym (follows.order (did lane) (lane_at s pass lane at)) in
-      let lanes : slice_set (lanes_of s) pass (and_then (did lane) n seen (reply_line e o)) ≡ lanes_of t =
+      ∙ sym (follows.order lane at) in
+      let lanes : slice_set (lanes_of s) pass (and_then lane n seen (reply_line e o)) ≡ lanes_of t =
       ap (λ (d : Did). slice_set (lanes_of s) pass d) (sym is) ∙ sym follows.lanes in
-      subst (λ (ws : List ℕ). LeadsTo layout p t.order.items ws (lanes_of t)) (sym follows.words_are)
-      (subst (λ (ls : List Did). LeadsTo layout p t.order.items k'.words ls) lanes
-      (subst (λ (os : List ℕ). LeadsTo layout p os k'.words
-      (slice_set (lanes_of s) pass (and_then (did lane) n seen (reply_line e o)))) order led))
+      subst (λ (cs : List Change). LeadsTo layout p t.order.items cs (lanes_of t)) (sym follows.changes_are)
+      (subst (λ (ls : List Did). LeadsTo layout p t.order.items changes ls) lanes
+      (subst (λ (os : List ℕ). LeadsTo layout p os changes
+      (slice_set (lanes_of s) pass (and_then lane n seen (reply_line e o)))) order led))
 
-  pub goes_to : (t : State) (new : Did) (n seen : ℕ) (e : Event) (o : Outcome) (k' : KeptWorld) → IsReached layout p s
+  led : (t : State) (new : Did) (n seen : ℕ) (e : Event) (o : Outcome) (k' : KeptWorld) → IsReached layout p s
       → Sees (plan_of layout k.shape) (world_by layout p s.order.items) e seen
       → IsNext (plan_of layout k.shape) k.parts p.lines.now pass lane.behind n → slice_get p.lines.now n ≡ Some e
-      → StepsWorld layout k e o k' → new ≡ and_then (did lane) n seen (reply_line e o)
-      → Follows p.lines.now pass new k'.words s t → GoesTo layout p pass s t
-  goes_to t new n seen e o k' reached sees next there steps is follows =
+      → StepsWorld layout k e o k' → new ≡ and_then lane n seen (reply_line e o) → (changes : List Change)
+      → Follows p.lines.now pass new changes s t
+      → world_by layout p t.order.items ≡ step (plan_in layout p) (world_by layout p s.order.items) e
+  led t new n seen e o k' reached sees next there steps is changes follows =
       let P : Numbers → Type 0 = λ m. IsNext (plan_of layout m) k.parts p.lines.now pass lane.behind n in
       let Q : List Body → Type 0 = λ bs. IsNext (plan_in layout p) bs p.lines.now pass lane.behind n in
       let came : o ≡ outcome_of (plan_in layout p) (world_by layout p s.order.items) e =
@@ -96,28 +103,49 @@ module _ (layout : Layout) (p : Program) (s : State) (pass : ℕ) (lane : Lane) 
       let next' = subst Q (runs.2).parts (subst P runs.1 next) in
       let sees' = subst (λ (m : Numbers). Sees (plan_of layout m) (world_by layout p s.order.items) e seen) runs.1 sees
       in
-      let order = follows.order (did lane) (lane_at s pass lane at)
+      let order = follows.order lane at
       ∙ ap (λ (d : Did). s.order.items ++ lines_within p.lines.now pass lane.behind d.behind) is in
-      let led : world_by layout p t.order.items ≡ step (plan_in layout p) (world_by layout p s.order.items) e =
       ap (λ (xs : List ℕ). world_by layout p xs) order
-      ∙ world_is layout p s.order.items s.words.items (lanes_of s) reached pass n seen (did lane)
-      (lane_at s pass lane at) next' e there o came sees' in
+      ∙ world_is layout p s.order.items s.changes.items (lanes_of s) reached pass n seen lane at next' e there o came
+      sees'
+
+  pub goes_to : (t : State) (new : Did) (n seen : ℕ) (e : Event) (o : Outcome) (k' : KeptWorld) → IsReached layout p s
+      → Sees (plan_of layout k.shape) (world_by layout p s.order.items) e seen
+      → IsNext (plan_of layout k.shape) k.parts p.lines.now pass lane.behind n → slice_get p.lines.now n ≡ Some e
+      → StepsWorld layout k e o k' → new ≡ and_then lane n seen (reply_line e o) → (changes : List Change)
+      → HasChanges p.shape changes (world_before layout p).words
+      (step (plan_in layout p) (world_by layout p s.order.items) e).words
+      → Follows p.lines.now pass new changes s t → GoesTo layout p pass s t
+  goes_to t new n seen e o k' reached sees next there steps is changes changed follows =
+      let P : Numbers → Type 0 = λ m. IsNext (plan_of layout m) k.parts p.lines.now pass lane.behind n in
+      let Q : List Body → Type 0 = λ bs. IsNext (plan_in layout p) bs p.lines.now pass lane.behind n in
+      let came : o ≡ outcome_of (plan_in layout p) (world_by layout p s.order.items) e =
+      steps.outcome_is (world_by layout p s.order.items) (runs.2)
+      ∙ ap (λ (m : Numbers). outcome_of (plan_of layout m) (world_by layout p s.order.items) e) runs.1 in
+      let next' = subst Q (runs.2).parts (subst P runs.1 next) in
+      let sees' = subst (λ (m : Numbers). Sees (plan_of layout m) (world_by layout p s.order.items) e seen) runs.1 sees
+      in
+      let order = follows.order lane at
+      ∙ ap (λ (d : Did). s.order.items ++ lines_within p.lines.now pass lane.behind d.behind) is in
       record {
-        lane = did lane;
+        lane = lane;
         number = n;
         seen = seen;
         event = e;
-        at = lane_at s pass lane at;
+        at = at;
         next = next';
         there = there;
-        reached = goes t new n seen e o k' reached sees next there steps is follows;
+        reached = goes t new n seen e o k' reached sees next there steps is changes changed follows;
         order = order;
         lanes = follows.lanes ∙ ap (λ (d : Did). slice_set (lanes_of s) pass d) (is
-            ∙ ap (λ (x : Outcome). and_then (did lane) n seen (reply_line e x)) came);
+            ∙ ap (λ (x : Outcome). and_then lane n seen (reply_line e x)) came);
         orders = follows.orders;
         alike = λ v is_world. (
-          outcome_alike layout p s t k k' e o runs.1 (runs.2) steps reached.holds v is_world,
-          world_alike layout p s t k k' e o runs.1 (runs.2) steps reached.holds v is_world follows.words_are led,
+          outcome_alike layout p s t k k' e o runs.1 (runs.2) steps reached.changed v is_world,
+          world_alike layout p s t k k' e o runs.1 (runs.2) steps reached.changed v is_world
+              (subst (λ (cs : List Change). HasChanges p.shape cs (world_before layout p).words
+              (step (plan_in layout p) (world_by layout p s.order.items) e).words) (sym follows.changes_are) changed)
+              (led t new n seen e o k' reached sees next there steps is changes follows),
         );
       }
 
@@ -128,11 +156,8 @@ pub found_at : {A : Type 0} (xs ys : List A) (i : ℕ) (x : A) → xs ≡ ys →
 found_at {A} xs ys i x same less is =
     subst (λ (zs : List A). slice_get zs i ≡ Some x) same (slice_get_read xs (length xs) i x refl less is)
 
-pub lane_past : (s : State) (pass : ℕ) (xs : List Lane) → xs ≡ s.lanes.items → length xs ≤ pass
-    → slice_get (lanes_of s) pass ≡ None
-lane_past s pass xs same le =
-    slice_get-map did s.lanes.items pass ∙ ap (option_map did)
-    (subst (λ (zs : List Lane). slice_get zs pass ≡ None) same (slice_get_past xs pass le))
+pub none_past : {R : Type 0} (xs ys : List R) (i : ℕ) → xs ≡ ys → length xs ≤ i → slice_get ys i ≡ None
+none_past {R} xs ys i same le = subst (λ (zs : List R). slice_get zs i ≡ None) same (slice_get_past xs i le)
 
 pub due_within : {P : Type 0} (plan : Plan) (parts : List Body) (lines : List Event) (pass n : ℕ)
     → is_due plan parts lines pass n ≡ true → length lines ≤ n → P

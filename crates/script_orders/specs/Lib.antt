@@ -1,9 +1,12 @@
 pub mod Orders
 pub mod Lanes
 pub mod Seen
+pub mod Changes
 pub mod Reached
 pub mod States
 pub mod Marks
+pub mod Filed
+pub mod Bytes
 pub mod Counts
 pub mod Walks
 pub mod Printed

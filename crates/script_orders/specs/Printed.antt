@@ -5,7 +5,10 @@ use Rattle.std.specs.List.{flat_map, filter_map}
 use Rattle.script_output.specs.Numbers.{words_text}
 use Rattle.script_orders.specs.declared.found.Cut.{Cut}
 use Rattle.script_orders.specs.declared.found.Found.{Found}
+use Rattle.script_orders.specs.declared.found.Limit.{Limit}
+use Rattle.script_orders.specs.declared.found.Limit.TheVariants as limit
 use Rattle.script_orders.specs.declared.found.Orders.{Orders}
+use Rattle.script_orders.specs.declared.found.Program.{Program}
 use Rattle.script_orders.specs.declared.found.Whole.{Whole}
 
 -- the greatest number of 128 bits means that there may be more
@@ -39,9 +42,14 @@ counts_text w = codes "; states " ++ decimal w.states ++ (codes "\n; ends " ++ d
 abbrev pub report_text : Whole → List ℕ
 report_text w = counts_text w ++ all_found 1 w.found.items
 
--- how far an exploration came that met more states than it may
-abbrev pub cut_text : Cut → (limit : ℕ) → List ℕ
-cut_text cut limit = codes "more than " ++ decimal limit ++ (codes " states: " ++ decimal cut.states)
+-- the limit that was passed
+abbrev pub limit_text : Limit → Program → List ℕ
+limit_text limit.States p = codes "more than " ++ decimal p.limit ++ codes " states: "
+limit_text limit.Bytes p = codes "more than " ++ decimal p.bytes ++ codes " bytes: states "
+
+-- how far an exploration came that passed a limit
+abbrev pub cut_text : Cut → Program → List ℕ
+cut_text cut p = limit_text cut.limit p ++ decimal cut.states
     ++ (codes " after fewer than " ++ decimal cut.steps)
     ++ (codes " steps, and too many after " ++ decimal cut.steps)
 

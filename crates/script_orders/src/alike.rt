@@ -1,8 +1,11 @@
 //! Which states are alike.
 ghost use Rattle.std.specs.Prelude.{◌≡◌, ◌↔◌, IsTrue};
+ghost use Rattle.sh_key.specs.Layout.{Layout};
+ghost use Rattle.script_orders.specs.declared.found.Program.{Program};
 ghost use Rattle.script_orders.specs.Lanes.{did};
 ghost use Rattle.script_orders.specs.Marks.{mixed, with_lane, mark_of};
-ghost use Rattle.script_orders.specs.States.{AreAlike};
+ghost use Rattle.script_orders.specs.Reached.{IsReached};
+ghost use Rattle.script_orders.specs.States.{AreAlike, HaveSame};
 
 use crate::lane::Lane;
 use crate::state::State;
@@ -44,7 +47,11 @@ pub fn mark_of(state: &State) -> u64
 /// Whether the states go on alike: they have the same words, and each pass did the same, found the same and was replied
 /// the same.
 pub fn are_alike(state: &State, other: &State) -> bool
-    ensures { IsTrue result ↔ AreAlike state.now other.now }
+    ensures is { IsTrue result ↔ AreAlike state.now other.now }
+    // The same words have the same changes.
+    ensures words { (layout : Layout) (program : Program) → IsReached layout program state.now
+        → IsReached layout program other.now → HaveSame layout program state.now other.now
+        → AreAlike state.now other.now }
 {
-    state.lanes == other.lanes && state.words == other.words
+    state.lanes == other.lanes && state.changes == other.changes
 }

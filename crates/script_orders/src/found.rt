@@ -1,5 +1,6 @@
 //! What an exploration is asked, and what it finds.
 ghost use Rattle.std.specs.Prelude.{◌≡◌, ◌+◌, ◌-◌, ◌^◌, min};
+ghost use Rattle.script_orders.specs.Bytes.{counted, found_bytes};
 
 use sh_shape::Shape;
 use sh_step::Event;
@@ -17,6 +18,8 @@ pub struct Program<'s> {
     pub accounts: bool,
     /// How many states may be met.
     pub limit: u64,
+    /// How many bytes the states after two numbers of steps, one after the other, and the outcomes may take.
+    pub bytes: u64,
 }
 
 /// A number of orders. It stops at 2^128 - 1, the greatest number of 128 bits.
@@ -53,11 +56,24 @@ pub struct Whole {
     pub orders: Orders,
     /// The outcomes, in the order in which they were met.
     pub found: Vec<Found>,
+    /// How many bytes the outcomes take.
+    pub bytes: u64,
 }
 
-/// How far an exploration came that met more states than it may.
+/// A limit of an exploration.
+#[derive(Clone, Copy, Debug, PartialEq, Eq)]
+pub enum Limit {
+    /// How many states may be met.
+    States,
+    /// How many bytes may be taken.
+    Bytes,
+}
+
+/// How far an exploration came that met more states than it may, or took more bytes.
 #[derive(Clone, Copy, Debug, PartialEq, Eq)]
 pub struct Cut {
+    /// The limit that it passed.
+    pub limit: Limit,
     /// How many states after fewer steps than these were met.
     pub states: u64,
     /// The number of steps after which there are too many.
@@ -71,6 +87,25 @@ pub enum Explored {
     Whole(Whole),
     /// It met too many.
     Cut(Cut),
+}
+
+// The bytes of an outcome, with its blocks of memory.
+const FOUND_BYTES: u64 = 192;
+
+impl Found {
+    /// How many bytes it takes.
+    pub fn bytes(&self) -> u64
+        ensures { result ≡ counted (found_bytes self.now) }
+    {
+        let order = 12u64.saturating_mul(self.witness.len() as u64);
+        let mut bytes = FOUND_BYTES
+            .saturating_add(order)
+            .saturating_add(self.pages.len() as u64);
+        for lines in &self.replies {
+            bytes = bytes.saturating_add(lines.len() as u64).saturating_add(40);
+        }
+        bytes
+    }
 }
 
 impl Orders {

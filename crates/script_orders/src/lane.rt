@@ -1,5 +1,6 @@
 //! What a pass did so far.
 ghost use Rattle.std.specs.Prelude.{◌≡◌, ◌+◌, ◌++◌, ◌<◌, OnOk, IfOk, map, replicate};
+ghost use Rattle.script_orders.specs.Bytes.{counted, lane_bytes};
 ghost use Rattle.script_orders.specs.Lanes.{did, nothing, and_then};
 ghost use Rattle.script_orders.specs.Orders.{reply_line};
 
@@ -7,6 +8,12 @@ use script_models::event_line::push_event;
 use sh_core::Outcome;
 use sh_step::Event;
 use std::alloc::{AllocError, Global};
+use std::rc::Rc;
+
+// The bytes of a step, and those of a lane with its three blocks of memory.
+const STEP_BYTES: u64 = 16;
+
+const LANE_BYTES: u64 = 120;
 
 /// A step of a pass that was done.
 #[derive(Clone, Copy, Debug, PartialEq, Eq)]
@@ -61,6 +68,19 @@ impl Lane {
         })
     }
 
+    /// How many bytes it takes; 0 if the pass did nothing, since all states share that one.
+    pub fn bytes(&self) -> u64
+        ensures { result ≡ counted (lane_bytes (did self.now)) }
+    {
+        if self.story.is_empty() {
+            return 0;
+        }
+        let story = STEP_BYTES.saturating_mul(self.story.len() as u64);
+        story
+            .saturating_add(self.replies.len() as u64)
+            .saturating_add(LANE_BYTES)
+    }
+
     /// What the pass did once it did this line too, which found this and of which this came.
     pub fn after(
         &self,
@@ -83,23 +103,25 @@ impl Lane {
 }
 
 /// The lanes of this number of passes that did nothing yet.
-pub fn new_lanes(alloc: Global, passes: u32) -> Result<Vec<Lane>, AllocError>
-    ensures { IfOk result (λ lanes. map did lanes.items ≡ replicate passes nothing) }
+pub fn new_lanes(alloc: Global, passes: u32) -> Result<Vec<Rc<Lane>>, AllocError>
+    ensures { IfOk result (λ lanes. map (λ lane. did lane.value) lanes.items ≡ replicate passes nothing) }
 {
+    let lane = Rc::new(alloc, Lane::new(alloc))?;
     let mut lanes = Vec::new(alloc);
     for _ in 0..passes {
-        lanes.push(Lane::new(alloc))?;
+        lanes.push(lane.clone()?)?;
     }
     Ok(lanes)
 }
 
-/// The same lanes again.
-pub fn copy_lanes(alloc: Global, lanes: &[Lane]) -> Result<Vec<Lane>, AllocError>
-    ensures { IfOk result (λ copies. map did copies.items ≡ map did lanes.now) }
+/// The same lanes, shared.
+pub fn share_lanes(alloc: Global, lanes: &[Rc<Lane>]) -> Result<Vec<Rc<Lane>>, AllocError>
+    ensures { IfOk result (λ copies. map (λ lane. did lane.value) copies.items
+        ≡ map (λ lane. did lane.value) lanes.now) }
 {
     let mut copies = Vec::new(alloc);
     for lane in lanes {
-        copies.push(lane.copy(alloc)?)?;
+        copies.push(lane.clone()?)?;
     }
     Ok(copies)
 }

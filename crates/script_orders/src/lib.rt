@@ -6,17 +6,20 @@
 #![tactic(auto)]
 
 mod alike;
+mod changes;
 pub mod expected;
 pub mod found;
+mod heap;
 mod lane;
 mod level;
 mod next;
 mod play;
 pub mod report;
+mod room;
 mod seen;
 mod state;
 pub mod text;
 pub mod walk;
 
-pub use found::{Cut, Explored, Found, Orders, Program, Whole};
+pub use found::{Cut, Explored, Found, Limit, Orders, Program, Whole};
 pub use walk::explore;

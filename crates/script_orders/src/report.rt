@@ -2,9 +2,9 @@
 ghost use Rattle.std.specs.Prelude.{◌≡◌, ◌++◌, OnOk, IfOk, decimal, slice_get, vec_items};
 ghost use Rattle.std.specs.List.{flat_map, filter_map};
 ghost use Rattle.script_orders.specs.Printed.{orders_text, passes_text, end_text, found_text, counts_text};
-ghost use Rattle.script_orders.specs.Printed.{report_text, cut_text, line_text, witness_text};
+ghost use Rattle.script_orders.specs.Printed.{report_text, limit_text, cut_text, line_text, witness_text};
 
-use crate::found::{Cut, Found, Orders, Whole};
+use crate::found::{Cut, Found, Limit, Orders, Program, Whole};
 use crate::text::{EXPLORE, Lines};
 use itoa::Buffer;
 use script_output::numbers::push_number;
@@ -101,13 +101,29 @@ pub fn report(alloc: Global, whole: &Whole) -> Result<Vec<u8>, AllocError>
     Ok(out)
 }
 
-/// What is printed of an exploration that met more states than it may.
-pub fn report_cut(alloc: Global, cut: Cut, limit: u64) -> Result<Vec<u8>, AllocError>
-    ensures { IfOk result (λ text. text.items ≡ cut_text cut limit) }
+// Adds which limit was passed.
+fn push_limit(out: &mut Vec<u8>, cut: Cut, program: &Program<'_>) -> Result<(), AllocError>
+    ensures { OnOk result (out.new.items ≡ out.old.items ++ limit_text cut.limit program.now) }
+{
+    match cut.limit {
+        Limit::States => {
+            push_count(out, b"more than ", program.limit)?;
+            out.extend_from_slice(b" states: ")
+        }
+        Limit::Bytes => {
+            push_count(out, b"more than ", program.bytes)?;
+            out.extend_from_slice(b" bytes: states ")
+        }
+    }
+}
+
+/// What is printed of an exploration that passed a limit of its program.
+pub fn report_cut(alloc: Global, cut: Cut, program: &Program<'_>) -> Result<Vec<u8>, AllocError>
+    ensures { IfOk result (λ text. text.items ≡ cut_text cut program.now) }
 {
     let mut out = Vec::new(alloc);
-    push_count(&mut out, b"more than ", limit)?;
-    push_count(&mut out, b" states: ", cut.states)?;
+    push_limit(&mut out, cut, program)?;
+    push_number(&mut out, cut.states)?;
     push_count(&mut out, b" after fewer than ", cut.steps)?;
     push_count(&mut out, b" steps, and too many after ", cut.steps)?;
     Ok(out)

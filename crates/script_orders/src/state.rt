@@ -1,17 +1,22 @@
 //! States, each by one order that leads to it.
-ghost use Rattle.std.specs.Prelude.{◌≡◌, ◌++◌, ◌<◌, [], OnOk, IfOk, length, map, vec_items};
+ghost use Rattle.std.specs.Prelude.{◌≡◌, ◌++◌, ◌<◌, [], Some, None, MatchOption, OnOk, IfOk, length, map, slice_get};
+ghost use Rattle.std.specs.Prelude.{vec_items};
 ghost use Rattle.sh_key.specs.Layout.{Layout};
+ghost use Rattle.script_orders.specs.Bytes.{counted, state_bytes};
 ghost use Rattle.script_orders.specs.Lanes.{did};
 ghost use Rattle.script_orders.specs.Orders.{is_of, lines_within};
-ghost use Rattle.script_orders.specs.Reached.{IsHeap, IsReached, lanes_of};
+ghost use Rattle.script_orders.specs.Reached.{IsReached, lanes_of};
 ghost use Rattle.script_orders.specs.States.{Follows, all_left};
 
+use crate::changes::Change;
 use crate::found::{Orders, Program};
-use crate::lane::{Lane, copy_lanes, new_lanes};
-use crate::play::opened;
-use sh_key::KeyLayout;
+use crate::lane::{Lane, new_lanes, share_lanes};
 use sh_step::Event;
 use std::alloc::{AllocError, Global};
+use std::rc::Rc;
+
+// The bytes of a state, with its four blocks of memory and its place by its mark.
+const STATE_BYTES: u64 = 256;
 
 /// A state.
 #[derive(Drop)]
@@ -20,10 +25,10 @@ pub struct State {
     pub order: Vec<usize>,
     /// The passes of the steps that were done, in order.
     pub passes: Vec<u32>,
-    /// What each pass did.
-    pub lanes: Vec<Lane>,
-    /// The words of the heap.
-    pub words: Vec<u64>,
+    /// What each pass did. States share the lanes of passes that did the same.
+    pub lanes: Vec<Rc<Lane>>,
+    /// The words of the heap that are not as the lines begin.
+    pub changes: Vec<Change>,
     /// How many orders lead to it.
     pub orders: Orders,
 }
@@ -38,8 +43,8 @@ fn is_of(lines: &[Event], pass: u32, number: usize) -> bool
     }
 }
 
-// Adds the numbers of the pass's lines from one number on and before another.
-fn push_lines(
+/// Adds the numbers of the pass's lines from one number on and before another.
+pub fn push_lines(
     order: &mut Vec<usize>,
     lines: &[Event],
     pass: u32,
@@ -58,48 +63,70 @@ fn push_lines(
 
 impl State {
     /// The state in which the lines begin.
-    pub fn first<L: KeyLayout>(alloc: Global, program: &Program<'_>) -> Result<State, AllocError>
-        ensures reached { IfOk result (IsReached L.layout program.now) }
+    pub fn first(alloc: Global, program: &Program<'_>) -> Result<State, AllocError>
+        ensures reached { IfOk result (λ state. (layout : Layout) → IsReached layout program.now state) }
         ensures orders { IfOk result (λ state. state.orders ≡ Orders.ONE) }
-        ensures heap { OnOk result (IsHeap L.layout program.now) }
         ensures begins { IfOk result (λ state. state.order.items ≡ []) }
     {
-        let world = opened::<L>(alloc, program)?;
         Ok(State {
             order: Vec::new(alloc),
             passes: Vec::new(alloc),
             lanes: new_lanes(alloc, program.shape.passes())?,
-            words: Vec::from_slice(alloc, world.words())?,
+            changes: Vec::new(alloc),
             orders: Orders::ONE,
         })
     }
 
-    /// The state once the pass did one more line. `lane` is what it has done then, and `words` is what the line left.
+    /// The state once the pass did one more line. `lane` is what it has done then, and `changes` is what the line left.
     pub fn after(
         &self,
         alloc: Global,
         lines: &[Event],
         pass: u32,
         lane: Lane,
-        words: &[u64],
+        changes: Vec<Change>,
     ) -> Result<State, AllocError>
         requires { pass < length self.now.lanes.items }
-        ensures { IfOk result (Follows lines.now pass (did lane) words.now self.now) }
+        ensures { IfOk result (Follows lines.now pass (did lane) changes.items self.now) }
     {
         let mut order = Vec::from_slice(alloc, self.order.as_slice())?;
         let mut passes = Vec::from_slice(alloc, self.passes.as_slice())?;
-        let mut lanes = copy_lanes(alloc, self.lanes.as_slice())?;
+        let mut lanes = share_lanes(alloc, self.lanes.as_slice())?;
         let behind = self.lanes[pass as usize].behind;
         push_lines(&mut order, lines, pass, behind, lane.behind)?;
-        lanes[pass as usize] = lane;
+        lanes[pass as usize] = Rc::new(alloc, lane)?;
         passes.push(pass)?;
         Ok(State {
             order,
             passes,
             lanes,
-            words: Vec::from_slice(alloc, words)?,
+            changes,
             orders: self.orders,
         })
+    }
+
+    /// What a pass did.
+    pub fn lane(&self, pass: u32) -> Option<&Lane>
+        ensures { MatchOption result (slice_get (lanes_of self.now) pass ≡ None)
+            (λ lane. slice_get (lanes_of self.now) pass ≡ Some (did lane.now)) }
+    {
+        match self.lanes.get(pass as usize) {
+            Some(lane) => Some(lane.as_ref()),
+            None => None,
+        }
+    }
+
+    /// How many bytes it takes at most, the lanes that it shares with others too.
+    pub fn bytes(&self) -> u64
+        ensures { result ≡ counted (state_bytes self.now) }
+    {
+        let order = 12u64.saturating_mul(self.order.len() as u64);
+        let changes = 16u64.saturating_mul(self.changes.len() as u64);
+        let mut bytes = STATE_BYTES.saturating_add(order).saturating_add(changes);
+        for lane in &self.lanes {
+            bytes = bytes.saturating_add(lane.bytes()).saturating_add(8);
+        }
+        bytes
     }
 
     /// The order, and then the lines that the passes have left.
@@ -114,7 +141,7 @@ impl State {
     {
         let mut order = Vec::from_slice(alloc, self.order.as_slice())?;
         for pass in 0..passes {
-            if let Some(lane) = self.lanes.get(pass as usize) {
+            if let Some(lane) = self.lane(pass) {
                 push_lines(&mut order, lines, pass, lane.behind, lines.len())?;
             }
         }

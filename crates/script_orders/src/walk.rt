@@ -9,16 +9,18 @@ ghost use Rattle.script_orders.specs.declared.state.State.{State};
 ghost use Rattle.script_orders.specs.Counts.{CountsEnd};
 ghost use Rattle.script_orders.specs.States.{HasAlike};
 ghost use Rattle.script_orders.specs.Walks.{GoesTo, IsFollowed, GoesOn, HasEnd, IsSame, KeepsFound, AllRest};
-ghost use Rattle.script_orders.specs.Reached.{world_by, pages_by, pages_asked, lanes_of, IsHeap, IsReached, Rests};
+ghost use Rattle.script_orders.specs.Reached.{world_by, pages_by, pages_asked, lanes_of, HasPlayed, IsReached, Rests};
 ghost use Rattle.script_orders.specs.Reached.{IsOutcome, AreOutcomes, Has, IsComplete};
 
-use crate::found::{Cut, Explored, Found, Orders, Program, Whole};
+use crate::changes::with_word;
+use crate::found::{Cut, Explored, Found, Limit, Orders, Program, Whole};
+use crate::heap::{Heap, played};
 use crate::level::Level;
 use crate::next::next_line;
-use crate::play::{played, seen_by, step};
+use crate::play::touch_of;
+use crate::room::Room;
 use crate::state::State;
 use script_output::account_line::push_accounts;
-use sh_core::World;
 use sh_key::KeyLayout;
 use std::alloc::{AllocError, Global};
 
@@ -26,29 +28,38 @@ use std::alloc::{AllocError, Global};
 fn gone_on<L: KeyLayout>(
     alloc: Global,
     program: &Program<'_>,
+    heap: &mut Heap<L>,
     state: &State,
     pass: u32,
 ) -> Result<Option<State>, AllocError>
+    requires heap { HasPlayed L.layout program.now heap.old.opening.items heap.old.order.items heap.old.world }
     requires reached { IsReached L.layout program.now state.now }
-    ensures { IfOk result (λ next. MatchOption next (Rests L.layout program.now state.now pass)
+    ensures heap { OnOk result (HasPlayed L.layout program.now heap.new.opening.items heap.new.order.items
+        heap.new.world) }
+    ensures next { IfOk result (λ next. MatchOption next (Rests L.layout program.now state.now pass)
         (GoesTo L.layout program.now pass state.now)) }
 {
-    let mut world = played::<L>(alloc, program, state.order.as_slice())?;
-    let Some(lane) = state.lanes.get(pass as usize) else {
+    heap.play(alloc, program, state.order.as_slice())?;
+    let Some(lane) = state.lane(pass) else {
         return Ok(None);
     };
-    let Some(line) = next_line(&world, program.lines, pass, lane.behind) else {
+    let Some(line) = next_line(&heap.world, program.lines, pass, lane.behind) else {
         return Ok(None);
     };
     let Some(event) = program.lines.get(line) else {
         return Ok(None);
     };
-    let Some(seen) = seen_by(&world, event) else {
+    let Some(touch) = touch_of(&heap.world, event) else {
         return Ok(None);
     };
-    let outcome = step(&mut world, event)?;
-    let lane = lane.after(alloc, line, seen, event, &outcome)?;
-    let next = state.after(alloc, program.lines, pass, lane, world.words())?;
+    let behind = lane.behind;
+    let words = heap.opening.as_slice();
+    let opening = words[touch.number];
+    let outcome = heap.outcome(program, pass, behind, line, event, touch.replies)?;
+    let lane = lane.after(alloc, line, touch.seen, event, &outcome)?;
+    let old = state.changes.as_slice();
+    let changes = with_word(alloc, old, touch.number, opening, touch.left)?;
+    let next = state.after(alloc, program.lines, pass, lane, changes)?;
     Ok(Some(next))
 }
 
@@ -56,11 +67,15 @@ fn gone_on<L: KeyLayout>(
 fn go_on<L: KeyLayout>(
     alloc: Global,
     program: &Program<'_>,
+    heap: &mut Heap<L>,
     state: &State,
     next: &mut Level,
 ) -> Result<bool, AllocError>
+    requires heap { HasPlayed L.layout program.now heap.old.opening.items heap.old.order.items heap.old.world }
     requires reached { IsReached L.layout program.now state.now }
     requires all { All (IsReached L.layout program.now) next.old.states.items }
+    ensures heap { OnOk result (HasPlayed L.layout program.now heap.new.opening.items heap.new.order.items
+        heap.new.world) }
     ensures all { OnOk result (All (IsReached L.layout program.now) next.new.states.items) }
     ensures rests { IfOk result (λ goes_on. goes_on ≡ false
         → (pass : ℕ) → pass < program.now.shape.passes → Rests L.layout program.now state.now pass) }
@@ -71,8 +86,8 @@ fn go_on<L: KeyLayout>(
 {
     let mut goes_on = false;
     for pass in 0..program.shape.passes() {
-        if let Some(after) = gone_on::<L>(alloc, program, state, pass)? {
-            next.add(after)?;
+        if let Some(after) = gone_on::<L>(alloc, program, heap, state, pass)? {
+            next.add(alloc, after)?;
             goes_on = true;
         }
     }
@@ -91,7 +106,7 @@ fn pages<L: KeyLayout>(
 {
     let mut pages = Vec::new(alloc);
     if program.accounts {
-        let mut world: World<L> = played::<L>(alloc, program, state.order.as_slice())?;
+        let mut world = played::<L>(alloc, program, state.order.as_slice())?;
         push_accounts(&mut pages, &mut world)?;
     }
     Ok(pages)
@@ -133,8 +148,8 @@ fn place_of(found: &[Found], new: &Found) -> Option<usize>
     None
 }
 
-// Adds an outcome: its orders to those of the same outcome, if there is one.
-fn add(found: &mut Vec<Found>, new: Found) -> Result<(), AllocError>
+// Adds an outcome: its orders to those of the same outcome, if there is one. Returns whether there was none.
+fn add(found: &mut Vec<Found>, new: Found) -> Result<bool, AllocError>
     ensures all { (layout : Layout) (program : Program) → All (IsOutcome layout program) found.old.items
         → IsOutcome layout program new → OnOk result (All (IsOutcome layout program) found.new.items) }
     ensures keeps { OnOk result (KeepsFound found.old.items found.new.items) }
@@ -143,10 +158,10 @@ fn add(found: &mut Vec<Found>, new: Found) -> Result<(), AllocError>
     if let Some(place) = place_of(found.as_slice(), &new) {
         let there = &mut found[place];
         there.orders = there.orders.plus(new.orders);
-        return Ok(());
+        return Ok(false);
     }
     found.push(new)?;
-    Ok(())
+    Ok(true)
 }
 
 // Counts a state in which no pass has a step left, and adds its outcome.
@@ -167,51 +182,71 @@ fn add_end<L: KeyLayout>(
     let new = outcome::<L>(alloc, program, state)?;
     whole.ends = whole.ends.saturating_add(1);
     whole.orders = whole.orders.plus(state.orders);
-    add(&mut whole.found, new)
+    let bytes = new.bytes();
+    if add(&mut whole.found, new)? {
+        whole.bytes = whole.bytes.saturating_add(bytes);
+    }
+    Ok(())
 }
 
-// The states after one further step than these. Those that have none end an order. None if there are too many.
+// The states after one further step than these. Those that have none end an order. If there are too many, the limit
+// that they pass.
 fn next_level<L: KeyLayout>(
     alloc: Global,
     program: &Program<'_>,
+    heap: &mut Heap<L>,
     level: &Level,
-    most: u64,
+    room: Room,
     whole: &mut Whole,
-) -> Result<Option<Level>, AllocError>
+) -> Result<Result<Level, Limit>, AllocError>
+    requires heap { HasPlayed L.layout program.now heap.old.opening.items heap.old.order.items heap.old.world }
     requires reached { All (IsReached L.layout program.now) level.now.states.items }
     requires found { All (IsOutcome L.layout program.now) whole.old.found.items }
-    ensures reached { IfOk result (λ next. IfSome next (λ level.
+    ensures heap { OnOk result (HasPlayed L.layout program.now heap.new.opening.items heap.new.order.items
+        heap.new.world) }
+    ensures reached { IfOk result (λ next. IfOk next (λ level.
         All (IsReached L.layout program.now) level.states.items)) }
     ensures found { OnOk result (All (IsOutcome L.layout program.now) whole.new.found.items) }
-    ensures followed { IfOk result (λ next. IfSome next (λ after. (place : ℕ) (state : State)
+    ensures followed { IfOk result (λ next. IfOk next (λ after. (place : ℕ) (state : State)
         → slice_get level.now.states.items place ≡ Some state → (pass : ℕ) → pass < program.now.shape.passes
         → IsFollowed L.layout program.now after.states.items state pass)) }
     ensures keeps { OnOk result (KeepsFound whole.old.found.items whole.new.found.items) }
-    ensures ends { IfOk result (λ next. IfSome next (λ after. (place : ℕ) (state : State)
+    ensures ends { IfOk result (λ next. IfOk next (λ after. (place : ℕ) (state : State)
         → slice_get level.now.states.items place ≡ Some state → AllRest L.layout program.now state
         → HasEnd L.layout program.now whole.new.found.items state)) }
 {
     let mut next = Level::new(alloc);
     for state in &level.states {
-        if !go_on::<L>(alloc, program, state, &mut next)? {
+        if !go_on::<L>(alloc, program, heap, state, &mut next)? {
             add_end::<L>(alloc, program, state, whole)?;
         }
-        if next.states.len() as u64 > most {
-            return Ok(None);
+        if let Some(limit) = room.passed(level, &next, whole) {
+            return Ok(Err(limit));
         }
     }
-    Ok(Some(next))
+    Ok(Ok(next))
 }
 
 // The first level.
-fn first_level<L: KeyLayout>(alloc: Global, program: &Program<'_>) -> Result<Level, AllocError>
-    ensures reached { IfOk result (λ level. All (IsReached L.layout program.now) level.states.items) }
-    ensures heap { OnOk result (IsHeap L.layout program.now) }
-    ensures begins { IfOk result (λ level. (order : List ℕ) → GoesOn L.layout program.now level.states.items order) }
+fn first_level(alloc: Global, program: &Program<'_>) -> Result<Level, AllocError>
+    ensures reached { IfOk result (λ level. (layout : Layout) → All (IsReached layout program.now) level.states.items) }
+    ensures begins { IfOk result (λ level. (layout : Layout) (order : List ℕ)
+        → GoesOn layout program.now level.states.items order) }
 {
     let mut level = Level::new(alloc);
-    level.add(State::first::<L>(alloc, program)?)?;
+    level.add(alloc, State::first(alloc, program)?)?;
     Ok(level)
+}
+
+// How far a walk came that passes this limit after this number of steps.
+fn cut(limit: Limit, whole: &Whole, steps: u64) -> Cut
+    ensures { result ≡ record { limit = limit; states = whole.now.states; steps = steps } }
+{
+    Cut {
+        limit,
+        states: whole.states,
+        steps,
+    }
 }
 
 /// Does the lines in every order that keeps the order of each pass, and returns each outcome. A line whose condition
@@ -227,25 +262,27 @@ pub fn explore<L: KeyLayout>(alloc: Global, program: &Program<'_>) -> Result<Exp
         ends: 0,
         orders: Orders::NONE,
         found: Vec::new(alloc),
+        bytes: 0,
     };
     let mut steps = 0u64;
     let mut room = program.limit;
-    let mut level = first_level::<L>(alloc, program)?;
+    let mut heap = Heap::<L>::new(alloc, program)?;
+    let mut level = first_level(alloc, program)?;
     while !level.states.is_empty() {
         let count = level.states.len() as u64;
         if count > room {
-            let states = whole.states;
-            return Ok(Explored::Cut(Cut { states, steps }));
+            return Ok(Explored::Cut(cut(Limit::States, &whole, steps)));
         }
         room -= count;
         whole.states = whole.states.saturating_add(count);
         steps = steps.saturating_add(1);
-        match next_level::<L>(alloc, program, &level, room, &mut whole)? {
-            Some(next) => level = next,
-            None => {
-                let states = whole.states;
-                return Ok(Explored::Cut(Cut { states, steps }));
-            }
+        let most = Room {
+            states: room,
+            bytes: program.bytes,
+        };
+        match next_level::<L>(alloc, program, &mut heap, &level, most, &mut whole)? {
+            Ok(next) => level = next,
+            Err(limit) => return Ok(Explored::Cut(cut(limit, &whole, steps))),
         }
     }
     Ok(Explored::Whole(whole))

@@ -10,6 +10,8 @@ pub struct Options<'a> {
     pub accounts: bool,
     /// How many states may be met.
     pub limit: u64,
+    /// How many bytes what is kept may take.
+    pub bytes: u64,
     /// The number of the outcome, from 1, whose witness is printed in place of the outcomes.
     pub witness: Option<u64>,
     /// The file with the outcomes that are expected.
@@ -28,8 +30,7 @@ Example, of files in the folder examples/orders/:
 Exit status:
   0  the outcomes were printed, and are those that are expected; or help or the version was asked for
   1  they are not those that are expected: the first difference is named
-  2  the command line, the script or the file of outcomes is wrong, there is no such outcome, or there are too many
-     states
+  2  the command line, the script or the file of outcomes is wrong, there is no such outcome, or a limit was passed
   3  memory was refused, or a read or a write failed";
 
 fn accounts_flag<'a>(alloc: Global) -> Arg<'a> {
@@ -46,6 +47,15 @@ fn limit_option<'a>(alloc: Global) -> Arg<'a> {
         .value_parser(ValueParser::Unsigned(1, u64::MAX))
         .default_value("200000")
         .help("How many states may be met")
+}
+
+fn bytes_option<'a>(alloc: Global) -> Arg<'a> {
+    Arg::new(alloc, "bytes")
+        .long("bytes")
+        .action(ArgAction::Set)
+        .value_parser(ValueParser::Unsigned(1, u64::MAX))
+        .default_value("1000000000")
+        .help("How many bytes the states and outcomes that are kept may take")
 }
 
 fn witness_option<'a>(alloc: Global) -> Arg<'a> {
@@ -72,6 +82,7 @@ fn command<'a>(alloc: Global) -> Result<Command<'a>, AllocError> {
         .after_help(AFTER_HELP)
         .arg(accounts_flag(alloc))?
         .arg(limit_option(alloc))?
+        .arg(bytes_option(alloc))?
         .arg(witness_option(alloc))?
         .arg(expect_option(alloc))
 }
@@ -82,6 +93,7 @@ pub fn options_of<'a>(alloc: Global, words: &'a [&'a str]) -> Result<Options<'a>
     Ok(Options {
         accounts: matches.get_flag("accounts"),
         limit: matches.get_one::<u64>("limit").unwrap_or(1),
+        bytes: matches.get_one::<u64>("bytes").unwrap_or(1),
         witness: matches.get_one::<u64>("witness"),
         expect: matches.get_str("expect"),
     })

@@ -40,28 +40,32 @@ fn wrong(alloc: Global, what: &[u8]) -> Result<Printed, AllocError> {
     })
 }
 
-// Does the lines from `from` on in every order. None for layout `tagged`: its lines have tags in their keys, and a heap
-// has none.
-fn explored(
-    alloc: Global,
-    options: &Options<'_>,
-    events: &Events,
-    from: usize,
-) -> Result<Option<Explored>, Fault> {
+// What is explored: the events before `from` are done first.
+fn program_of<'e>(options: &Options<'_>, events: &'e Events, from: usize) -> Program<'e> {
     let (before, lines) = events
         .lines
         .as_slice()
         .split_at(from.min(events.lines.len()));
-    let program = Program {
+    Program {
         shape: events.header.shape,
         before,
         lines,
         accounts: options.accounts,
         limit: options.limit,
-    };
-    let explored = match events.header.layout {
-        Layout::Tiny => explore::<Tiny>(alloc, &program),
-        Layout::Wide => explore::<Wide>(alloc, &program),
+        bytes: options.bytes,
+    }
+}
+
+// Does the lines in every order. None for layout `tagged`: its lines have tags in their keys, and a heap
+// has none.
+fn explored(
+    alloc: Global,
+    program: &Program<'_>,
+    layout: Layout,
+) -> Result<Option<Explored>, Fault> {
+    let explored = match layout {
+        Layout::Tiny => explore::<Tiny>(alloc, program),
+        Layout::Wide => explore::<Wide>(alloc, program),
         Layout::Tagged => return Ok(None),
     };
     match explored {
@@ -148,7 +152,8 @@ pub fn run_script(
     // The lines before the events are the header.
     let header = lines.said.len().saturating_sub(events.lines.len());
     let from = lines.before.saturating_sub(header);
-    match explored(alloc, options, &events, from)? {
+    let program = program_of(options, &events, from);
+    match explored(alloc, &program, events.header.layout)? {
         Some(Explored::Whole(whole)) => memory(outcomes_printed(
             alloc,
             options,
@@ -157,7 +162,7 @@ pub fn run_script(
             header.saturating_add(from),
             expected,
         )),
-        Some(Explored::Cut(cut)) => match report_cut(alloc, cut, options.limit) {
+        Some(Explored::Cut(cut)) => match report_cut(alloc, cut, &program) {
             Ok(text) => memory(wrong(alloc, text.as_slice())),
             Err(_) => Err(Fault::Memory),
         },

@@ -12,6 +12,7 @@ use Rattle.script_orders.proofs.walk.go_on.Goals.{in-Some+in_ok-add, in_default}
 
 pub loop-pass-init : goal.loop-pass-init
 loop-pass-init g c = record {
+  played = c.requires.heap;
   all = c.requires.all;
   rests = λ h a less. absurd (omega arith);
   keeps = λ t h. h;
@@ -33,9 +34,10 @@ loop-pass-preserved g c =
           let new = w.add.new.self.states.items in
           let added = w.in_ok-add.ensures in
           let goes = subst (λ (o : Option State). MatchOption o (Rests layout p s pass) (GoesTo layout p pass s))
-          w.in-Some.is c.in_ok-after.ensures in
+          w.in-Some.is c.in_ok-after.ensures.next in
           let keeps = keeps_alike old new after added in
           record {
+            played = c.in_ok-after.ensures.heap;
             all = subst (λ (l : Level). All (IsReached layout p) l.states.items) (sym w.next-is)
                 (added_reached layout p old new after added held.all goes.reached);
             rests = λ h. absurd (let z : false ≡ true = sym h ∙ w.goes_on-is in cc);
@@ -52,8 +54,9 @@ loop-pass-preserved g c =
           }
       | in_default w ↦
           let rests = subst (λ (o : Option State). MatchOption o (Rests layout p s pass) (GoesTo layout p pass s))
-          w.in_default.is c.in_ok-after.ensures in
+          w.in_default.is c.in_ok-after.ensures.next in
           record {
+            played = c.in_ok-after.ensures.heap;
             all = subst (λ (l : Level). All (IsReached layout p) l.states.items) (sym w.next-is) held.all;
             rests = λ h. below_more _ _ (held.rests (sym w.goes_on-is ∙ h)) rests;
             keeps = λ t h. subst (λ (l : Level). HasAlike l.states.items t) (sym w.next-is) (held.keeps t h);

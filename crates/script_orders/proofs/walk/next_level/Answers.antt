@@ -36,6 +36,7 @@ loop-state-preserved g c =
           (held.followed place s (omega arith) at pass within)
     ] in
     record {
+      played = goes.heap;
       reached = goes.all;
       found = elim c.if-not-branch.branch [
         | then-not-branch+in_ok-add_end w ↦
@@ -85,8 +86,19 @@ returns-clause-ends g c = λ place s at rest.
     let count = ap (λ (xs : List State). length xs) c.deref-state-items.ensures.value in
     c.loop-state.invariant.ends place s (omega arith) at rest
 
-pub returns-then-len-most-clause-keeps : goal.returns-then-len-most-clause-keeps
-returns-then-len-most-clause-keeps g c = λ rs ps has.
+pub returns-in-Some-clause-found : goal.returns-in-Some-clause-found
+returns-in-Some-clause-found g c =
+    let layout = g.L.KeyLayout.layout in
+    let p = c.args.program.now in
+    elim c.if-not-branch.branch [
+      | then-not-branch+in_ok-add_end w ↦
+          subst (λ (x : Whole). All (IsOutcome layout p) x.found.items) (sym w.whole-is) w.in_ok-add_end.ensures.found
+      | else-not-branch w ↦
+          subst (λ (x : Whole). All (IsOutcome layout p) x.found.items) (sym w.whole-is) c.loop-state.invariant.found
+    ]
+
+pub returns-in-Some-clause-keeps : goal.returns-in-Some-clause-keeps
+returns-in-Some-clause-keeps g c = λ rs ps has.
     let kept = c.loop-state.invariant.keeps rs ps has in
     elim c.if-not-branch.branch [
       | then-not-branch+in_ok-add_end w ↦

@@ -14,7 +14,7 @@ returns-clause-is g c =
     let p = c.args.program.now in
     let s = c.args.state.now in
     let order = s.order.items in
-    let words = s.words.items in
+    let changes = s.changes.items in
     let lanes = lanes_of s in
     let leads = c.requires.reached in
     let whole = order ++ all_left p.lines.now lanes p.shape.passes in
@@ -28,13 +28,13 @@ returns-clause-is g c =
     c.requires.rests a (omega arith) d at in
     record {
       order = subst (λ (xs : List ℕ). IsOrder p.lines.now p.shape.passes xs) (sym is)
-          (is_order layout p order words lanes leads rests);
+          (is_order layout p order changes lanes leads rests);
       replies =
           c.in_ok-replies.ensures
-          ∙ all_replies layout p order words lanes leads rests
+          ∙ all_replies layout p order changes lanes leads rests
           ∙ ap (λ (xs : List ℕ). map (replies_by layout p xs) (range_with_len 0 p.shape.passes)) (sym is);
       pages = c.in_ok-pages.ensures witness (ap (world_by layout p) is
-          ∙ world_same layout p order words lanes leads rests);
+          ∙ world_same layout p order changes lanes leads rests);
     }
 
 pub returns-clause-pages : goal.returns-clause-pages

@@ -1,4 +1,4 @@
-use Rattle.std.proofs.Common.{◌≡◌, ℕ, ◌++◌, List, Some, arith, rules, refl, ap, ◌∙◌, length}
+use Rattle.std.proofs.Common.{rc_value, ◌≡◌, ℕ, ◌++◌, List, Some, arith, refl, sym, ap, ◌∙◌, length}
 use Rattle.std.specs.Prelude.{map, slice_get, slice_set}
 use Rattle.std.proofs.lemmas.Grind.{common_steps}
 use Rattle.std.proofs.lemmas.List.{map-set}
@@ -14,19 +14,23 @@ pub returns : goal.returns
 returns c = record {
   order = λ old at.
       let s = c.args.self.now in
-      let lane = c.index.result.now in
-      let there : slice_get s.lanes.items c.args.pass ≡ Some lane =
-      slice_get_read s.lanes.items (length s.lanes.items) c.args.pass lane refl c.requires c.index.ensures in
-      let here : slice_get (lanes_of s) c.args.pass ≡ Some (did lane) = lane_at s c.args.pass lane there in
-      let same : did lane ≡ old = cc in
+      let shared = c.index.result.now in
+      let lane = shared.value in
+      let here : slice_get (lanes_of s) c.args.pass ≡ Some (did lane) =
+      lane_at s.lanes.items rc_value c.args.pass shared
+      (slice_get_read s.lanes.items (length s.lanes.items) c.args.pass shared refl c.requires c.index.ensures) in
+      let same : did lane ≡ old = let z : Some (did lane) ≡ Some old = sym here ∙ at in cc in
       c.in_ok-push_lines.ensures
+      ∙ ap (λ (l : Lane). c.in_ok-order.order.items
+      ++ lines_within c.args.lines.now c.args.pass l.behind c.args.lane.behind) c.deref.ensures
       ∙ ap (λ (xs : List ℕ). xs ++ lines_within c.args.lines.now c.args.pass lane.behind c.args.lane.behind)
       (c.in_ok-order.ensures.items ∙ c.as_slice.ensures.value)
       ∙ ap (λ (d : Did). s.order.items ++ lines_within c.args.lines.now c.args.pass d.behind c.args.lane.behind) same;
   passes = grind (arith, common_steps);
-  lanes = map-set did c.in_ok-lanes.lanes.items c.args.pass c.args.lane
+  lanes = map-set (λ lane. did (rc_value lane)) c.in_ok-lanes.lanes.items c.args.pass c.in_ok-lanes-2.field-0
+      ∙ ap (λ (d : Did). slice_set (map (λ lane. did (rc_value lane)) c.in_ok-lanes.lanes.items) c.args.pass d) (ap did c.in_ok-lanes-2.ensures.ok)
       ∙ ap (λ (ls : List Did). slice_set ls c.args.pass (did c.args.lane)) (c.in_ok-lanes.ensures
-      ∙ ap (λ (ls : List Lane). map did ls) c.as_slice-3.ensures.value);
-  words_are = search rules;
+      ∙ (λ i. map (λ lane. did (rc_value lane)) (c.as_slice-3.ensures.value i)));
+  changes_are = refl;
   orders = refl;
 }

@@ -3,7 +3,6 @@ use Rattle.std.specs.Prelude.{vec_items}
 use Rattle.script_orders.specs.Lanes.{did}
 use Rattle.script_orders.specs.Reached.{lanes_of}
 use Rattle.script_orders.proofs.Playing.{left_lines, left_past}
-use Rattle.script_orders.proofs.Walked.{lane_at, lane_past, found_at}
 use Rattle.script_orders.proofs.state.State.whole_order.Goals as goal
 use Rattle.script_orders.proofs.state.State.whole_order.Goals.{in-Some+in_ok-push_lines, in_default}
 
@@ -13,17 +12,12 @@ loop-pass-preserved c =
     let lines = c.args.lines.now in
     let pass = c.loop-pass.pass in
     let old = c.loop-pass.order.items in
-    elim c.match-get.branch [
+    elim c.match-lane.branch [
       | in-Some+in_ok-push_lines w ↦
-          let lane = w.in-Some.lane.now in
-          let look = w.in-Some.ensures.lookup in
-          let at = lane_at s pass lane
-          (found_at c.deref.result.now s.lanes.items pass lane c.deref.ensures.value look.3.0 look.1) in
           ap vec_items w.order-is
-          ∙ left_lines lines (lanes_of s) pass (did lane) s.order.items old w.push_lines.new.order.items at
-          c.loop-pass.invariant w.in_ok-push_lines.ensures
+          ∙ left_lines lines (lanes_of s) pass (did w.in-Some.lane.now) s.order.items old w.push_lines.new.order.items
+          w.in-Some.ensures c.loop-pass.invariant w.in_ok-push_lines.ensures
       | in_default w ↦
-          let past = lane_past s pass c.deref.result.now c.deref.ensures.value w.in_default.ensures.lookup.3 in
           ap vec_items w.order-is
-          ∙ left_past lines (lanes_of s) pass s.order.items old past c.loop-pass.invariant
+          ∙ left_past lines (lanes_of s) pass s.order.items old w.in_default.ensures c.loop-pass.invariant
     ]
