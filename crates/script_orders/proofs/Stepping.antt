@@ -6,7 +6,7 @@ use Rattle.sh_step.specs.declared.action.Event.{Event}
 use Rattle.sh_step.specs.declared.body.Body.{Body}
 use Rattle.sh_step.specs.Moves.{row}
 use Rattle.sh_step.specs.Operations.{operate}
-use Rattle.sh_step.specs.Plans.{Plan, plan_of}
+use Rattle.sh_step.specs.Plans.{plan_of}
 use Rattle.sh_step.specs.Rows.{Row}
 use Rattle.sh_core.specs.declared.outcome.Outcome.{Outcome}
 use Rattle.sh_core.specs.declared.outcome.Outcome.TheVariants.{Skipped}
@@ -20,10 +20,8 @@ module _ (layout : Layout) (k : KeptWorld) (e : Event) (from : FromEvents layout
   abbrev Stepped : Type 0
   Stepped = (o : Outcome) × (k' : KeptWorld) × StepsWorld layout k e o k'
 
-  abbrev kept_plan : Plan
-  kept_plan = plan_of layout k.shape
-
-  by_row : (p : Body) → slice_get k.parts e.pass ≡ Some p → (o : Option Row) → row kept_plan p e.action ≡ o → Stepped
+  by_row : (p : Body) → slice_get k.parts e.pass ≡ Some p → (o : Option Row)
+      → row (plan_of layout k.shape) p e.action ≡ o → Stepped
   by_row p at (Some m) is =
       let n : ℕ = word_at k.shape k.words m.place in
       let came : Outcome = done (new_entry k.shape k.words e.pass m) in
@@ -45,7 +43,7 @@ module _ (layout : Layout) (k : KeptWorld) (e : Event) (from : FromEvents layout
   by_row p at None is = (Skipped, k, steps_skipped layout k e p at is)
 
   by_part : (o : Option Body) → slice_get k.parts e.pass ≡ o → Stepped
-  by_part (Some p) at = by_row p at (row kept_plan p e.action) refl
+  by_part (Some p) at = by_row p at (row (plan_of layout k.shape) p e.action) refl
   by_part None past = (Skipped, k, steps_past layout k e past)
 
   pub stepped : Stepped
