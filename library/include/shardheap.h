@@ -501,7 +501,7 @@ SHARDHEAP_API uint64_t shardheap_passes(shardheap *heap) {
    heap that is the room in the chunks that are open. It is 0 for more than 16 words, of an empty handle, and of what is
    no handle.
 
-       count = shardheap_capacity(&heap, 2);    at least 20,000, of the first heap above */
+       count = shardheap_capacity(&heap, 2);    1,536, of 4 shards of 16 pages */
 SHARDHEAP_API uint64_t shardheap_capacity(shardheap *heap, uint32_t words) {
     if (shardheap_begin_heap(heap) != SHARDHEAP_OK) return 0;
     uint64_t count = shardheap_raw_capacity(heap, words);
@@ -512,7 +512,7 @@ SHARDHEAP_API uint64_t shardheap_capacity(shardheap *heap, uint32_t words) {
 /* How many bytes of memory the heap's words take, in the chunks that are open: 32.5 for each value of one word that it
    has room for. The lists of owners and the passes take more. It is 0 of an empty handle, and of what is no handle.
 
-       bytes = shardheap_bytes(&heap); */
+       count = shardheap_bytes(&heap);    99,904, of 4 shards of 16 pages */
 SHARDHEAP_API uint64_t shardheap_bytes(shardheap *heap) {
     if (shardheap_begin_heap(heap) != SHARDHEAP_OK) return 0;
     uint64_t bytes = shardheap_raw_bytes(heap);

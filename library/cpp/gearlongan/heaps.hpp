@@ -82,12 +82,12 @@ public:
     /// growing heap that is the room in the chunks that are open. It is 0 for more than 16 words, and of an empty
     /// object.
     ///
-    ///     assert(heap.capacity(2) >= 20000);
+    ///     assert(heap.capacity(2) == 384); // two shards of 8 pages
     [[nodiscard]] std::uint64_t capacity(std::uint32_t words) noexcept { return shardheap_capacity(raw(), words); }
 
     /// How many bytes of memory the heap's words take, in the chunks that are open: 0 of an empty object.
     ///
-    ///     assert(heap.bytes() > 0);
+    ///     assert(heap.bytes() == 24992);
     [[nodiscard]] std::uint64_t bytes() noexcept { return shardheap_bytes(raw()); }
 
     /// Writes the layout of the heap.
