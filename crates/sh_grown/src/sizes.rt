@@ -100,7 +100,7 @@ impl Growing {
     /// assert_eq!(growing.size().capacity(1), 768);       // and more once an insert opens a chunk
     /// ```
     pub fn size(&self) -> HeapSize
-        ensures measures { SizesBelow self.now (length self.now.cells.items) result }
+        ensures { SizesBelow self.now (length self.now.cells.items) result }
     {
         let mut size = HeapSize::new();
         for number in 0..self.chunks_allowed() {

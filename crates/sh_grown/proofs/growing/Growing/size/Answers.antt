@@ -32,8 +32,8 @@ loop-number-preserved c =
           }));
     }
 
-pub returns-clause-measures : goal.returns-clause-measures
-returns-clause-measures c =
+pub returns : goal.returns
+returns c =
     let i = c.loop-number.invariant in
     let end = i.end in
     let past = c.loop-number-test.false in
