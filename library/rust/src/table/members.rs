@@ -85,31 +85,32 @@ impl Members {
         }
     }
 
-    // Runs it with the place of this thread, or another. `act` takes no memory. None as of `elsewhere`.
+    // Whether it succeeds with the place of this thread, or another. `act` takes no memory. False, too, if `elsewhere`
+    // finds no place.
     #[inline]
-    fn with<T>(&self, act: impl FnOnce(Open<'_>) -> T) -> Option<T> {
+    fn succeeds(&self, act: impl FnOnce(Open<'_>) -> Result<(), Error>) -> bool {
         match self.own() {
-            Some(open) => Some(act(open)),
-            None => self.elsewhere(act),
+            Some(open) => act(open).is_ok(),
+            None => self.elsewhere(act).is_some_and(|done| done.is_ok()),
         }
     }
 
     /// Whether the key has a value, which is written then.
     #[inline]
     pub(super) fn load(&self, key: Key, value: &mut Value) -> bool {
-        self.with(|open| open.load(key, value).is_ok()) == Some(true)
+        self.succeeds(|open| open.load(key, value))
     }
 
     /// Whether this call removed the key.
     #[inline]
     pub(super) fn remove(&self, key: Key) -> bool {
-        self.with(|open| open.remove(key).is_ok()) == Some(true)
+        self.succeeds(|open| open.remove(key))
     }
 
     /// Whether this call removed the key, whose value is written then.
     #[inline]
     pub(super) fn take(&self, key: Key, value: &mut Value) -> bool {
-        self.with(|open| open.take(key, value).is_ok()) == Some(true)
+        self.succeeds(|open| open.take(key, value))
     }
 
     // (Always, since its callers are few and the compiler would count what is cold.)
