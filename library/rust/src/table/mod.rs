@@ -45,6 +45,27 @@
 //! library order two threads by receipts alone, which a table has not. Each step of the library is a sequentially
 //! consistent atomic operation.
 //!
+//! A table lives in a static too:
+//!
+//! ```
+//! use gearlongan::Table;
+//! use std::sync::LazyLock;
+//!
+//! static TOKENS: LazyLock<Table<u32>> = LazyLock::new(Table::new);
+//!
+//! let key = TOKENS.insert(&7)?;
+//! assert_eq!(TOKENS.take(key), Some(7));
+//! # Ok::<(), gearlongan::Error>(())
+//! ```
+//!
+//! # Records
+//!
+//! A record is copied into the table and out of it as words. So neither a removal nor the end of the table drops a
+//! record: if its type has a `Drop`, each copy runs it that a call returns.
+//!
+//! [`Record::write`] runs before the table is changed, and [`Record::read`] after. Both may call the table, and if they
+//! panic the table is whole. A `take` whose `read` panics has removed its key.
+//!
 //! # Memory
 //!
 //! A new table takes less than 160 KiB, and it grows by chunks as inserts find no room. Only [`Table::insert`] and
@@ -55,6 +76,8 @@ mod builder;
 mod key;
 mod members;
 mod places;
+#[cfg(feature = "serde")]
+mod serialized;
 
 pub use builder::Builder;
 pub use key::Key;
@@ -200,7 +223,8 @@ impl<R: Record> Table<R> {
     ///
     /// # Errors
     ///
-    /// [`Error::Memory`], and [`Error::NoPlace`] if 60 threads have a place of their own, or the thread ends.
+    /// [`Error::Memory`]. [`Error::NoPlace`] if 60 other threads have a place of their own, if the thread ends, or if
+    /// an allocator calls within another call.
     ///
     /// ```
     /// # use gearlongan::{Error, Table};
@@ -251,6 +275,7 @@ impl<R> Table<R> {
 }
 
 impl<R: Record> Default for Table<R> {
+    /// As [`Table::new`], which panics if memory is refused.
     fn default() -> Table<R> {
         Table::new()
     }
