@@ -43,9 +43,9 @@ static void closes(shardheap *heap, shardheap_pass *pass, uint64_t key) {
 static void refused(shardheap *heap, shardheap_pass *pass, uint64_t key, uint32_t code) {
     uint32_t before = misuses;
     each_call_of_a_heap(heap, code);
-    TRUE(misuses - before == 12 && last_misuse == code);
+    TRUE(misuses - before == 15 && last_misuse == code);
     each_call_of_a_pass(pass, key, code);
-    TRUE(misuses - before == 12 + 21 && last_misuse == code);
+    TRUE(misuses - before == 15 + 22 && last_misuse == code);
 }
 
 static void copied_and_moved(void) {

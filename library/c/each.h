@@ -11,6 +11,7 @@ static void each_call_of_a_heap(shardheap *heap, uint32_t refused) {
     shardheap_page page;
     shardheap_sums sums;
     uint64_t place = 55, key = 77;
+    uint32_t layout = 44;
     IS(shardheap_open(heap, SHARDHEAP_TINY, 1, 1, 1), refused);
     IS(shardheap_open_for(heap, SHARDHEAP_TINY, 1, 1, 1, 1), refused);
     IS(shardheap_open_growing(heap, 1, 1, 1, 1, 1), refused);
@@ -20,8 +21,10 @@ static void each_call_of_a_heap(shardheap *heap, uint32_t refused) {
     IS(shardheap_accounts(heap, 0, 0, &page), refused);
     IS(shardheap_totals(heap, &sums), refused);
     IS(shardheap_next_key(heap, &place, &key), refused);
-    TRUE(place == 55 && key == 77);
+    IS(shardheap_layout_of(heap, &layout), refused);
+    TRUE(place == 55 && key == 77 && layout == 44);
     TRUE(shardheap_passes(heap) == 0 && shardheap_chunks(heap) == 0);
+    TRUE(shardheap_capacity(heap, 1) == 0 && shardheap_bytes(heap) == 0);
     shardheap_close(heap);
     TRUE(memcmp(heap, &was, sizeof was) == 0);
 }
@@ -61,6 +64,7 @@ static void each_call_of_a_pass(shardheap_pass *pass, uint64_t key, uint32_t ref
     IS(shardheap_next_own_key(pass, &place, &other), refused);
     IS(shardheap_adopt(pass, 0), refused);
     IS(shardheap_leave(pass), refused);
+    IS(shardheap_leave_idle(pass), refused);
     IS(shardheap_collect(pass), refused);
     IS(shardheap_prepare(pass, 1, &page), refused);
     IS(shardheap_insert(pass, words, 1, &other), refused);

@@ -27,6 +27,9 @@ static void opens(void) {
     IS(shardheap_open_growing(&heap, 1, 1, 1, 1, 1), SHARDHEAP_OCCUPIED);
     IS(shardheap_open(&heap, SHARDHEAP_WIDE, 1, 1, 1), SHARDHEAP_OCCUPIED);
     TRUE(shardheap_chunks(&heap) == 1 && shardheap_passes(&heap) == 64);
+    /* 64 shards of 5 segments: 2,560 pages of 195 words, with 3 slots for 16 words, and two words a shard */
+    TRUE(shardheap_capacity(&heap, 16) == 7680 && shardheap_capacity(&heap, 1) == 122880);
+    TRUE(shardheap_bytes(&heap) == 3994624);
     shardheap_close(&heap);
     IS(shardheap_open(&heap, SHARDHEAP_WIDE, 2, 2, 2), SHARDHEAP_OK);
     TRUE(shardheap_chunks(&heap) == 1);
@@ -80,9 +83,14 @@ static void fills_chunks(void) {
     IS(shardheap_take(&heap, &one), SHARDHEAP_OK);
     IS(shardheap_take(&heap, &two), SHARDHEAP_OK);
     for (uint64_t n = 0; n < 3; n++) {
-        IS(shardheap_load(&two, ((n + 1) << 56) | (UINT64_C(1) << 24), room, 16, &length), SHARDHEAP_BAD_KEY);
+        uint64_t unopened = ((n + 1) << 56) | (UINT64_C(1) << 24);
+        IS(shardheap_load(&two, unopened, room, 16, &length), SHARDHEAP_BAD_KEY);
+        IS(shardheap_read(&two, unopened, room, 16, &length), SHARDHEAP_BAD_KEY);
+        IS(shardheap_release(&two, unopened), SHARDHEAP_BAD_KEY);
         last[n] = fills(&one, n * CHUNK, CHUNK);
         TRUE(last[n] >> 56 == n && shardheap_chunks(&heap) == n + 1);
+        TRUE(shardheap_capacity(&heap, 1) == (n + 1) * CHUNK);
+        TRUE(shardheap_bytes(&heap) == (n + 1) * (8 * 195 + 2) * 8);
     }
 #ifndef SHARDHEAP_CHECKED /* there tag takes the number of a chunk for that of a heap */
     IS(shardheap_tag(last[2], 3, &key), SHARDHEAP_BAD_KEY);
@@ -118,6 +126,9 @@ static void has_no_such_calls(void) {
     IS(shardheap_totals(&heap, &sums), SHARDHEAP_AWAY);
     IS(shardheap_next_key(&heap, &place, &key), SHARDHEAP_AWAY);
     TRUE(page.used == 9 && sums.live == 9 && place == 55 && key == 77);
+    uint32_t layout = 9;
+    IS(shardheap_layout_of(&heap, &layout), SHARDHEAP_OK);
+    TRUE(layout == SHARDHEAP_GROWING);
     IS(shardheap_take(&heap, &pass), SHARDHEAP_OK);
     uint64_t stored = fills(&pass, 7, 1);
     IS(shardheap_adopt(&pass, 0), SHARDHEAP_NO_SHARD);
@@ -216,11 +227,69 @@ static void comes_home(void) {
     IS(shardheap_give(&one), SHARDHEAP_EMPTY);
     IS(shardheap_take(&second, &two), SHARDHEAP_OK);
     shardheap_close(&second);
-    /* (the pass in chunk 1 has its hold still, and the caller has that pass from its first call there that needs it) */
-    IS(shardheap_release(&two, key), SHARDHEAP_NOT_HELD);
-    has(&two, key, CHUNK);
+    /* (its first call in chunk 1 is by the hold) */
     IS(shardheap_release(&two, key), SHARDHEAP_OK);
+    IS(shardheap_release(&two, key), SHARDHEAP_NOT_HELD);
     IS(shardheap_pass_lose(&two), SHARDHEAP_OK);
+}
+
+/* Gives a pass back and takes it again: the heap has no other. */
+static void again(shardheap *heap, shardheap_pass *pass) {
+    IS(shardheap_give(pass), SHARDHEAP_OK);
+    IS(shardheap_take(heap, pass), SHARDHEAP_OK);
+}
+
+/* A pass keeps its holds in each chunk as it is given and taken: the value is readable until they are given back. */
+static void keeps_its_holds(void) {
+    shardheap heap = SHARDHEAP_INIT;
+    shardheap_pass pass = SHARDHEAP_INIT;
+    uint64_t keys[3];
+    IS(shardheap_open_growing(&heap, 1, 1, 1, 1, 3), SHARDHEAP_OK);
+    IS(shardheap_take(&heap, &pass), SHARDHEAP_OK);
+    for (uint64_t n = 0; n < 3; n++) {
+        keys[n] = fills(&pass, n * CHUNK, CHUNK);
+        TRUE(keys[n] >> 56 == n);
+        IS(shardheap_get(&pass, keys[n]), SHARDHEAP_OK);
+        IS(shardheap_remove(&pass, keys[n]), SHARDHEAP_OK);
+    }
+    for (int n = 2; n >= 0; n--) {
+        again(&heap, &pass);
+        IS(shardheap_read(&pass, keys[n], room, 16, &length), SHARDHEAP_OK);
+        TRUE(length == 1 && room[0] == ((uint64_t)n + 1) * CHUNK - 1);
+        again(&heap, &pass);
+        IS(shardheap_release(&pass, keys[n]), SHARDHEAP_OK);
+        again(&heap, &pass);
+        IS(shardheap_read(&pass, keys[n], room, 16, &length), SHARDHEAP_NOT_HELD);
+        IS(shardheap_release(&pass, keys[n]), SHARDHEAP_NOT_HELD);
+    }
+    /* each slot is free again */
+    fills(&pass, 0, 3);
+    IS(shardheap_give(&pass), SHARDHEAP_OK);
+    shardheap_close(&heap);
+}
+
+/* How many of 64 passes insert a value each into one chunk with room for 1,000. */
+static int one_value_each(uint32_t owners, uint64_t values, bool leaves) {
+    static shardheap_pass passes[64];
+    shardheap heap = SHARDHEAP_INIT;
+    uint64_t key;
+    int stored = 0;
+    IS(shardheap_open_growing(&heap, owners, values, 1, 64, 1), SHARDHEAP_OK);
+    for (int n = 0; n < 64; n++) {
+        IS(shardheap_take(&heap, &passes[n]), SHARDHEAP_OK);
+        stored += shardheap_insert(&passes[n], words, 1, &key) == SHARDHEAP_OK;
+        if (leaves) IS(shardheap_leave_idle(&passes[n]), SHARDHEAP_OK);
+    }
+    for (int n = 0; n < 64; n++) IS(shardheap_give(&passes[n]), SHARDHEAP_OK);
+    shardheap_close(&heap);
+    return stored;
+}
+
+/* Each thread that inserts keeps a shard, unless it leaves it. */
+static void needs_an_owner_for_each_thread(void) {
+    TRUE(one_value_each(64, 16, false) == 64);
+    TRUE(one_value_each(1, 1000, true) == 64);
+    TRUE(one_value_each(1, 1000, false) == 1);
 }
 
 /* As many values as before are stored in the chunks that are open, after all were removed by another pass. */
@@ -357,6 +426,8 @@ int main(void) {
     heeds();
     heeds_no_other_heap();
     comes_home();
+    keeps_its_holds();
+    needs_an_owner_for_each_thread();
     uses_its_chunks_again();
     collects_in_each_chunk();
     goes_over_twelve_chunks();

@@ -53,8 +53,9 @@ int main(void) {
     static struct acceptor all[THREADS];
     shardheap table = SHARDHEAP_INIT;
     uint64_t open = 0, refused = 0;
-    /* the first chunk has room for 100 connections of two words; there may be 64 chunks, for half a million */
-    uint32_t code = shardheap_open_growing(&table, 1, 100, 2, THREADS, 64);
+    /* four threads insert, and the first chunk has room for 100 connections of two words of each; there may be 64
+       chunks, for half a million */
+    uint32_t code = shardheap_open_growing(&table, THREADS, 100, 2, THREADS, 64);
     int started = 0;
     for (; started < THREADS && code == SHARDHEAP_OK; started++) {
         all[started].number = (uint64_t)started;

@@ -25,6 +25,7 @@ static void null_pointers(void) {
     IS(shardheap_load(&pass, 1, room, 16, 0), SHARDHEAP_NULL);
     IS(shardheap_adopt(0, 0), SHARDHEAP_NULL);
     IS(shardheap_leave(0), SHARDHEAP_NULL);
+    IS(shardheap_leave_idle(0), SHARDHEAP_NULL);
     IS(shardheap_collect(0), SHARDHEAP_NULL);
     IS(shardheap_prepare(0, 1, &page), SHARDHEAP_NULL);
     IS(shardheap_prepare(&pass, 1, 0), SHARDHEAP_NULL);
@@ -34,7 +35,9 @@ static void null_pointers(void) {
     IS(shardheap_insert_once(0, words, 1, &key), SHARDHEAP_NULL);
     IS(shardheap_insert_once(&pass, 0, 1, &key), SHARDHEAP_NULL);
     IS(shardheap_insert_once(&pass, words, 1, 0), SHARDHEAP_NULL);
-    TRUE(shardheap_passes(0) == 0);
+    TRUE(shardheap_passes(0) == 0 && shardheap_capacity(0, 1) == 0 && shardheap_bytes(0) == 0);
+    IS(shardheap_layout_of(0, &page), SHARDHEAP_NULL);
+    IS(shardheap_layout_of(&heap, 0), SHARDHEAP_NULL);
     shardheap_close(0);
     IS(shardheap_share(0, &heap), SHARDHEAP_NULL);
     IS(shardheap_share(&heap, 0), SHARDHEAP_NULL);
@@ -56,12 +59,14 @@ static void empty_handles(void) {
     IS(shardheap_load(&pass, 4096, room, 16, &length), SHARDHEAP_EMPTY);
     IS(shardheap_adopt(&pass, 0), SHARDHEAP_EMPTY);
     IS(shardheap_leave(&pass), SHARDHEAP_EMPTY);
+    IS(shardheap_leave_idle(&pass), SHARDHEAP_EMPTY);
     IS(shardheap_collect(&pass), SHARDHEAP_EMPTY);
     IS(shardheap_prepare(&pass, 1, &page), SHARDHEAP_EMPTY);
     IS(shardheap_insert(&pass, words, 1, &key), SHARDHEAP_EMPTY);
     IS(shardheap_insert_once(&pass, words, 1, &key), SHARDHEAP_EMPTY);
+    IS(shardheap_layout_of(&heap, &page), SHARDHEAP_EMPTY);
     TRUE(key == 77 && length == 99 && page == 55 && room[0] == 0);
-    TRUE(shardheap_passes(&heap) == 0);
+    TRUE(shardheap_passes(&heap) == 0 && shardheap_capacity(&heap, 1) == 0 && shardheap_bytes(&heap) == 0);
     shardheap other = SHARDHEAP_INIT;
     IS(shardheap_share(&heap, &other), SHARDHEAP_EMPTY);
     IS(shardheap_share(&heap, &heap), SHARDHEAP_OVERLAP);
@@ -90,6 +95,13 @@ static void shapes(void) {
         shardheap_close(&heap);
         IS(shardheap_open_for(&heap, layout, 1, 384, 1, 3), SHARDHEAP_OK);
         TRUE(shardheap_passes(&heap) == 3);
+        /* 8 pages of 195 words, with slots for 48, 24 and 3 values, and two words of the shard */
+        TRUE(shardheap_capacity(&heap, 0) == 384 && shardheap_capacity(&heap, 1) == 384);
+        TRUE(shardheap_capacity(&heap, 2) == 192 && shardheap_capacity(&heap, 16) == 24);
+        TRUE(shardheap_capacity(&heap, 17) == 0 && shardheap_bytes(&heap) == (8 * 195 + 2) * 8);
+        uint32_t found = 99;
+        IS(shardheap_layout_of(&heap, &found), SHARDHEAP_OK);
+        TRUE(found == layout);
         shardheap_close(&heap);
     }
     IS(shardheap_open(&heap, SHARDHEAP_TINY, 4, 2, 1), SHARDHEAP_OK);
@@ -165,6 +177,7 @@ static void owners(shardheap_pass *one, shardheap_pass *two, uint64_t *key, uint
     IS(shardheap_prepare(one, 3, &page), SHARDHEAP_NO_SHARD);
     IS(shardheap_collect(one), SHARDHEAP_NO_SHARD);
     IS(shardheap_leave(one), SHARDHEAP_NO_SHARD);
+    IS(shardheap_leave_idle(one), SHARDHEAP_NO_SHARD);
     IS(shardheap_adopt(one, 2), SHARDHEAP_NO_SHARD);
     IS(shardheap_adopt(one, UINT64_MAX), SHARDHEAP_NO_SHARD);
     IS(shardheap_adopt(one, 0), SHARDHEAP_OK);
@@ -196,7 +209,7 @@ static void hands(shardheap *heap, shardheap_pass *one, shardheap_pass *two) {
     IS(shardheap_adopt(two, 0), SHARDHEAP_OK);
     IS(shardheap_remove(one, last), SHARDHEAP_OK);
     IS(shardheap_insert(two, words, 16, &last), SHARDHEAP_OK);
-    IS(shardheap_leave(two), SHARDHEAP_OK);
+    IS(shardheap_leave_idle(two), SHARDHEAP_OK);
     /* the passes keep the heap, and a handle may be closed twice and used again */
     shardheap_close(heap);
     shardheap_close(heap);

@@ -74,6 +74,7 @@ static void into_handles(shardheap *heap, shardheap_pass *pass, uint64_t key) {
     IS(shardheap_take(heap, (void *)((char *)heap + 8)), SHARDHEAP_OVERLAP);
     IS(shardheap_accounts(heap, 0, 0, (void *)heap), SHARDHEAP_OVERLAP);
     IS(shardheap_totals(heap, (void *)((char *)heap - 8)), SHARDHEAP_OVERLAP);
+    IS(shardheap_layout_of(heap, (void *)heap), SHARDHEAP_OVERLAP);
     IS(shardheap_take_value(pass, key, room, 16, bytes), SHARDHEAP_OVERLAP);
     IS(shardheap_take_value(pass, key, last, 4, &length), SHARDHEAP_OVERLAP);
     IS(shardheap_load_each(pass, bytes, 1), SHARDHEAP_OVERLAP);

@@ -75,6 +75,9 @@ static void handle(int signal_number) {
     in_handler = signal_number != 0;
     if (atomic_load(&inside)) atomic_fetch_add(&in_a_call, 1);
     if (shardheap_passes(&heap) == 0) fail("signals: passes\n");
+    if (shardheap_capacity(&heap, 1) == 0 || shardheap_bytes(&heap) == 0) fail("signals: capacity, bytes\n");
+    uint32_t layout;
+    must(shardheap_layout_of(&heap, &layout), SHARDHEAP_OK, "signals: layout_of\n");
     must(shardheap_load(&handlers, lasting, words, 16, &length), SHARDHEAP_OK, "signals: load\n");
     check_value(words, length, 7);
     must(shardheap_collect(&handlers), SHARDHEAP_OK, "signals: collect\n");

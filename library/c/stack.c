@@ -70,10 +70,13 @@ static void gather(void) { code = shardheap_gather(&heap); }
 static void accounts(void) { code = shardheap_accounts(&heap, 0, 0, &told); }
 static void totals(void) { code = shardheap_totals(&heap, &sums); }
 static void count_passes(void) { length = shardheap_passes(&heap); }
+static void count_room(void) { length = shardheap_capacity(&heap, 1) + shardheap_bytes(&heap); }
+static void find_layout(void) { code = shardheap_layout_of(&heap, &tag); }
 static void put_tag(void) { code = shardheap_tag(key, 5, &number); }
 static void take_tag(void) { code = shardheap_untag(number, &key, &tag); }
 static void adopt(void) { code = shardheap_adopt(&owner, 0); }
 static void leave(void) { code = shardheap_leave(&owner); }
+static void leave_idle(void) { code = shardheap_leave_idle(&owner); }
 static void insert(void) { code = shardheap_insert(&owner, words, length, &key); }
 static void insert_once(void) { code = shardheap_insert_once(&owner, words, length, &key); }
 static void prepare(void) { code = shardheap_prepare(&owner, (uint32_t)length, &page); }
@@ -182,6 +185,8 @@ static void a_heap(void) {
     SHORT_CALL(put_tag);
     SHORT_CALL(take_tag);
     SHORT_CALL(count_passes);
+    SHORT_CALL(count_room);
+    SHORT_CALL(find_layout);
     LONG_CALL(gather);
     for (int at = 0; at < 62; at++) IS(shardheap_take(&heap, &passes[at]), SHARDHEAP_OK);
     LONG_CALL(gather);
@@ -215,7 +220,9 @@ static void a_growing_heap(void) {
         GROWING_CALL(remove_key);
         GROWING_CALL(release);
     }
+    GROWING_CALL(count_room);
     GROWING_CALL(collect);
+    GROWING_CALL(leave_idle);
     GROWING_CALL(leave);
     GROWING_CALL(give);
     GROWING_CALL(close_pass);

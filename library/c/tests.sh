@@ -121,12 +121,12 @@ examples() {
     printf '#include "shardheap_table.h"\nuint64_t examples(void);\nuint64_t examples(void) {\n'
     printf '    shardheap heap = SHARDHEAP_INIT;\n    shardheap_pass pass = SHARDHEAP_INIT;\n'
     printf '    shardheap_receipt receipt = SHARDHEAP_INIT;\n    shardheap_table table = SHARDHEAP_INIT;\n'
-    printf '    uint32_t code, page = 0;\n'
+    printf '    uint32_t code, page = 0, layout = 0;\n'
     printf '    uint64_t words[2] = {7, 8}, room[16], key = 0, second = 1, length = 0, count;\n'
     sed -n '/---- A heap/,$s/^ \{7\}\([^ ].*;\)\(    .*\)\{0,1\}\( \*\/\)\{0,1\}$/    \1/p' library/include/shardheap.h
     sed -n '/---- A table/,$s/^ \{7\}\([^ ].*;\)\(    .*\)\{0,1\}\( \*\/\)\{0,1\}$/    \1/p' \
       library/include/shardheap_table.h
-    printf '    return code + page + key + length + count;\n}\n'
+    printf '    return code + page + layout + key + length + count;\n}\n'
   } > "$out/examples.c"
   # shellcheck disable=SC2086
   gcc -std=c11 $warnings -fsyntax-only -Ilibrary/include "$out/examples.c"

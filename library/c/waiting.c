@@ -72,6 +72,7 @@ static int waits(shardheap_pass *owner) {
     }
     IS(code, SHARDHEAP_WAITING);
     IS(shardheap_leave(owner), SHARDHEAP_WAITING);
+    IS(shardheap_leave_idle(owner), SHARDHEAP_WAITING);
     IS(shardheap_give(owner), SHARDHEAP_OWNS);
     IS(shardheap_insert(owner, words, 16, &key), SHARDHEAP_OK);
     IS(shardheap_remove(owner, key), SHARDHEAP_OK);

@@ -25,7 +25,8 @@ std::vector<gearlongan::key> stored(gearlongan::caller &caller, std::uint64_t fr
 
 TEST(a_growing_heap_is_opened) {
     gearlongan::growing_heap heap;
-    CHECK(!heap && heap.chunks() == 0 && heap.passes() == 0);
+    CHECK(!heap && heap.chunks() == 0 && heap.passes() == 0 && heap.capacity(1) == 0 && heap.bytes() == 0);
+    THROWS(heap.layout_of(), empty);
     IS(heap.try_open({0, 1, 1, 1}, 1), bad_shape);
     IS(heap.try_open({1, 1, 17, 1}, 1), bad_shape);
     IS(heap.try_open({1, 1, 1, 65}, 1), bad_shape);
@@ -34,6 +35,9 @@ TEST(a_growing_heap_is_opened) {
     IS(heap.try_open({1, 1, 1, 2}, 256), ok);
     IS(heap.try_open({1, 1, 1, 2}, 256), occupied);
     CHECK(heap && heap.chunks() == 1 && heap.passes() == 2);
+    // one segment: 8 pages of 195 words, with slots for 48 values of one word, and two words of the shard
+    CHECK(heap.capacity(1) == chunk && heap.capacity(17) == 0 && heap.bytes() == (8 * 195 + 2) * 8);
+    CHECK(heap.layout_of() == gearlongan::layout::growing);
     THROWS(gearlongan::growing_heap::open({1, 1, 1, 1}, 0), bad_shape);
 }
 
@@ -69,6 +73,34 @@ TEST(callers_leave_and_collect) {
     gearlongan::caller none;
     THROWS(none.leave(), empty);
     THROWS(none.collect(), empty);
+}
+
+TEST(callers_leave_what_is_idle) {
+    auto heap = gearlongan::growing_heap::open({1, chunk, 1, 2}, 1);
+    auto caller = heap.take(), other = heap.take();
+    (void)caller.insert({7});
+    THROWS(other.insert({8}), full);
+    caller.leave_idle();
+    (void)other.insert({8});
+    IS(other.try_leave_idle(), ok);
+    (void)caller.insert({9});
+    gearlongan::caller none;
+    THROWS(none.leave_idle(), empty);
+}
+
+// The hold is in the second chunk, and the first call there is by the hold.
+TEST(callers_keep_their_holds) {
+    auto heap = three_chunks(1);
+    gearlongan::key held;
+    {
+        auto caller = heap.take();
+        held = stored(caller, 0, chunk + 1).back();
+        (void)caller.get(held).detach();
+        CHECK(caller.remove(held));
+    }
+    auto caller = heap.take();
+    IS(caller.try_release(held), ok);
+    IS(caller.try_release(held), not_held);
 }
 
 TEST(callers_heed_receipts) {

@@ -33,11 +33,15 @@
    GROWING HEAPS. A heap that shardheap_open_growing opens has 1 to 256 chunks, each with shards of its own. Chunk 0
    opens with the heap, and each further one when an insert finds no room in those before it. Bits 56 to 63 of a key are
    the number of its chunk. No pass adopts a shard by a call: an insert adopts one in a chunk, and leaves it for another
-   there. leave leaves all shards of the pass. So do give and pass_close, which may be WAITING as leave may. An insert
-   is FULL only if all chunks are open. A pass has 16 holds in each chunk, and is NOT_HELD for each key of a chunk that
-   it has not used. BAD_KEY also comes for a chunk that is not open. A key has no room for a tag: tag is BAD_KEY for one
-   of a further chunk, except in checked mode, where the chunk is lost. Two calls of one pass are in their order if they
-   are in one chunk. A receipt covers all chunks that its pass has used, and a pass that heeds it has used them too.
+   there. A pass keeps the shard of its last insert in each chunk, and no other pass inserts there meanwhile. So
+   `owners` is how many threads insert: with fewer, a pass may find each shard taken, and then its insert opens a chunk,
+   or is FULL beside free room. leave_idle lets go of the shards between inserts, and then one shard serves many passes.
+   leave leaves all shards of the pass. So do give and pass_close, which may be WAITING as leave may. An insert is FULL
+   only if all chunks are open. A pass has 16 holds in each chunk, and keeps them when it is given and taken again. For
+   each call on a key BAD_KEY also comes for a chunk that is not open. A key has no room for a tag: tag is BAD_KEY for
+   one of a further chunk, except in checked mode, where the chunk is lost. Two calls of one pass are in their order if
+   they are in one chunk. A receipt covers all chunks that its pass has used, and a pass that heeds it has used them
+   too.
    These calls do nothing on a growing heap: adopt, prepare, pages_left, slots_out and next_own_key return NO_SHARD;
    gather, accounts, totals and next_key return AWAY. (TAKEN comes from a call on a key and from an insert only if
    another handle's bytes were forged.)
@@ -55,9 +59,9 @@
 
    SIGNALS AND STACK. A signal handler is to the calls like another thread: it needs handles that nothing else uses.
    Calls that take and give back no memory are async-signal-safe then: get, release, read, load, load_each, remove,
-   collect, passes, chunks, tag, untag, take_value, pages_left, slots_out and next_own_key. The others are not, because
-   they call malloc, aligned_alloc, realloc or free. The head of each section below has the most stack that its calls
-   took in a test, with the allocator of glibc and a heap of a fixed shape.
+   collect, passes, chunks, capacity, bytes, layout_of, tag, untag, take_value, pages_left, slots_out and next_own_key.
+   The others are not, because they call malloc, aligned_alloc, realloc or free. The head of each section below has the
+   most stack that its calls took in a test, with the allocator of glibc and a heap of a fixed shape.
 
    READING. A load writes nothing to shared memory if the key has a value or was removed. It takes w + 4 atomic loads
    for a value of w words, and at most 20 if the key was removed. A get and a release each change a word that all
@@ -194,7 +198,8 @@ typedef enum shardheap_layout {
     SHARDHEAP_WIDE = 0,   /* 256 shards of 1,024 pages each */
     SHARDHEAP_TAGGED = 1, /* 64 shards of 256 pages; keys are below 2^52 */
     SHARDHEAP_DEEP = 2,   /* 64 shards of 1,048,576 pages, 16,777,216 in all; keys use all 64 bits */
-    SHARDHEAP_TINY = 3    /* 4 shards of 16 pages, whose slots serve 3 values each and no more: for tests */
+    SHARDHEAP_TINY = 3,   /* 4 shards of 16 pages, whose slots serve 3 values each and no more: for tests */
+    SHARDHEAP_GROWING = 4 /* that of heaps that grow: layout_of writes it, and it is a BAD_LAYOUT for an open */
 } shardheap_layout;
 
 /* What the functions of this header keep in a handle. */
@@ -268,6 +273,9 @@ uint32_t shardheap_raw_open_growing(shardheap *heap, uint32_t owners, uint64_t v
                                     uint32_t chunks);
 uint64_t shardheap_raw_passes(shardheap *heap);
 uint64_t shardheap_raw_chunks(shardheap *heap);
+uint64_t shardheap_raw_capacity(shardheap *heap, uint32_t words);
+uint64_t shardheap_raw_bytes(shardheap *heap);
+uint32_t shardheap_raw_layout_of(shardheap *heap, uint32_t *layout);
 uint32_t shardheap_raw_take(shardheap *heap, shardheap_pass *pass);
 uint32_t shardheap_raw_give(shardheap_pass *pass);
 uint32_t shardheap_raw_share(shardheap *heap, shardheap *other);
@@ -282,6 +290,7 @@ uint32_t shardheap_raw_tag(uint64_t key, uint32_t tag, uint64_t *number);
 uint32_t shardheap_raw_untag(uint64_t number, uint64_t *key, uint32_t *tag);
 uint32_t shardheap_raw_adopt(shardheap_pass *pass, uint64_t shard);
 uint32_t shardheap_raw_leave(shardheap_pass *pass);
+uint32_t shardheap_raw_leave_idle(shardheap_pass *pass);
 uint32_t shardheap_raw_prepare(shardheap_pass *pass, uint32_t words, uint32_t *page);
 uint32_t shardheap_raw_collect(shardheap_pass *pass);
 uint32_t shardheap_raw_insert(shardheap_pass *pass, const uint64_t *words, size_t count, uint64_t *key);
@@ -425,8 +434,8 @@ static inline uint32_t shardheap_settle_opened(shardheap *heap, uint32_t layout,
 /* ---- A heap ----
 
    Threads: any thread may use a handle, one call at a time, while others use other handles of the heap and its passes.
-   Signals: only passes and chunks are async-signal-safe, on a handle that nothing else uses. Stack: measured at most
-   8 KiB. */
+   Signals: only passes, chunks, capacity, bytes and layout_of are async-signal-safe, on a handle that nothing else
+   uses. Stack: measured at most 8 KiB. */
 
 /* Opens a heap into an empty handle: `shards` shards, each of `segments` segments of 8 pages, and 1 to 64 passes. There
    is at least one of each, and no more than the layout has. OCCUPIED, BAD_LAYOUT, BAD_SHAPE, MEMORY.
@@ -452,11 +461,12 @@ SHARDHEAP_API uint32_t shardheap_open_for(shardheap *heap, uint32_t layout, uint
 }
 
 /* Opens a growing heap into an empty handle. Its first chunk is the least one in which each of `owners` owners has a
-   shard with room for `values` values of 0 to 16 words. Inserts open further chunks, up to `chunks` in all, 1 to 256.
-   It has 1 to 64 passes. The head of this header says what differs in a growing heap. OCCUPIED, MEMORY; BAD_SHAPE if a
-   number is outside its limits or no chunk has the room.
+   shard with room for `values` values of 0 to 16 words. `owners` is the number of threads that insert, 1 to 64: each
+   keeps a shard. Inserts open further chunks, up to `chunks` in all, 1 to 256. It has 1 to 64 passes. The head of this
+   header says what differs in a growing heap. OCCUPIED, MEMORY; BAD_SHAPE if a number is outside its limits or no chunk
+   has the room.
 
-       code = shardheap_open_growing(&heap, 4, 10000, 1, 8, 256);    room for 10,000 values for each of 4 at first */
+       code = shardheap_open_growing(&heap, 4, 10000, 1, 8, 256);    4 threads insert, 10,000 values each at first */
 SHARDHEAP_API uint32_t shardheap_open_growing(shardheap *heap, uint32_t owners, uint64_t values, uint32_t words,
                                               uint32_t passes, uint32_t chunks) {
     uint32_t code = shardheap_begin_heap(heap);
@@ -485,6 +495,39 @@ SHARDHEAP_API uint64_t shardheap_passes(shardheap *heap) {
     uint64_t passes = shardheap_raw_passes(heap);
     shardheap_end(&heap->seal, SHARDHEAP_OK);
     return passes;
+}
+
+/* How many values of `words` words the heap has slots for, if all its pages are for values of that length. Of a growing
+   heap that is the room in the chunks that are open. It is 0 for more than 16 words, of an empty handle, and of what is
+   no handle.
+
+       count = shardheap_capacity(&heap, 2);    1,536, of 4 shards of 16 pages */
+SHARDHEAP_API uint64_t shardheap_capacity(shardheap *heap, uint32_t words) {
+    if (shardheap_begin_heap(heap) != SHARDHEAP_OK) return 0;
+    uint64_t count = shardheap_raw_capacity(heap, words);
+    shardheap_end(&heap->seal, SHARDHEAP_OK);
+    return count;
+}
+
+/* How many bytes of memory the heap's words take, in the chunks that are open: 32.5 for each value of one word that it
+   has room for. The lists of owners and the passes take more. It is 0 of an empty handle, and of what is no handle.
+
+       count = shardheap_bytes(&heap);    99,904, of 4 shards of 16 pages */
+SHARDHEAP_API uint64_t shardheap_bytes(shardheap *heap) {
+    if (shardheap_begin_heap(heap) != SHARDHEAP_OK) return 0;
+    uint64_t bytes = shardheap_raw_bytes(heap);
+    shardheap_end(&heap->seal, SHARDHEAP_OK);
+    return bytes;
+}
+
+/* Writes the number of the heap's layout, and SHARDHEAP_GROWING of one that grows. EMPTY, OVERLAP.
+
+       code = shardheap_layout_of(&heap, &layout); */
+SHARDHEAP_API uint32_t shardheap_layout_of(shardheap *heap, uint32_t *layout) {
+    if (!heap || !layout) return SHARDHEAP_NULL;
+    if (shardheap_overlap(layout, sizeof *layout, heap, sizeof *heap)) return SHARDHEAP_OVERLAP;
+    uint32_t code = shardheap_begin_heap(heap);
+    return code == SHARDHEAP_OK ? shardheap_end(&heap->seal, shardheap_raw_layout_of(heap, layout)) : code;
 }
 
 /* Takes a pass that is at home into an empty handle. OCCUPIED, EMPTY, NO_PASS, MEMORY, OVERLAP.
@@ -821,6 +864,17 @@ SHARDHEAP_API uint32_t shardheap_adopt(shardheap_pass *pass, uint64_t shard) {
 SHARDHEAP_API uint32_t shardheap_leave(shardheap_pass *pass) {
     uint32_t code = shardheap_begin_pass(pass);
     return code == SHARDHEAP_OK ? shardheap_end(&pass->seal, shardheap_raw_leave(pass)) : code;
+}
+
+/* Leaves the shard that the pass owns, as leave does. In a growing heap it leaves each shard of the pass in which no
+   other pass is in the middle of a free, also behind one in which it has to wait: then it is WAITING, and owns only
+   such shards. A pass that inserts seldom calls it between its inserts, so that others can insert in the same shard.
+   NO_SHARD, of a heap of a fixed shape; EMPTY, WAITING.
+
+       if (shardheap_insert(&pass, words, 2, &key) == SHARDHEAP_OK) code = shardheap_leave_idle(&pass); */
+SHARDHEAP_API uint32_t shardheap_leave_idle(shardheap_pass *pass) {
+    uint32_t code = shardheap_begin_pass(pass);
+    return code == SHARDHEAP_OK ? shardheap_end(&pass->seal, shardheap_raw_leave_idle(pass)) : code;
 }
 
 /* Collects what others freed on all pages of the shard, so that pages of which nothing is used may take values of

@@ -73,6 +73,7 @@ class Layout(enum.IntEnum):
     TAGGED = 1
     DEEP = 2
     TINY = 3
+    GROWING = 4
 
 
 class Refused(Exception):
@@ -98,10 +99,14 @@ _CALLS: dict[str, tuple[Any, list[Any]]] = {
     "open_growing": (_u32, [_handle, _u32, _u64, _u32, _u32, _u32]),
     "chunks": (_u64, [_handle]),
     "passes": (_u64, [_handle]),
+    "capacity": (_u64, [_handle, _u32]),
+    "bytes": (_u64, [_handle]),
+    "layout_of": (_u32, [_handle, ctypes.POINTER(_u32)]),
     "take": (_u32, [_handle, _handle]),
     "close": (None, [_handle]),
     "adopt": (_u32, [_handle, _u64]),
     "leave": (_u32, [_handle]),
+    "leave_idle": (_u32, [_handle]),
     "give": (_u32, [_handle]),
     "insert": (_u32, [_handle, _out, _size, _out]),
     "get": (_u32, [_handle, _u64]),
@@ -180,7 +185,8 @@ class Heap(_Owner):
 
     @classmethod
     def growing(cls, owners: int, values: int, words: int, passes: int, chunks: int = 256) -> Heap:
-        """Opens a heap that grows, whose first chunk has that room. BAD_SHAPE, MEMORY."""
+        """Opens a heap that grows, whose first chunk has that room. Owners are the threads that insert. BAD_SHAPE,
+        MEMORY."""
         return cls._opened("open_growing", _number(owners, 32), _number(values, 64), _number(words, 32),
                            _number(passes, 32), _number(chunks, 32))
 
@@ -199,6 +205,23 @@ class Heap(_Owner):
     def passes(self) -> int:
         """How many passes the heap has, at home or away: 0 once it is closed."""
         return int(_lib.shardheap_passes(self._handle))
+
+    @property
+    def bytes(self) -> int:
+        """How many bytes the words of the open chunks take: 0 once the heap is closed."""
+        return int(_lib.shardheap_bytes(self._handle))
+
+    @property
+    def layout(self) -> Layout:
+        """The layout of the heap. EMPTY."""
+        number = _u32()
+        _check(_lib.shardheap_layout_of(self._handle, number))
+        return Layout(number.value)
+
+    def capacity(self, words: int) -> int:
+        """How many values of so many words the open chunks have slots for, if all are for that length: 0 for more than
+        16 words, and once the heap is closed."""
+        return int(_lib.shardheap_capacity(self._handle, _number(words, 32)))
 
     def take(self) -> Pass:
         """Takes a pass that is at home. NO_PASS, EMPTY, MEMORY."""
@@ -223,6 +246,10 @@ class Pass(_Owner):
     def leave(self) -> None:
         """Leaves the shard, which another pass may adopt. NO_SHARD, WAITING, EMPTY."""
         _check(_lib.shardheap_leave(self._handle))
+
+    def leave_idle(self) -> None:
+        """The same. Of a heap that grows it leaves each shard of the pass in which no other thread is in a free."""
+        _check(_lib.shardheap_leave_idle(self._handle))
 
     def insert(self, words: Iterable[int]) -> int:
         """Stores a value, and returns its key. NO_SHARD, TOO_LONG, FULL, MEMORY, EMPTY."""

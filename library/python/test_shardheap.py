@@ -133,9 +133,26 @@ class TestHeap(Refusing):
     def test_a_heap_that_grows_opens_chunks(self):
         with Heap.growing(owners=1, values=10, words=1, passes=1, chunks=4) as heap, heap.take() as caller:
             self.assertEqual((heap.chunks, heap.passes), (1, 1))
+            # 8 pages of 195 words, with 48 slots for one word or 3 for sixteen, and two words of the shard.
+            self.assertEqual((heap.capacity(1), heap.capacity(16), heap.capacity(17)), (384, 24, 0))
+            self.assertEqual((heap.bytes, heap.layout), ((8 * 195 + 2) * 8, Layout.GROWING))
             while heap.chunks < 3:
                 caller.insert([1])
-        self.assertEqual((heap.chunks, heap.passes), (0, 0))
+            self.assertEqual(heap.capacity(1), 3 * 384)
+        self.assertEqual((heap.chunks, heap.passes, heap.capacity(1), heap.bytes), (0, 0, 0, 0))
+        self.refused(Code.EMPTY, lambda: heap.layout)
+
+    def test_one_shard_serves_passes_that_leave_it(self):
+        with Heap.growing(owners=1, values=10, words=1, passes=2, chunks=1) as heap, heap.take() as one:
+            with heap.take() as other:
+                one.insert([1])
+                self.refused(Code.FULL, other.insert, [2])
+                one.leave_idle()
+                other.insert([2])
+
+    def test_a_heap_has_its_layout(self):
+        with self.heap() as heap:
+            self.assertEqual((heap.layout, heap.capacity(2)), (Layout.WIDE, 192))
 
     def test_passes_outlive_the_handle_of_their_heap(self):
         heap = self.heap()

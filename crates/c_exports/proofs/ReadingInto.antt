@@ -1,5 +1,5 @@
 -- A read into a value of the export's own is a read, whose result is in that value. So are a fetch and a take.
-use Rattle.std.proofs.Common.{ℕ, List, Option, Some, None, Result, Ok, Err, get_or, inl, inr, ap}
+use Rattle.std.proofs.Common.{ℕ, List, Option, Some, None, Result, Ok, Err, get_or, inl, inr}
 use Rattle.std.specs.Prelude.{IsErrAnd}
 use Rattle.sh_key.specs.Layout.{Layout}
 use Rattle.sh_value.specs.declared.refusal.Refusal.{Refusal}
@@ -10,11 +10,11 @@ use Rattle.c_handles.specs.Sides.{SeenSide, SideDoes}
 use Rattle.c_handles.specs.Side.TheVariants.{Pass, Shard, Moving}
 use Rattle.c_handles.specs.Growing.{Growing}
 use Rattle.c_handles.specs.ChunkMember.{ChunkMember}
-use Rattle.c_handles.specs.Callers.{GrownDoes, HeldDoes, MemberDoes, WhyUnmet}
+use Rattle.c_handles.specs.Callers.{GrownDoes, MemberDoes, WhyUnmet}
 use Rattle.c_handles.specs.declared.held_pass.HeldPass.{HeldPass}
 use Rattle.c_handles.specs.declared.held_pass.HeldPass.TheVariants as held
 use Rattle.c_handles.specs.Members.{AnyDoes, layout_of, side_of}
-use Rattle.c_handles.specs.HeldPasses.{FillsByHold, FillsByKey, HeldFetches, HeldReads, HeldTakes}
+use Rattle.c_handles.specs.HeldPasses.{FillsByKey, HeldFetches, HeldReads, HeldTakes}
 
 -- the result of a read, by the value that was read into
 abbrev pub read_in : List ℕ → Result (Unit {0}) Refusal → Result (List ℕ) Refusal
@@ -83,15 +83,6 @@ grown_fills does into after fills a growing number chunk old new (inl did) =
 grown_fills does into after fills a growing number chunk old new (inr not) =
     inr (unmet_fills after a not.0, not.1, not.2)
 
-held_fills : (does : SeenSide → Result (List ℕ) Refusal → SeenSide → Type 0)
-    (into : SeenSide → Result (Unit {0}) Refusal → SeenSide → Type 0) (after : List ℕ)
-    → ((a : Result (Unit {0}) Refusal) (m n : SeenSide) → into m a n → does m (read_in after a) n)
-    → (a : Result (Unit {0}) Refusal) (chunk : ℕ) (old new : List (Option ChunkMember))
-    → HeldDoes into chunk old a new → HeldDoes does chunk old (read_in after a) new
-held_fills does into after fills a chunk old new (inl did) =
-    inl (did.0, met_fills does into after fills a (get_or old chunk None) did.0 did.1, did.2)
-held_fills does into after fills a chunk old new (inr not) = inr (ap (read_in after) not.0, not.1, not.2)
-
 -- ---- of what a handle holds
 
 by_key : (fixed : HeldPass → Result (List ℕ) Refusal → HeldPass → Type 0)
@@ -107,19 +98,6 @@ by_key fixed fixed_into grows grows_into key after f g a (held.Growing c) (held.
     record { does_it = (filled, did.does_it.1) }
 by_key fixed fixed_into grows grows_into key after f g a (held.Growing c) n did = absurd did.does_it
 by_key fixed fixed_into grows grows_into key after f g a m n did = record { does_it = f m n a did.does_it }
-
-by_hold : (fixed : HeldPass → Result (List ℕ) Refusal → HeldPass → Type 0)
-    (fixed_into : HeldPass → Result (Unit {0}) Refusal → HeldPass → Type 0)
-    (grows : Caller → Result (List ℕ) Refusal → Caller → Type 0)
-    (grows_into : Caller → Result (Unit {0}) Refusal → Caller → Type 0) (key : ℕ) (after : List ℕ)
-    → Fills fixed after fixed_into → Fills grows after grows_into → (a : Result (Unit {0}) Refusal) (v w : HeldPass)
-    → FillsByHold fixed_into grows_into key v a w → FillsByHold fixed grows key v (read_in after a) w
-by_hold fixed fixed_into grows grows_into key after f g a (held.Growing c) (held.Growing d) did =
-    let filled = held_fills (SideDoes chunked grows) (SideDoes chunked grows_into) after
-    (side_fills chunked grows grows_into after g) a (chunk_of key) c.met.items d.met.items did.does_it.0 in
-    record { does_it = (filled, did.does_it.1) }
-by_hold fixed fixed_into grows grows_into key after f g a (held.Growing c) n did = absurd did.does_it
-by_hold fixed fixed_into grows grows_into key after f g a m n did = record { does_it = f m n a did.does_it }
 
 read_fills : (key : ℕ) (before after : List ℕ) → Fills (ReadDoes key) after
     (λ v a w. ReadIntoDoes key v before a after w)
@@ -137,10 +115,10 @@ take_fills l key most after v w (Ok u) did = did
 take_fills l key most after v w (Err why) did = did
 
 pub reads_into : (key : ℕ) (before after : List ℕ) (a : Result (Unit {0}) Refusal) (v w : HeldPass)
-    → FillsByHold (AnyDoes (λ l. SideDoes l (λ x r y. ReadIntoDoes key x before r after y)))
+    → FillsByKey (AnyDoes (λ l. SideDoes l (λ x r y. ReadIntoDoes key x before r after y)))
     (λ x r y. ReadIntoDoes (key_within key) x before r after y) key v a w → HeldReads key v (read_in after a) w
 reads_into key before after a v w =
-    by_hold (AnyDoes (λ l. SideDoes l (ReadDoes key)))
+    by_key (AnyDoes (λ l. SideDoes l (ReadDoes key)))
     (AnyDoes (λ l. SideDoes l (λ x r y. ReadIntoDoes key x before r after y))) (ReadDoes (key_within key))
     (λ x r y. ReadIntoDoes (key_within key) x before r after y) key after
     (λ m n r. any_fills (λ l. ReadDoes key) (λ l x r y. ReadIntoDoes key x before r after y) after

@@ -7,7 +7,7 @@ use Rattle.c_handles.specs.declared.heap.LayoutName.{LayoutName}
 use Rattle.c_handles.specs.declared.held_heap.HeldHeap.{HeldHeap}
 use Rattle.c_handles.specs.declared.held_pass.HeldPass.{HeldPass}
 use Rattle.c_handles.specs.Heaps.{layout_named, layout_number}
-use Rattle.c_handles.specs.HeldHeaps.{HasChunks, HeldBegins, OpensGrown, passes_of}
+use Rattle.c_handles.specs.HeldHeaps.{HeldBegins, OpensGrown, layout_by}
 use Rattle.c_handles.specs.HeldPasses.{LeavesShards, MayBeGivenBack}
 
 -- what an empty handle has after an opening with this code: the heap, or nothing if the opening was refused
@@ -42,15 +42,15 @@ ShareTold code None left None after = (code ≡ 14) × (left ≡ None) × (after
 ShareTold code (Some heap) left None after = (left ≡ Some heap)
     × (((code ≡ 0) × (after ≡ Some heap)) ⊎ ((code ≡ 8) × (after ≡ None)))
 
--- the number of passes of the heap, or 0 if there is no heap
-abbrev pub PassesTold : ℕ → Option HeldHeap → Option HeldHeap → Type 0
-PassesTold told None after = (told ≡ 0) × (after ≡ None)
-PassesTold told (Some heap) after = (told ≡ passes_of heap) × (after ≡ Some heap)
+-- a number of which this is true for the heap, or 0 if there is no heap
+abbrev pub KnowsHeap : (HeldHeap → ℕ → Type 0) → ℕ → Option HeldHeap → Option HeldHeap → Type 0
+KnowsHeap is number None after = (number ≡ 0) × (after ≡ None)
+KnowsHeap is number (Some heap) after = is heap number × (after ≡ Some heap)
 
--- the number of chunks of the heap that are open, or 0 if there is no heap
-abbrev pub CountsChunks : ℕ → Option HeldHeap → Option HeldHeap → Type 0
-CountsChunks count None after = (count ≡ 0) × (after ≡ None)
-CountsChunks count (Some heap) after = HasChunks heap count × (after ≡ Some heap)
+-- the number of the heap's layout is written, if there is a heap
+abbrev pub LayoutTold : (code old new : ℕ) → Option HeldHeap → Option HeldHeap → Type 0
+LayoutTold code old new None after = (code ≡ 14) × (after ≡ None) × (new ≡ old)
+LayoutTold code old new (Some heap) after = (code ≡ 0) × (after ≡ Some heap) × (new ≡ layout_by heap)
 
 -- the handle has a pass of the heap at rest, with a pool slot
 abbrev pub HasBegun : HeldHeap → Option HeldPass → Type 0

@@ -1,6 +1,7 @@
 //! The calls of a pass that name a key, and those of the owner of a shard that name no value.
 ghost use Rattle.std.specs.Prelude.{◌≡◌};
-ghost use Rattle.c_handles.specs.HeldPasses.{HeldAdopts, HeldCollects, HeldGets, HeldLeaves, HeldReleases, HeldRemoves};
+ghost use Rattle.c_handles.specs.HeldPasses.{HeldAdopts, HeldCollects, HeldGets, HeldLeaves, HeldLeavesIdle};
+ghost use Rattle.c_handles.specs.HeldPasses.{HeldReleases, HeldRemoves};
 ghost use Rattle.c_exports.specs.Told.{Asked};
 
 use crate::codes::{EMPTY, code};
@@ -65,6 +66,18 @@ pub extern "C" fn shardheap_raw_leave(_alloc: Global, pass: &mut PassHandle) -> 
         return EMPTY;
     }
     let answer = pass.held().leave();
+    code(&answer)
+}
+
+/// Leaves the shard that the pass owns, or in a growing heap each of them in which no other pass is in a free.
+#[unsafe(no_mangle)]
+pub extern "C" fn shardheap_raw_leave_idle(_alloc: Global, pass: &mut PassHandle) -> u32
+    ensures { Asked HeldLeavesIdle result pass.old.slot.value pass.new.slot.value }
+{
+    if !pass.is_full() {
+        return EMPTY;
+    }
+    let answer = pass.held().leave_idle();
     code(&answer)
 }
 

@@ -1,8 +1,8 @@
 //! Passes: how they are taken, given back or lost.
 ghost use Rattle.std.specs.Prelude.{◌≡◌, None, IfSome, MatchResult};
 ghost use Rattle.sh_value.specs.declared.refusal.Refusal.TheVariants.{Memory};
-ghost use Rattle.c_exports.specs.Opened.{CountsChunks, GiveTold, GivesBack, HasBegun, IsPutBack, LoseTold, PassesTold};
-ghost use Rattle.c_exports.specs.Opened.{TakeTold};
+ghost use Rattle.c_handles.specs.HeldHeaps.{HasChunks, passes_of};
+ghost use Rattle.c_exports.specs.Opened.{GiveTold, GivesBack, HasBegun, IsPutBack, KnowsHeap, LoseTold, TakeTold};
 
 use crate::codes::{EMPTY, NO_PASS, OCCUPIED, OK, OWNS};
 use c_handles::{HeapHandle, HeldHeap, HeldPass, PassHandle};
@@ -12,7 +12,7 @@ use std::alloc::Global;
 /// The number of passes of the heap, taken or not. It is 0 if the handle is empty.
 #[unsafe(no_mangle)]
 pub extern "C" fn shardheap_raw_passes(alloc: Global, heap: &mut HeapHandle) -> u64
-    ensures { PassesTold result heap.old.slot.value heap.new.slot.value }
+    ensures { KnowsHeap (λ held count. count ≡ passes_of held) result heap.old.slot.value heap.new.slot.value }
 {
     let Some(held) = heap.take(alloc) else {
         return 0;
@@ -25,7 +25,7 @@ pub extern "C" fn shardheap_raw_passes(alloc: Global, heap: &mut HeapHandle) -> 
 /// The number of chunks of the heap that are open: 1 unless it grows. It is 0 if the handle is empty.
 #[unsafe(no_mangle)]
 pub extern "C" fn shardheap_raw_chunks(alloc: Global, heap: &mut HeapHandle) -> u64
-    ensures { CountsChunks result heap.old.slot.value heap.new.slot.value }
+    ensures { KnowsHeap HasChunks result heap.old.slot.value heap.new.slot.value }
 {
     let Some(held) = heap.take(alloc) else {
         return 0;

@@ -12,6 +12,7 @@ mod opening;
 mod owners;
 mod passes;
 mod receipts;
+mod sizes;
 mod tags;
 mod whole;
 

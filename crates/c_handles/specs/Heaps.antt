@@ -29,6 +29,13 @@ heap_of (any.Tagged h) = h
 heap_of (any.Deep h) = h
 heap_of (any.Tiny h) = h
 
+-- the name of its layout
+abbrev pub name_of : AnyHeap → LayoutName
+name_of (any.Wide h) = name.Wide
+name_of (any.Tagged h) = name.Tagged
+name_of (any.Deep h) = name.Deep
+name_of (any.Tiny h) = name.Tiny
+
 -- the layout that is named
 abbrev pub layout_named : LayoutName → Layout
 layout_named name.Wide = wide

@@ -1,11 +1,12 @@
 -- What a heap's handle holds: a heap of a fixed shape in any layout, or one that grows.
-use Rattle.std.specs.Prelude.{◌≡◌, ℕ, Result, Ok, Err}
+use Rattle.std.specs.Prelude.{◌≡◌, ℕ, ◌*◌, Result, Ok, Err, length}
 use Rattle.sh_value.specs.declared.refusal.Refusal.{Refusal}
 use Rattle.sh_whole.specs.declared.refusal.NotTold.{NotTold}
 use Rattle.sh_whole.specs.declared.refusal.NotTold.TheVariants as untold
 use Rattle.sh_grown.specs.Callers.{IsClaimed}
 use Rattle.sh_grown.specs.Growing.{OpensGrowingFor}
-use Rattle.c_handles.specs.Heaps.{AnyBegins, heap_of}
+use Rattle.sh_grown.specs.Sizes.{Sizes, SizesBelow, room_in, size_of}
+use Rattle.c_handles.specs.Heaps.{AnyBegins, heap_of, layout_number, name_of}
 use Rattle.c_handles.specs.declared.heap.AnyHeap.{AnyHeap}
 use Rattle.c_handles.specs.declared.held_heap.HeldHeap.{HeldHeap}
 use Rattle.c_handles.specs.declared.held_heap.HeldHeap.TheVariants as held
@@ -21,6 +22,24 @@ passes_of (held.Growing growing) = growing.passes
 abbrev pub HasChunks : HeldHeap → ℕ → Type 0
 HasChunks (held.Fixed heap) chunks = chunks ≡ 1
 HasChunks (held.Growing growing) chunks = Unit {0}
+
+-- its size: that of its shape, or the sum over the chunks that were found open
+abbrev pub HasSize : HeldHeap → Sizes → Type 0
+HasSize (held.Fixed heap) size = size ≡ size_of (heap_of heap).shape
+HasSize (held.Growing growing) size = SizesBelow growing (length growing.cells.items) size
+
+-- how many values of this many words it has room for
+abbrev pub HasCapacity : (words : ℕ) → HeldHeap → ℕ → Type 0
+HasCapacity words heap count = (size : Sizes) × HasSize heap size × (count ≡ room_in size words)
+
+-- how many bytes its words take
+abbrev pub HasBytes : HeldHeap → ℕ → Type 0
+HasBytes heap bytes = (size : Sizes) × HasSize heap size × (bytes ≡ 8 * size.words)
+
+-- the number of its layout, and 4 if it grows
+abbrev pub layout_by : HeldHeap → ℕ
+layout_by (held.Fixed heap) = layout_number (name_of heap)
+layout_by (held.Growing growing) = 4
 
 -- the opening of a heap of a fixed shape does this
 abbrev pub OpensFixed : (Result AnyHeap Refusal → Type 0) → Result HeldHeap Refusal → Type 0

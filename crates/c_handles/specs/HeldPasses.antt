@@ -10,9 +10,10 @@ use Rattle.sh_member.specs.Readers.{FetchDoes, TakeFitsDoes}
 use Rattle.sh_member.specs.Sides.{SeenSide, SideDoes, SideInserts, SidePrepares, SideCollects, SideAdopts, SideLeaves}
 use Rattle.sh_member.specs.Sides.{IsPass, IsOfHeap, IsReceiptBy}
 use Rattle.sh_grown.specs.declared.caller.Caller.{Caller as SeenCaller}
-use Rattle.sh_grown.specs.Callers.{GetsIn, GrownDoes, HeldDoes, Stays}
+use Rattle.sh_grown.specs.Callers.{GetsIn, GrownDoes, Stays}
 use Rattle.sh_grown.specs.Inserts.{Inserts, OwnsNone}
 use Rattle.sh_grown.specs.Keeping.{KeepsMembers}
+use Rattle.sh_grown.specs.Leaving.{LeavesIdle}
 use Rattle.sh_grown.specs.Receipts.{AreReceiptsIn, CoversEach, Heeds}
 use Rattle.sh_grown.specs.declared.receipts.GrownReceipt.{GrownReceipt}
 use Rattle.c_handles.specs.declared.held_pass.HeldPass.{HeldPass}
@@ -41,22 +42,17 @@ abbrev pub OnKey : {A : Type 0} → (SeenSide → Result A Refusal → SeenSide 
 OnKey does key c answer d =
     GrownDoes does c.growing c.number (chunk_of key) c.met.items answer d.met.items × Stays c d
 
--- the same for a call by a hold on this key
-abbrev pub OnHold : {A : Type 0} → (SeenSide → Result A Refusal → SeenSide → Type 0) → (key : ℕ) → SeenCaller
-    → Result A Refusal → SeenCaller → Type 0
-OnHold does key c answer d = HeldDoes does (chunk_of key) c.met.items answer d.met.items × Stays c d
-
 abbrev pub HeldGets : ℕ → HeldPass → Result Hold Refusal → HeldPass → Type 0
 HeldGets key = EitherDoes (AnyDoes (λ l. SideDoes l (GetDoes l key))) (OnKey (SideDoes chunked (GetsIn key)) key)
 
 abbrev pub HeldReads : ℕ → HeldPass → Result (List ℕ) Refusal → HeldPass → Type 0
 HeldReads key =
-    EitherDoes (AnyDoes (λ l. SideDoes l (ReadDoes key))) (OnHold (SideDoes chunked (ReadDoes (key_within key))) key)
+    EitherDoes (AnyDoes (λ l. SideDoes l (ReadDoes key))) (OnKey (SideDoes chunked (ReadDoes (key_within key))) key)
 
 abbrev pub HeldReleases : ℕ → HeldPass → Result (Unit {0}) Refusal → HeldPass → Type 0
 HeldReleases key =
     EitherDoes (AnyDoes (λ l. SideDoes l (ReleaseDoes l key)))
-    (OnHold (SideDoes chunked (ReleaseDoes chunked (key_within key))) key)
+    (OnKey (SideDoes chunked (ReleaseDoes chunked (key_within key))) key)
 
 abbrev pub HeldFetches : ℕ → HeldPass → Result (List ℕ) Refusal → HeldPass → Type 0
 HeldFetches key =
@@ -77,10 +73,6 @@ HeldRemoves key =
 abbrev pub FillsByKey : {A : Type 0} → (fixed : HeldPass → Result A Refusal → HeldPass → Type 0)
     → (Caller → Result A Refusal → Caller → Type 0) → (key : ℕ) → HeldPass → Result A Refusal → HeldPass → Type 0
 FillsByKey fixed grows key = EitherDoes fixed (OnKey (SideDoes chunked grows) key)
-
-abbrev pub FillsByHold : {A : Type 0} → (fixed : HeldPass → Result A Refusal → HeldPass → Type 0)
-    → (Caller → Result A Refusal → Caller → Type 0) → (key : ℕ) → HeldPass → Result A Refusal → HeldPass → Type 0
-FillsByHold fixed grows key = EitherDoes fixed (OnHold (SideDoes chunked grows) key)
 
 -- ---- calls of the owner of a shard
 
@@ -122,6 +114,13 @@ CallerLeaves c answer d =
 abbrev pub HeldLeaves : HeldPass → Result (Unit {0}) Refusal → HeldPass → Type 0
 HeldLeaves = EitherDoes (AnyDoes (λ l. SideLeaves)) CallerLeaves
 
+-- a caller leaves each of its shards in which no other caller is in the middle of a free
+abbrev pub CallerLeavesIdle : SeenCaller → Result (Unit {0}) Refusal → SeenCaller → Type 0
+CallerLeavesIdle c answer d = LeavesIdle (length c.met.items) c.met.items answer d.met.items × CallerKeeps c d
+
+abbrev pub HeldLeavesIdle : HeldPass → Result (Unit {0}) Refusal → HeldPass → Type 0
+HeldLeavesIdle = EitherDoes (AnyDoes (λ l. SideLeaves)) CallerLeavesIdle
+
 -- ---- giving back
 
 -- a pass keeps its shard, and a caller leaves its shards
@@ -129,7 +128,7 @@ abbrev pub KeepsShard : HeldPass → Result (Unit {0}) Refusal → HeldPass → 
 KeepsShard m answer n = (answer ≡ Ok tt) × (n ≡ m)
 
 abbrev pub LeavesShards : HeldPass → Result (Unit {0}) Refusal → HeldPass → Type 0
-LeavesShards = EitherDoes KeepsShard CallerLeaves
+LeavesShards = EitherDoes KeepsShard CallerLeavesIdle
 
 -- a pass may be given back if it owns no shard, and a caller always
 abbrev pub MayBeGivenBack : HeldPass → Type 0

@@ -5,8 +5,7 @@ ghost use Rattle.sh_pass.specs.Passes.{ReadIntoDoes};
 ghost use Rattle.sh_member.specs.Readers.{FetchIntoDoes};
 ghost use Rattle.sh_member.specs.Sides.{SideDoes};
 ghost use Rattle.c_handles.specs.Members.{AnyDoes};
-ghost use Rattle.c_handles.specs.HeldPasses.{FillsByHold, FillsByKey, HeldFetches, HeldGets, HeldReads, HeldReleases};
-ghost use Rattle.c_handles.specs.HeldPasses.{HeldRemoves};
+ghost use Rattle.c_handles.specs.HeldPasses.{FillsByKey, HeldFetches, HeldGets, HeldReads, HeldReleases, HeldRemoves};
 
 use crate::held_pass::HeldPass;
 use sh_value::{Hold, Refusal, Value};
@@ -40,7 +39,7 @@ impl HeldPass {
 
     /// The same into a value of the caller's, which is as it was if the call is refused.
     pub fn read_into(&mut self, hold: Hold, value: &mut Value) -> Result<(), Refusal>
-        ensures { FillsByHold (AnyDoes (λ l. SideDoes l (λ v a w. ReadIntoDoes hold.key v value.old a value.new w)))
+        ensures { FillsByKey (AnyDoes (λ l. SideDoes l (λ v a w. ReadIntoDoes hold.key v value.old a value.new w)))
             (λ v a w. ReadIntoDoes (key_within hold.key) v value.old a value.new w) hold.key self.old result self.new }
     {
         match self {

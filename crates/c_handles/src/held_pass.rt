@@ -32,7 +32,7 @@ impl Drop for HeldPass {
 
 impl HeldPass {
     /// Gives its pass back, or the passes of a caller. A pass that owns a shard, or whose pool slot is not free, is
-    /// returned as it was. A caller is not returned: each pass of it that owns a shard is lost.
+    /// returned as it was. A caller is not returned: each pass of it leaves its shard, and is lost if it has to wait.
     pub fn return_to_pool(self) -> Result<(), HeldPass>
         ensures { HeldGives self result }
     {

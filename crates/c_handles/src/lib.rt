@@ -19,6 +19,7 @@ mod owner;
 pub mod pass_handle;
 pub mod receipt_handle;
 pub mod receipts;
+mod sizes;
 mod taking;
 mod warming;
 

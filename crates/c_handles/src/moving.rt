@@ -1,6 +1,6 @@
 // How what a pass's handle holds adopts a shard and leaves it.
 ghost use Rattle.std.specs.Prelude.{MatchBool};
-ghost use Rattle.c_handles.specs.HeldPasses.{HeldAdopts, HeldLeaves, LeavesShards, MayBeGivenBack};
+ghost use Rattle.c_handles.specs.HeldPasses.{HeldAdopts, HeldLeaves, HeldLeavesIdle, LeavesShards, MayBeGivenBack};
 
 use crate::held_pass::HeldPass;
 use sh_value::Refusal;
@@ -35,6 +35,20 @@ impl HeldPass {
         }
     }
 
+    /// Leaves the shard that a pass owns, as `leave` does, or each shard that a caller owns and can leave. Refused as
+    /// `Waiting` if another caller has begun a free in one of them and not ended it. All others are left then.
+    pub fn leave_idle(&mut self) -> Result<(), Refusal>
+        ensures { HeldLeavesIdle self.old result self.new }
+    {
+        match self {
+            HeldPass::Wide(member, _) => member.leave(),
+            HeldPass::Tagged(member, _) => member.leave(),
+            HeldPass::Deep(member, _) => member.leave(),
+            HeldPass::Tiny(member, _) => member.leave(),
+            HeldPass::Growing(caller) => caller.leave_idle(),
+        }
+    }
+
     /// Whether it is a pass that owns a shard, so that it cannot be given back.
     pub fn owns_shard(&self) -> bool
         ensures { MatchBool result (¬ MayBeGivenBack self.now) (MayBeGivenBack self.now) }
@@ -48,8 +62,8 @@ impl HeldPass {
         }
     }
 
-    /// Leaves the shards of a caller, so that it may be given back. A pass keeps its shard. Refused as `Waiting` if
-    /// another caller has begun a free in one of the shards and not ended it.
+    /// Leaves the shards of a caller as by `leave_idle`, so that it may be given back. A pass keeps its shard. Refused
+    /// as `Waiting` if another caller has begun a free in one of the shards and not ended it.
     pub fn leave_shards(&mut self) -> Result<(), Refusal>
         ensures { LeavesShards self.old result self.new }
     {
@@ -58,7 +72,7 @@ impl HeldPass {
             HeldPass::Tagged(_, _) => Ok(()),
             HeldPass::Deep(_, _) => Ok(()),
             HeldPass::Tiny(_, _) => Ok(()),
-            HeldPass::Growing(ending) => ending.leave(),
+            HeldPass::Growing(ending) => ending.leave_idle(),
         }
     }
 }

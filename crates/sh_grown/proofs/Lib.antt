@@ -3,10 +3,12 @@ pub mod Claims
 pub mod Full
 pub mod Heeding
 pub mod Keeping
+pub mod LeftChunks
 pub mod OfChunks
 pub mod Places
 pub mod Refusals
 pub mod Shapes
+pub mod SizeSums
 pub mod StepSums
 pub mod Stepping
 pub mod Sums

@@ -43,20 +43,6 @@ chunk_does does growing number n chunk old met new place after d answer is lt me
       others = set ∙ ap (λ i. slice_set met i after) is;
     }
 
--- the same of a chunk that the caller had met
-pub met_does : {A : Type 0} (does : SeenSide → Result A Refusal → SeenSide → Type 0) (n chunk : ℕ)
-    (old new : List (Option ChunkMember)) (place after d : Option ChunkMember) (answer : Result A Refusal)
-    → n ≡ chunk → n < length old → place ≡ get_or old n d → MemberDoes does place answer after
-    → new ≡ slice_set old n after
-    → (m : Option ChunkMember) × MemberDoes does (get_or old chunk None) answer m × (new ≡ slice_set old chunk m)
-met_does does n chunk old new place after d answer is lt found does_it set =
-    let at : place ≡ get_or old n None = found ∙ inside old n d None lt in (
-      after,
-      subst (λ i. MemberDoes does (get_or old i None) answer after) is
-          (subst (λ o. MemberDoes does o answer after) at does_it),
-      set ∙ ap (λ i. slice_set old i after) is,
-    )
-
 -- a number that names a place of a heap is a key of its layout
 is_key : (layout : Layout) (n : Numbers) (k : ℕ) (x : KeyRef) (o : Option Parts) → unpacked layout k ≡ o
     → place_named (plan_of layout n) k ≡ Some x → IsSome o

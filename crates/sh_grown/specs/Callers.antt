@@ -102,11 +102,6 @@ IfMemberDoes does unmet chunk old answer new =
     × (new ≡ slice_set old chunk after))
     ⊎ ((answer ≡ Err unmet) × (get_or old chunk None ≡ None) × (new ≡ old))
 
--- the same for a call by a hold on a key of the chunk
-abbrev pub HeldDoes : {A : Type 0} → (SeenSide → Result A Refusal → SeenSide → Type 0) → (chunk : ℕ)
-    → List (Option ChunkMember) → Result A Refusal → List (Option ChunkMember) → Type 0
-HeldDoes does chunk old answer new = IfMemberDoes does refusal.NotHeld chunk old answer new
-
 -- the hold that the member of the chunk gave, for a hold on the key with its chunk
 abbrev pub hold_within : Result Hold Refusal → Result Hold Refusal
 hold_within (Ok hold) = Ok (record { key = key_within hold.key })

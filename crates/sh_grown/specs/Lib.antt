@@ -3,10 +3,12 @@ pub mod ChunkShapes
 pub mod Growing
 pub mod Inserts
 pub mod Keeping
+pub mod Leaving
 pub mod OfChunks
 pub mod Receipts
 pub mod Refusals
 pub mod Shares
+pub mod Sizes
 pub mod Steps
 pub mod Sums
 pub mod Wholes

@@ -5,7 +5,7 @@ ghost use Rattle.sh_chunk.specs.Chunks.{chunked, chunk_of, key_within};
 ghost use Rattle.sh_pass.specs.Passes.{ReadDoes, ReadIntoDoes, RemoveDoes, ReleaseDoes};
 ghost use Rattle.sh_member.specs.Readers.{FetchDoes, FetchIntoDoes, TakeIntoDoes};
 ghost use Rattle.sh_member.specs.Sides.{SideDoes};
-ghost use Rattle.sh_grown.specs.Callers.{GrownDoes, HeldDoes, GetsIn, Stays};
+ghost use Rattle.sh_grown.specs.Callers.{GrownDoes, GetsIn, Stays};
 
 use crate::caller::Caller;
 use crate::chunk_member::{
@@ -70,75 +70,73 @@ impl Caller {
         get_guard_at(&mut self.met[chunk], key)
     }
 
-    /// The value of a key that it holds. Refused as `NotHeld`.
+    /// The value of a key that it holds. Refused as `NotHeld` only if its pass in the key's chunk has no hold on it. A
+    /// pass that was given back has its holds when it is claimed again, in each chunk.
     #[inline(never)]
     pub fn read(&mut self, hold: Hold) -> Result<Value, Refusal>
-        ensures does { HeldDoes (SideDoes chunked (ReadDoes (key_within hold.key))) (chunk_of hold.key)
-            self.old.met.items result self.new.met.items }
+        ensures does { GrownDoes (SideDoes chunked (ReadDoes (key_within hold.key)))
+            self.old.growing self.old.number (chunk_of hold.key) self.old.met.items result
+            self.new.met.items }
         ensures stays { Stays self.old self.new }
     {
         let chunk = chunk_of(hold.key);
-        if !self.has_met(chunk) {
-            return Err(Refusal::NotHeld);
-        }
+        self.meet(chunk)?;
         read_at(&mut self.met[chunk], hold)
     }
 
     /// The same into a value of the caller's. A refusal leaves that value as it was.
     #[inline(never)]
     pub fn read_into(&mut self, hold: Hold, value: &mut Value) -> Result<(), Refusal>
-        ensures does { HeldDoes (SideDoes chunked (λ v answer w. ReadIntoDoes (key_within hold.key) v value.old
-            answer value.new w)) (chunk_of hold.key) self.old.met.items result self.new.met.items }
+        ensures does { GrownDoes (SideDoes chunked (λ v answer w. ReadIntoDoes (key_within hold.key) v value.old
+            answer value.new w))
+            self.old.growing self.old.number (chunk_of hold.key) self.old.met.items result
+            self.new.met.items }
         ensures stays { Stays self.old self.new }
     {
         let chunk = chunk_of(hold.key);
-        if !self.has_met(chunk) {
-            return Err(Refusal::NotHeld);
-        }
+        self.meet(chunk)?;
         read_into_at(&mut self.met[chunk], hold, value)
     }
 
     /// The same as `read_into`, by a hold that keeps its place.
     #[inline(never)]
     pub fn read_guard(&mut self, guard: &GrownGuard, value: &mut Value) -> Result<(), Refusal>
-        ensures does { HeldDoes (SideDoes chunked (λ v answer w. ReadIntoDoes (key_within guard.now.key) v value.old
-            answer value.new w)) (chunk_of guard.now.key) self.old.met.items result self.new.met.items }
+        ensures does { GrownDoes (SideDoes chunked (λ v answer w. ReadIntoDoes (key_within guard.now.key) v value.old
+            answer value.new w))
+            self.old.growing self.old.number (chunk_of guard.now.key) self.old.met.items result
+            self.new.met.items }
         ensures stays { Stays self.old self.new }
     {
         let key = guard.key();
         let chunk = chunk_of(key);
-        if !self.has_met(chunk) {
-            return Err(Refusal::NotHeld);
-        }
+        self.meet(chunk)?;
         read_guard_at(&mut self.met[chunk], guard, value)
     }
 
-    /// Gives one hold on a key back. Refused as `NotHeld`.
+    /// Gives one hold on a key back. Refused as `NotHeld`, as `read` is.
     #[inline(never)]
     pub fn release(&mut self, hold: Hold) -> Result<(), Refusal>
-        ensures does { HeldDoes (SideDoes chunked (ReleaseDoes chunked (key_within hold.key))) (chunk_of hold.key)
-            self.old.met.items result self.new.met.items }
+        ensures does { GrownDoes (SideDoes chunked (ReleaseDoes chunked (key_within hold.key)))
+            self.old.growing self.old.number (chunk_of hold.key) self.old.met.items result
+            self.new.met.items }
         ensures stays { Stays self.old self.new }
     {
         let chunk = chunk_of(hold.key);
-        if !self.has_met(chunk) {
-            return Err(Refusal::NotHeld);
-        }
+        self.meet(chunk)?;
         release_at(&mut self.met[chunk], hold)
     }
 
     /// The same as `release`, of a hold that keeps its place.
     #[inline(never)]
     pub fn release_guard(&mut self, guard: GrownGuard) -> Result<(), Refusal>
-        ensures does { HeldDoes (SideDoes chunked (ReleaseDoes chunked (key_within guard.key))) (chunk_of guard.key)
-            self.old.met.items result self.new.met.items }
+        ensures does { GrownDoes (SideDoes chunked (ReleaseDoes chunked (key_within guard.key)))
+            self.old.growing self.old.number (chunk_of guard.key) self.old.met.items result
+            self.new.met.items }
         ensures stays { Stays self.old self.new }
     {
         let key = guard.key();
         let chunk = chunk_of(key);
-        if !self.has_met(chunk) {
-            return Err(Refusal::NotHeld);
-        }
+        self.meet(chunk)?;
         release_guard_at(&mut self.met[chunk], guard)
     }
 

@@ -46,14 +46,18 @@ impl Drop for ChunkMember {
 }
 
 impl ChunkMember {
-    // Gives the pass back to its pool slot. A pass that owns a shard is lost.
+    // Leaves its shard, and gives the pass back to its pool slot. A pass that has to keep its shard is lost.
     fn return_to_pool(self) {
         let ChunkMember {
-            member,
+            mut member,
             pool_slot,
             note: _,
             shards: _,
         } = self;
+        if member.owns_shard() {
+            // Refused if another caller's free is yet to end.
+            member.leave().ok();
+        }
         let Ok(pass) = member.into_pass() else {
             return pool_slot.lose();
         };

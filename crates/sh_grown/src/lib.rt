@@ -25,6 +25,7 @@ mod inserting;
 mod leaving;
 pub mod receipts;
 pub mod share;
+pub mod sizes;
 pub mod totals;
 
 pub use caller::Caller;
@@ -35,4 +36,5 @@ pub use guard::GrownGuard;
 pub use receipts::GrownReceipt;
 pub use sh_whole::NotTold;
 pub use share::GrowingShare;
+pub use sizes::HeapSize;
 pub use totals::GrownTotals;

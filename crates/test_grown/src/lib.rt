@@ -1,6 +1,6 @@
 //! Tests of growing heaps: the shapes of chunks, many values over several chunks, and full heaps. Others are of the
-//! order in which an insert tries shards, of its steps, of refused memory, of threads that open one chunk, and of
-//! receipts.
+//! order in which an insert tries shards, of its steps, of refused memory, and of threads that open one chunk. The rest
+//! are of receipts, of holds of a pass that is claimed again, of shards that are left, and of sizes.
 #![tactic(auto)]
 
 #[cfg(test)]
@@ -8,11 +8,17 @@ mod chunks;
 #[cfg(test)]
 mod growing;
 #[cfg(test)]
+mod holds;
+#[cfg(test)]
+mod leaving;
+#[cfg(test)]
 mod memory;
 #[cfg(test)]
 mod receipts;
 #[cfg(test)]
 mod shapes;
+#[cfg(test)]
+mod sizes;
 #[cfg(test)]
 mod steps;
 #[cfg(test)]

@@ -31,7 +31,25 @@ public:
     ///     while (caller.try_leave() == gearlongan::errc::waiting) std::this_thread::yield();
     errc try_leave() noexcept { return static_cast<errc>(shardheap_leave(raw())); }
 
+    /// Leaves each shard that the caller owns and in which no other caller is in the middle of a free. waiting, if one
+    /// is left. A caller that inserts seldom calls it between its inserts, so that others insert in the same shard.
+    ///
+    ///     auto growing = gearlongan::growing_heap::open({1, 1000, 2, 8}, 1);
+    ///     auto caller = growing.take(), other = growing.take();
+    ///     (void)caller.insert({7, 8});
+    ///     assert(caller.try_leave_idle() == gearlongan::errc::ok);
+    ///     (void)other.insert({9});
+    errc try_leave_idle() noexcept { return static_cast<errc>(shardheap_leave_idle(raw())); }
+
 #if defined(__cpp_exceptions)
+    /// Leaves each shard that it can, as try_leave_idle does. It throws waiting.
+    ///
+    ///     auto growing = gearlongan::growing_heap::open({1, 1000, 2, 8}, 256);
+    ///     auto caller = growing.take();
+    ///     (void)caller.insert({7, 8});
+    ///     caller.leave_idle();
+    void leave_idle() { detail::check(try_leave_idle()); }
+
     /// Leaves the shards, as try_leave does. It throws waiting.
     ///
     ///     auto growing = gearlongan::growing_heap::open({1, 1000, 2, 8}, 256);
@@ -64,8 +82,8 @@ public:
     constexpr growing_heap() noexcept {}
 
     /// Opens a heap in this object, which is empty. Its first chunk is the least one that has this room, and it has at
-    /// most this many chunks, 1 to 256. occupied, memory; bad_shape, if a number is outside its limits or no chunk has
-    /// the room.
+    /// most this many chunks, 1 to 256. The owners are the threads that insert, since each keeps a shard. occupied,
+    /// memory; bad_shape, if a number is outside its limits or no chunk has the room.
     ///
     ///     gearlongan::growing_heap growing;
     ///     assert(growing.try_open({1, 1000, 2, 8}, 257) == gearlongan::errc::bad_shape);

@@ -15,6 +15,7 @@ enum class layout : std::uint32_t {
     tagged = SHARDHEAP_TAGGED, ///< 64 shards of 256 pages; keys are below 2^52
     deep = SHARDHEAP_DEEP,     ///< 64 shards of 1,048,576 pages, 16,777,216 in all; keys use all 64 bits
     tiny = SHARDHEAP_TINY,     ///< 4 shards of 16 pages, whose slots serve 3 values each and no more: for tests
+    growing = SHARDHEAP_GROWING, ///< that of heaps that grow, which heap::open refuses as bad_layout
 };
 
 /// The size of a heap by its parts: shards, segments of 8 pages in each, and 1 to 64 passes.
@@ -76,6 +77,40 @@ public:
     ///
     ///     assert(heap.passes() == 4);
     [[nodiscard]] std::uint64_t passes() noexcept { return shardheap_passes(raw()); }
+
+    /// How many values of this many words the heap has slots for, if all its pages are for values of that length. Of a
+    /// growing heap that is the room in the chunks that are open. It is 0 for more than 16 words, and of an empty
+    /// object.
+    ///
+    ///     assert(heap.capacity(2) == 384); // two shards of 8 pages
+    [[nodiscard]] std::uint64_t capacity(std::uint32_t words) noexcept { return shardheap_capacity(raw(), words); }
+
+    /// How many bytes of memory the heap's words take, in the chunks that are open: 0 of an empty object.
+    ///
+    ///     assert(heap.bytes() == 24992);
+    [[nodiscard]] std::uint64_t bytes() noexcept { return shardheap_bytes(raw()); }
+
+    /// Writes the layout of the heap.
+    ///
+    ///     gearlongan::layout of;
+    ///     assert(heap.try_layout_of(of) == gearlongan::errc::ok);
+    errc try_layout_of(layout &into) noexcept {
+        std::uint32_t number = 0;
+        const auto code = static_cast<errc>(shardheap_layout_of(raw(), &number));
+        if (code == errc::ok) into = static_cast<layout>(number);
+        return code;
+    }
+
+#if defined(__cpp_exceptions)
+    /// The layout of the heap.
+    ///
+    ///     assert(heap.layout_of() == gearlongan::layout::wide);
+    [[nodiscard]] layout layout_of() {
+        layout found{};
+        detail::check(try_layout_of(found));
+        return found;
+    }
+#endif
 
 protected:
     heap_base() noexcept = default;

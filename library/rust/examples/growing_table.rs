@@ -38,8 +38,9 @@ fn run(table: &Growing) -> Result<(Vec<Key>, u64), Error> {
 }
 
 fn main() -> Result<(), Error> {
-    // The first chunk has room for 100 connections of two words. There may be 64 chunks: half a million connections.
-    let table = Heap::growing(Room { owners: 1, values: 100, words: 2, passes: THREADS }, 64)?;
+    // Each thread inserts, and the first chunk has room for 100 connections of two words of each. There may be 64 chunks:
+    // half a million connections.
+    let table = Heap::growing(Room { owners: THREADS, values: 100, words: 2, passes: THREADS }, 64)?;
     let (open, refused) = run(&table)?;
     println!("{} connections are open, in {} chunks; {refused} were refused", open.len(), table.chunks());
 

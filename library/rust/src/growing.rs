@@ -19,7 +19,9 @@ pub struct Growing {
 
 impl Heap {
     /// Opens a heap that grows. Its first chunk is the least one that has this room, and it has at most this many
-    /// chunks, from 1 to 256.
+    /// chunks, from 1 to 256. [`Room::owners`] is the number of threads that insert, since each keeps a shard: with
+    /// fewer, a caller may find each shard taken. Then its insert opens a chunk, or is [`Error::Full`] beside free
+    /// room.
     ///
     /// # Errors
     ///
@@ -67,6 +69,32 @@ impl Growing {
         self.handle.chunks()
     }
 
+    /// How many values of this many words the open chunks have slots for, if all their pages are for values of that
+    /// length: 0 for more than 16 words. Another thread may open a chunk meanwhile.
+    ///
+    /// ```
+    /// # use gearlongan::{Error, Heap, Room};
+    /// let heap = Heap::growing(Room { owners: 2, values: 384, words: 1, passes: 2 }, 256)?;
+    /// assert_eq!((heap.capacity(1), heap.capacity(16)), (768, 48));
+    /// # Ok::<(), Error>(())
+    /// ```
+    pub fn capacity(&self, words: u32) -> u64 {
+        self.handle.capacity(words)
+    }
+
+    /// How many bytes of memory the words of the open chunks take: 32.5 for each value of one word that they have room
+    /// for. The lists of owners and the passes take more.
+    ///
+    /// ```
+    /// # use gearlongan::{Error, Heap, Room};
+    /// let heap = Heap::growing(Room { owners: 1, values: 384, words: 1, passes: 2 }, 256)?;
+    /// assert_eq!(heap.bytes(), (8 * 195 + 2) * 8); // a page has 195 words, and a shard has two more
+    /// # Ok::<(), Error>(())
+    /// ```
+    pub fn bytes(&self) -> u64 {
+        self.handle.bytes()
+    }
+
     /// Takes a pass that is at home, as a caller. It comes home again when the caller is dropped.
     ///
     /// # Errors
@@ -85,6 +113,25 @@ impl Growing {
     pub fn take(&self) -> Result<Caller, Error> {
         let pass = self.handle.take().map(Pass::of)?;
         Ok(Caller { pass })
+    }
+
+    /// Lends a caller to a closure, and brings it home when the closure returns or panics.
+    ///
+    /// # Errors
+    ///
+    /// Those of [`take`](Growing::take): then the closure is not called.
+    ///
+    /// ```
+    /// # use gearlongan::{Error, Heap, Room};
+    /// let heap = Heap::growing(Room { owners: 1, values: 1, words: 1, passes: 1 }, 256)?;
+    /// let key = heap.with_caller(|caller| caller.insert(&[7]))??;
+    /// assert_eq!(heap.with_caller(|caller| caller.take(key))??, [7]);
+    /// assert!(heap.take().is_ok());
+    /// # Ok::<(), Error>(())
+    /// ```
+    pub fn with_caller<T>(&self, call: impl FnOnce(&Caller) -> T) -> Result<T, Error> {
+        let caller = self.take()?;
+        Ok(call(&caller))
     }
 }
 
@@ -188,6 +235,27 @@ impl Caller {
     /// ```
     pub fn leave(&self) -> Result<(), Error> {
         self.pass.handle.leave()
+    }
+
+    /// Leaves each shard that the caller owns and in which no other pass is in the middle of a free. A caller that
+    /// inserts seldom calls it between its inserts, so that others can insert in the same shard.
+    ///
+    /// # Errors
+    ///
+    /// [`Error::Waiting`], if the caller still owns a shard. All others are left then.
+    ///
+    /// ```
+    /// # use gearlongan::{Error, Heap, Room};
+    /// let heap = Heap::growing(Room { owners: 1, values: 1, words: 1, passes: 2 }, 1)?;
+    /// let (caller, other) = (heap.take()?, heap.take()?);
+    /// caller.insert(&[7])?;
+    /// assert_eq!(other.insert(&[8]), Err(Error::Full)); // the one shard has an owner
+    /// caller.leave_idle()?;
+    /// other.insert(&[8])?;
+    /// # Ok::<(), Error>(())
+    /// ```
+    pub fn leave_idle(&self) -> Result<(), Error> {
+        self.pass.handle.leave_idle()
     }
 }
 

@@ -31,6 +31,16 @@ impl Layout {
         }
     }
 
+    /// The layout of this number. (Those of growing heaps have another, and no `Heap` has one.)
+    pub(crate) fn numbered(number: u32) -> Layout {
+        match number {
+            1 => Layout::Tagged,
+            2 => Layout::Deep,
+            3 => Layout::Tiny,
+            _ => Layout::Wide,
+        }
+    }
+
     /// The most holds that a key may have.
     pub(crate) fn holds(self) -> u32 {
         match self {
@@ -54,7 +64,8 @@ pub struct Shape {
 /// What a heap is to have room for.
 #[derive(Clone, Copy, Debug, PartialEq, Eq, Hash)]
 pub struct Room {
-    /// How many passes insert at the same time: each has a shard.
+    /// How many threads insert: each has a shard, also in a [`Growing`](crate::Growing) heap, and keeps it until it
+    /// leaves it. 1 to as many shards as the layout has, and to 64 in a growing heap.
     pub owners: u32,
     /// The most values that are in the shard of each owner at one time.
     pub values: u64,
@@ -150,6 +161,44 @@ impl Heap {
     /// ```
     pub fn passes(&self) -> u64 {
         self.handle.passes()
+    }
+
+    /// The layout that the heap was opened with.
+    ///
+    /// ```
+    /// # use gearlongan::{Error, Heap, Layout, Shape};
+    /// let heap = Heap::open(Layout::Deep, Shape { shards: 1, segments: 1, passes: 1 })?;
+    /// assert_eq!(heap.layout(), Layout::Deep);
+    /// # Ok::<(), Error>(())
+    /// ```
+    pub fn layout(&self) -> Layout {
+        self.handle.layout()
+    }
+
+    /// How many values of this many words the heap has slots for, if all its pages are for values of that length: 0 for
+    /// more than 16 words.
+    ///
+    /// ```
+    /// # use gearlongan::{Error, Heap, Layout, Shape};
+    /// let heap = Heap::open(Layout::Wide, Shape { shards: 2, segments: 1, passes: 1 })?;
+    /// assert_eq!((heap.capacity(1), heap.capacity(16)), (768, 48));
+    /// # Ok::<(), Error>(())
+    /// ```
+    pub fn capacity(&self, words: u32) -> u64 {
+        self.handle.capacity(words)
+    }
+
+    /// How many bytes of memory the heap's words take: 32.5 for each value of one word that it has room for. The lists
+    /// of owners and the passes take more.
+    ///
+    /// ```
+    /// # use gearlongan::{Error, Heap, Layout, Shape};
+    /// let heap = Heap::open(Layout::Wide, Shape { shards: 1, segments: 1, passes: 1 })?;
+    /// assert_eq!(heap.bytes(), (8 * 195 + 2) * 8); // a page has 195 words, and a shard has two more
+    /// # Ok::<(), Error>(())
+    /// ```
+    pub fn bytes(&self) -> u64 {
+        self.handle.bytes()
     }
 
     /// Takes a pass that is at home. It comes home again when it is dropped.

@@ -153,7 +153,7 @@ impl Pass {
     ///
     /// # Errors
     ///
-    /// [`Error::NotHeld`].
+    /// [`Error::NotHeld`], and in a [`Growing`](crate::Growing) heap [`Error::BadKey`] of a chunk that is not open.
     ///
     /// ```
     /// # use gearlongan::{Error, Heap, Layout, Shape};
@@ -176,7 +176,7 @@ impl Pass {
     ///
     /// # Errors
     ///
-    /// [`Error::NotHeld`].
+    /// [`Error::NotHeld`], and in a [`Growing`](crate::Growing) heap [`Error::BadKey`] of a chunk that is not open.
     ///
     /// ```
     /// # use gearlongan::{Error, Heap, Layout, Shape, Value};

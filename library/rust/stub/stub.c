@@ -268,6 +268,26 @@ uint64_t shardheap_raw_passes(shardheap *heap) {
     abort();
 }
 
+uint64_t shardheap_raw_capacity(shardheap *heap, uint32_t words) {
+    (void)heap, (void)words;
+    abort();
+}
+
+uint64_t shardheap_raw_bytes(shardheap *heap) {
+    (void)heap;
+    abort();
+}
+
+uint32_t shardheap_raw_layout_of(shardheap *heap, uint32_t *layout) {
+    (void)heap, (void)layout;
+    abort();
+}
+
+uint32_t shardheap_raw_leave_idle(shardheap_pass *pass) {
+    (void)pass;
+    abort();
+}
+
 uint32_t shardheap_raw_gather(shardheap *heap) {
     (void)heap;
     abort();

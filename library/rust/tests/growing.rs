@@ -158,3 +158,60 @@ fn threads_open_the_same_chunks() {
         }
     });
 }
+
+#[test]
+fn a_key_whose_chunk_is_not_open_is_no_key() {
+    let heap = opened(1, 3);
+    let caller = taken(&heap);
+    let key = stored(&caller, 0, 1)[0];
+    let unopened = Key::from(u64::from(key) | 1 << 56);
+    assert_eq!(caller.read(unopened), Err(Error::BadKey));
+    assert_eq!(caller.read(key), Err(Error::NotHeld));
+}
+
+// One chunk with room for 1,000 values in the shard of each owner: how many of 64 callers store a value each.
+fn stored_by_64(owners: u32, values: u64, leaves: bool) -> usize {
+    let heap = Heap::growing(Room { owners, values, words: 1, passes: 64 }, 1).expect("it opens");
+    let callers: Vec<Caller> = (0..64).map(|_| taken(&heap)).collect();
+    let stores = |caller: &Caller| {
+        let stored = caller.insert(&[7]).is_ok();
+        if leaves {
+            caller.leave_idle().expect("no other is in a free");
+        }
+        stored
+    };
+    callers.iter().filter(|caller| stores(caller)).count()
+}
+
+#[test]
+fn each_thread_that_inserts_keeps_a_shard_unless_it_leaves_it() {
+    assert_eq!(stored_by_64(64, 16, false), 64);
+    assert_eq!(stored_by_64(1, 1000, true), 64);
+    assert_eq!(stored_by_64(1, 1000, false), 1);
+}
+
+// Each chunk is one shard of 8 pages of 195 words, and two words of the shard.
+#[test]
+fn the_size_is_that_of_the_open_chunks() {
+    let heap = opened(1, 3);
+    let caller = taken(&heap);
+    for chunks in 1..4 {
+        stored(&caller, 0, CHUNK);
+        assert_eq!((heap.chunks(), heap.capacity(1)), (chunks, chunks * CHUNK));
+        assert_eq!((heap.capacity(16), heap.capacity(17)), (chunks * 24, 0));
+        assert_eq!(heap.bytes(), chunks * (8 * 195 + 2) * 8);
+    }
+}
+
+#[test]
+fn a_caller_is_lent_and_comes_home() {
+    let heap = opened(1, 3);
+    let key = heap.with_caller(|caller| caller.insert(&[7])).expect("it is at home").expect("there is room");
+    let outer = heap.with_caller(|caller| {
+        assert_eq!(heap.with_caller(|_| ()), Err(Error::NoPass));
+        caller.take(key)
+    });
+    assert_eq!(outer.expect("it is at home").expect("it is there"), [7]);
+    let panics = thread::scope(|scope| scope.spawn(|| heap.with_caller(|_| panic!("it is caught"))).join().is_err());
+    assert!(panics && heap.take().is_ok());
+}

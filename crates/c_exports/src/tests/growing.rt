@@ -10,7 +10,7 @@ use super::{agree, ended, given, opened, stored, taken};
 use crate::accounts::{SumsReport, shardheap_raw_gather, shardheap_raw_totals};
 use crate::calls::{
     shardheap_raw_adopt, shardheap_raw_collect, shardheap_raw_get, shardheap_raw_leave,
-    shardheap_raw_release, shardheap_raw_remove,
+    shardheap_raw_leave_idle, shardheap_raw_release, shardheap_raw_remove,
 };
 use crate::counting::{shardheap_raw_pages_left, shardheap_raw_slots_out};
 use crate::keys::{shardheap_raw_next_key, shardheap_raw_next_own_key};
@@ -283,6 +283,52 @@ fn a_pass_leaves_its_shards(rt: HostRuntime) {
     given(&rt, alloc, other);
     stored(&rt, alloc, &mut pass, &[9]);
     chunks_are(&rt, alloc, &mut heap, 1);
+    given(&rt, alloc, pass);
+}
+
+// Each pass leaves its shard after it inserted, so that one shard serves both.
+#[test]
+fn a_pass_leaves_what_is_idle(rt: HostRuntime) {
+    let alloc = rt.alloc();
+    let mut heap = grown(&rt, alloc, 2);
+    let mut pass = taken(&rt, alloc, &mut heap);
+    let mut other = taken(&rt, alloc, &mut heap);
+    agree(&rt, shardheap_raw_leave_idle(alloc, &mut pass), OK);
+    stored(&rt, alloc, &mut pass, &[7]);
+    agree(&rt, shardheap_raw_leave_idle(alloc, &mut pass), OK);
+    stored(&rt, alloc, &mut other, &[8]);
+    agree(&rt, shardheap_raw_leave_idle(alloc, &mut other), OK);
+    stored(&rt, alloc, &mut pass, &[9]);
+    chunks_are(&rt, alloc, &mut heap, 1);
+    given(&rt, alloc, pass);
+    given(&rt, alloc, other);
+}
+
+// The hold is in chunk 1. The pass that is taken next has it, and its first call there reads or releases.
+#[test]
+fn a_pass_has_its_holds_when_it_is_taken_again(rt: HostRuntime) {
+    let alloc = rt.alloc();
+    let mut heap = grown(&rt, alloc, 1);
+    let mut pass = taken(&rt, alloc, &mut heap);
+    fills(&rt, alloc, &mut pass);
+    let key = stored(&rt, alloc, &mut pass, &[7]);
+    agree(&rt, shardheap_raw_get(alloc, &mut pass, key), OK);
+    agree(&rt, shardheap_raw_remove(alloc, &mut pass, key), OK);
+    given(&rt, alloc, pass);
+    let mut pass = taken(&rt, alloc, &mut heap);
+    let (mut words, mut length) = ([5; 2], 99);
+    let code = shardheap_raw_read(alloc, &mut pass, key, &mut words[..2], &mut length);
+    agree(&rt, (code, words, length), (OK, [7, 5], 1));
+    given(&rt, alloc, pass);
+    let mut pass = taken(&rt, alloc, &mut heap);
+    agree(&rt, shardheap_raw_release(alloc, &mut pass, key), OK);
+    agree(&rt, shardheap_raw_release(alloc, &mut pass, key), NOT_HELD);
+    // No chunk of the heap has this number.
+    agree(
+        &rt,
+        shardheap_raw_release(alloc, &mut pass, 3 << 56 | FIRST_KEY),
+        BAD_KEY,
+    );
     given(&rt, alloc, pass);
 }
 

@@ -2,7 +2,8 @@
 use super::codes::{EMPTY, FULL, NO_SHARD, OK, TAKEN, TOO_LONG};
 use super::{agree, ended, given, left, opened, owner, stored, taken};
 use crate::calls::{
-    shardheap_raw_adopt, shardheap_raw_collect, shardheap_raw_leave, shardheap_raw_remove,
+    shardheap_raw_adopt, shardheap_raw_collect, shardheap_raw_leave, shardheap_raw_leave_idle,
+    shardheap_raw_remove,
 };
 use crate::counting::{shardheap_raw_pages_left, shardheap_raw_slots_out};
 use crate::values::{shardheap_raw_insert, shardheap_raw_prepare};
@@ -45,6 +46,7 @@ fn slots_out(alloc: Global, pass: &mut PassHandle) -> (u32, u64) {
 // Each call of an owner is refused with this code, and writes nothing.
 fn owns_nothing(rt: &impl Abort, alloc: Global, pass: &mut PassHandle, wanted: u32) {
     agree(rt, shardheap_raw_leave(alloc, pass), wanted);
+    agree(rt, shardheap_raw_leave_idle(alloc, pass), wanted);
     agree(rt, shardheap_raw_collect(alloc, pass), wanted);
     agree(rt, insert(alloc, pass, 3), (wanted, 99));
     agree(rt, prepare(alloc, pass, 3), (wanted, 99));

@@ -61,6 +61,23 @@ impl HeapHandle {
         unsafe { shardheap_raw_chunks(&mut *self.lock()) }
     }
 
+    pub(crate) fn capacity(&self, words: u32) -> u64 {
+        // SAFETY: as in `passes`.
+        unsafe { shardheap_raw_capacity(&mut *self.lock(), words) }
+    }
+
+    pub(crate) fn bytes(&self) -> u64 {
+        // SAFETY: as in `passes`.
+        unsafe { shardheap_raw_bytes(&mut *self.lock()) }
+    }
+
+    pub(crate) fn layout(&self) -> Layout {
+        let mut number = 0;
+        // SAFETY: as in `passes`. The handle is full, so the number is written.
+        unsafe { shardheap_raw_layout_of(&mut *self.lock(), &mut number) };
+        Layout::numbered(number)
+    }
+
     pub(crate) fn take(&self) -> Result<PassHandle, Error> {
         // SAFETY: the lock gives the heap's handle to this call alone, and the pass's is an empty one of this call.
         let raw = written(|pass| unsafe { shardheap_raw_take(&mut *self.lock(), pass) })?;

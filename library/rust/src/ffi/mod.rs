@@ -91,6 +91,9 @@ extern "C" {
     ) -> u32;
     fn shardheap_raw_chunks(heap: *mut Raw) -> u64;
     fn shardheap_raw_passes(heap: *mut Raw) -> u64;
+    fn shardheap_raw_capacity(heap: *mut Raw, words: u32) -> u64;
+    fn shardheap_raw_bytes(heap: *mut Raw) -> u64;
+    fn shardheap_raw_layout_of(heap: *mut Raw, layout: *mut u32) -> u32;
     fn shardheap_raw_take(heap: *mut Raw, pass: *mut Raw) -> u32;
     fn shardheap_raw_close(heap: *mut Raw);
     fn shardheap_raw_gather(heap: *mut Raw) -> u32;
@@ -101,6 +104,7 @@ extern "C" {
     fn shardheap_raw_pass_lose(pass: *mut Raw) -> u32;
     fn shardheap_raw_adopt(pass: *mut Raw, shard: u64) -> u32;
     fn shardheap_raw_leave(pass: *mut Raw) -> u32;
+    fn shardheap_raw_leave_idle(pass: *mut Raw) -> u32;
     fn shardheap_raw_prepare(pass: *mut Raw, words: u32, page: *mut u32) -> u32;
     fn shardheap_raw_collect(pass: *mut Raw) -> u32;
     fn shardheap_raw_insert(pass: *mut Raw, words: *const u64, count: usize, key: *mut u64) -> u32;

@@ -203,6 +203,11 @@ impl PassHandle {
         told(unsafe { shardheap_raw_leave(self.at()) })
     }
 
+    pub(crate) fn leave_idle(&self) -> Result<(), Error> {
+        // SAFETY: as in `get`.
+        told(unsafe { shardheap_raw_leave_idle(self.at()) })
+    }
+
     fn give(&mut self) -> Result<(), Error> {
         // SAFETY: `&mut` gives the handle to this call alone. It is empty if this succeeds, and otherwise as it was.
         told(unsafe { shardheap_raw_give(self.raw.get_mut()) })

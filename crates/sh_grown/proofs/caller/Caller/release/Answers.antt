@@ -1,23 +1,26 @@
-use Rattle.std.proofs.Common.{inl, refl, rules}
+use Rattle.std.proofs.Common.{inl, refl}
 use Rattle.sh_pass.specs.Passes.{ReleaseDoes}
 use Rattle.sh_chunk.specs.Chunks.{chunked, chunk_of, key_within}
 use Rattle.sh_member.specs.Sides.{SideDoes}
-use Rattle.sh_grown.proofs.Places.{met_does}
+use Rattle.sh_grown.proofs.Places.{chunk_does}
 use Rattle.sh_grown.proofs.OfChunks.{does_of}
 use Rattle.sh_grown.proofs.caller.Caller.release.Goals as goal
 
 pub returns-clause-does : goal.returns-clause-does
 returns-clause-does c =
-    inl (met_does (SideDoes chunked (ReleaseDoes chunked (key_within c.args.hold.key)))
-    c.chunk_of-chunk.result (chunk_of c.args.hold.key) c.args.self.now.met.items _ _
-    c.release_at.new.place _ c.release_at.result c.chunk_of-chunk.ensures.is
-    (search rules) c.index_mut.ensures.value c.release_at.ensures refl)
+    inl (chunk_does (SideDoes chunked
+    (ReleaseDoes chunked (key_within c.args.hold.key)))
+    c.args.self.now.growing c.args.self.now.number c.chunk_of-chunk.result (chunk_of c.args.hold.key)
+    c.args.self.now.met.items c.meet.new.self.met.items _ _ c.release_at.new.place _ c.release_at.result
+    c.chunk_of-chunk.ensures.is c.in_ok-meet.ensures.there.0 c.in_ok-meet.ensures.met
+    c.index_mut.ensures.value c.release_at.ensures refl)
 
 pub invariant_of-self : goal.invariant_of-self
 invariant_of-self c =
-    let caller = c.args.self.now in
+    let met = c.meet.new.self in
     record {
-      of_chunks = does_of (ReleaseDoes chunked (key_within c.args.hold.key)) caller.growing caller.met.items
-          c.chunk_of-chunk.result c.index_mut.result.now c.release_at.new.place c.release_at.result caller.of_chunks
-          c.index_mut.ensures.value c.release_at.ensures;
+      of_chunks = does_of
+          (ReleaseDoes chunked (key_within c.args.hold.key))
+          met.growing met.met.items c.chunk_of-chunk.result c.index_mut.result.now c.release_at.new.place
+          c.release_at.result met.of_chunks c.index_mut.ensures.value c.release_at.ensures;
     }

@@ -1,0 +1,90 @@
+//! Callers that leave their shards between their inserts, and what is left as a caller is given back.
+//!
+//! No clause says which shard an insert finds, nor that a pass which was given back is in its pool.
+use sh_grown::{Caller, GrowingShare};
+use sh_value::{Refusal, Value};
+use std::alloc::Global;
+use std::fmt::Debug;
+use std::process::Abort;
+
+// Asserts that what was found is what is wanted. Each assertion that is written out is proved anew.
+fn agree<T: PartialEq + Debug + Drop>(rt: &impl Abort, found: T, wanted: T) {
+    assert_eq!(rt; found, wanted);
+}
+
+// Claims this many callers, each of which stores a number. Returns them with how many found room.
+fn inserts_one_each(
+    rt: &impl Abort,
+    alloc: Global,
+    growing: &GrowingShare,
+    count: u64,
+    leave: bool,
+) -> (Vec<Caller>, u64) {
+    let mut callers = Vec::new(alloc);
+    let mut stored = 0;
+    for n in 0..count {
+        let mut caller = growing.claim(alloc).expect(rt, "a caller");
+        if caller.insert(alloc, &Value::from(n)).is_ok() {
+            stored += 1;
+        }
+        if leave {
+            agree(rt, caller.leave_idle(), Ok(()));
+        }
+        callers.push(caller).expect(rt, "room for a caller");
+    }
+    (callers, stored)
+}
+
+// 64 callers insert a value each into room for 1,000. One chunk of one shard serves them all if each leaves it. If none
+// does, only the first has a shard; and each has one if the heap was opened for 64 owners.
+#[test]
+fn sixty_four_callers_insert_a_value_each(rt: HostRuntime) {
+    let shared = GrowingShare::open_for(rt.alloc(), 1, 1000, 1, 64, 1).expect(&rt, "a heap");
+    let (_left, stored) = inserts_one_each(&rt, rt.alloc(), &shared, 64, true);
+    agree(&rt, stored, 64);
+    let owned = GrowingShare::open_for(rt.alloc(), 1, 1000, 1, 64, 1).expect(&rt, "a heap");
+    let (_kept, stored) = inserts_one_each(&rt, rt.alloc(), &owned, 64, false);
+    agree(&rt, stored, 1);
+    let wide = GrowingShare::open_for(rt.alloc(), 64, 1, 1, 64, 1).expect(&rt, "a heap");
+    let (_each, stored) = inserts_one_each(&rt, rt.alloc(), &wide, 64, false);
+    agree(&rt, stored, 64);
+}
+
+// The caller leaves its shards in two chunks, also if it owns none, and inserts again.
+#[test]
+fn a_caller_leaves_its_idle_shards_in_each_chunk(rt: HostRuntime) {
+    let growing = GrowingShare::open_for(rt.alloc(), 1, 1, 1, 2, 2).expect(&rt, "a heap");
+    let mut caller = growing.claim(rt.alloc()).expect(&rt, "a caller");
+    let mut other = growing.claim(rt.alloc()).expect(&rt, "another caller");
+    agree(&rt, caller.leave_idle(), Ok(()));
+    let one = Value::from(1);
+    for _ in 0..385 {
+        agree(&rt, caller.insert(rt.alloc(), &one).is_ok(), true);
+    }
+    agree(&rt, other.insert(rt.alloc(), &one), Err(Refusal::Full));
+    agree(&rt, caller.leave_idle(), Ok(()));
+    agree(&rt, caller.leave_idle(), Ok(()));
+    let key = other.insert(rt.alloc(), &one).expect(&rt, "a key");
+    agree(&rt, key >> 56, 1);
+    agree(&rt, other.leave_idle(), Ok(()));
+    agree(&rt, caller.insert(rt.alloc(), &one).is_ok(), true);
+}
+
+// A caller that is given back with its shards comes home, and its shards can be adopted.
+#[test]
+fn a_caller_that_is_given_back_leaves_its_shards(rt: HostRuntime) {
+    let growing = GrowingShare::open_for(rt.alloc(), 1, 1, 1, 1, 2).expect(&rt, "a heap");
+    let mut caller = growing.claim(rt.alloc()).expect(&rt, "a caller");
+    let one = Value::from(1);
+    let mut last = 0;
+    for _ in 0..385 {
+        last = caller.insert(rt.alloc(), &one).expect(&rt, "a key");
+    }
+    caller.give_back();
+    let mut again = growing.claim(rt.alloc()).expect(&rt, "the caller again");
+    agree(&rt, again.remove(last), Ok(()));
+    agree(&rt, again.insert(rt.alloc(), &one).is_ok(), true);
+    agree(&rt, growing.heap().chunks(), 2);
+    agree(&rt, again.end().is_ok(), true);
+    agree(&rt, growing.heap().gather_chunks(rt.alloc()), Ok(2));
+}
