@@ -75,8 +75,8 @@
 //! None is on by default.
 //!
 //! - `record`: a heap can record what its passes return, for a checker of histories: see the module `history`.
-//! - `serde`: a [`table::Key`] is serialized as a number, and in a format that people read as its text: a number of JSON
-//!   or TOML may lose the high bits of a key. 0 is refused.
+//! - `serde`: a [`table::Key`] is serialized as a number, and in a format that people read as its text. (A number of
+//!   JSON or TOML may lose the high bits of a key.) 0 is refused.
 //! - `bytemuck`: `Plain<P>` is a record of any type `P` that is `bytemuck::Pod`.
 //!
 //! # What is proved
