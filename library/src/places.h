@@ -45,6 +45,8 @@ struct shardheap_places {
     _Atomic uint32_t kept;   /* by the table, and by each thread that has a place */
     _Atomic bool closed;
     pthread_mutex_t locks[SHARED];
+    pthread_mutex_t asks; /* for `heap`. No call that takes memory has it, so that an allocator may wait for it */
+    shardheap heap;       /* what tells of the heap as a whole */
     place all[PLACES];
 };
 
@@ -269,14 +271,16 @@ static shardheap_places *new_places(void) {
     made->number = 1 + atomic_fetch_add_explicit(&opened, 1, memory_order_relaxed);
     made->fresh = ALL_OWN;
     made->kept = 1;
+    static const shardheap_pass no_pass = SHARDHEAP_INIT;
+    static const shardheap no_heap = SHARDHEAP_INIT;
+    made->heap = no_heap;
     for (int n = 0; n < PLACES; n++) {
-        static const shardheap_pass no_pass = SHARDHEAP_INIT;
-        static const shardheap no_heap = SHARDHEAP_INIT;
         made->all[n].pass = no_pass;
         made->all[n].heap = no_heap;
         made->all[n].of = made;
     }
     for (int n = 0; n < SHARED; n++) pthread_mutex_init(&made->locks[n], NULL);
+    pthread_mutex_init(&made->asks, NULL);
     return made;
 }
 

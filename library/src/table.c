@@ -135,6 +135,20 @@ uint64_t shardheap_table_raw_length(shardheap_places *of) {
     return sum > 0 ? (uint64_t)sum : 0;
 }
 
+uint64_t shardheap_table_raw_capacity(shardheap_places *of, uint32_t words) {
+    pthread_mutex_lock(&of->asks);
+    uint64_t count = shardheap_raw_capacity(&of->heap, words);
+    pthread_mutex_unlock(&of->asks);
+    return count;
+}
+
+uint64_t shardheap_table_raw_bytes(shardheap_places *of) {
+    pthread_mutex_lock(&of->asks);
+    uint64_t bytes = shardheap_raw_bytes(&of->heap);
+    pthread_mutex_unlock(&of->asks);
+    return bytes;
+}
+
 uint32_t shardheap_table_raw_enter(shardheap_places *of) {
     if (own(of)) return SHARDHEAP_OK;
     return mine.within == 0 ? enter(of) : (uint32_t)SHARDHEAP_NO_PLACE;
@@ -151,9 +165,8 @@ uint32_t shardheap_table_raw_rest(shardheap_places *of) {
 
 /* A handle of the heap for each place, and the passes of the shared ones. */
 static uint32_t fill_places(shardheap_places *of, uint32_t owners, uint64_t values, uint32_t words, uint32_t chunks) {
-    shardheap *first = &of->all[0].heap;
-    uint32_t code = shardheap_raw_open_growing(first, owners, values, words, PLACES, chunks);
-    for (int n = 1; n < PLACES && code == SHARDHEAP_OK; n++) code = shardheap_raw_share(first, &of->all[n].heap);
+    uint32_t code = shardheap_raw_open_growing(&of->heap, owners, values, words, PLACES, chunks);
+    for (int n = 0; n < PLACES && code == SHARDHEAP_OK; n++) code = shardheap_raw_share(&of->heap, &of->all[n].heap);
     for (int n = OWN; n < PLACES && code == SHARDHEAP_OK; n++)
         code = shardheap_raw_take(&of->all[n].heap, &of->all[n].pass);
     return code;
@@ -167,7 +180,9 @@ void shardheap_table_raw_close(shardheap_places *of) {
         if (of->all[n].pass.full) (void)shardheap_raw_pass_lose(&of->all[n].pass);
         if (of->all[n].heap.full) shardheap_raw_close(&of->all[n].heap);
     }
+    if (of->heap.full) shardheap_raw_close(&of->heap);
     for (int n = 0; n < SHARED; n++) pthread_mutex_destroy(&of->locks[n]);
+    pthread_mutex_destroy(&of->asks);
     atomic_store_explicit(&of->closed, true, memory_order_release);
     let_go(of);
 }

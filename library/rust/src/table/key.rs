@@ -56,9 +56,9 @@ use std::str::FromStr;
 /// orders.get(key);
 /// ```
 ///
-/// A key of another table of the same type is not refused, since a key has no bits for it. Two tables issue the same
-/// numbers. If both have records of one type, wrap it in a type of its own for each table: [`record!`] does so with
-/// `struct User(u32);`.
+/// A key of another table of the same type is not refused, nor one of a table that was dropped, since a key has no bits
+/// for it. Two tables issue the same numbers. If both have records of one type, wrap it in a type of its own for each
+/// table: [`record!`] does so with `struct User(u32);`.
 ///
 /// [`record!`]: crate::record
 #[repr(transparent)]

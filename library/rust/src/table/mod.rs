@@ -30,7 +30,8 @@
 //!
 //! A table has 60 places for threads of their own, and 4 that all other threads share, each behind a lock.
 //!
-//! - A thread takes a place at its first call, or beforehand by [`Table::enter`]. Its calls lock nothing then.
+//! - A thread takes a place at its first call, or beforehand by [`Table::enter`]. Its calls lock nothing then,
+//!   except [`Table::capacity`] and [`Table::bytes`]. These wait for no call that allocates.
 //! - As the thread ends its place rests, with its room and whatever is free there, and the next thread that asks has
 //!   it as it is. A thread that goes idle may call [`Table::rest`] for that.
 //! - A thread that finds no place uses a shared one, and looks for one of its own at each call. The destructors of a
@@ -237,7 +238,33 @@ impl<R: Record> Table<R> {
     }
 }
 
+impl<R: Record> Table<R> {
+    /// How many records the open chunks have slots for. The table opens another chunk earlier if some threads fill
+    /// their own room.
+    ///
+    /// ```
+    /// # use gearlongan::Table;
+    /// // Of each of two threads.
+    /// assert_eq!((Table::<u64>::new().capacity(), Table::<[u64; 16]>::new().capacity()), (2 * 384, 2 * 24));
+    /// ```
+    pub fn capacity(&self) -> usize {
+        self.members.places().capacity(R::WORDS as u32)
+    }
+}
+
 impl<R> Table<R> {
+    /// How many bytes of memory the words of the open chunks take: 32.5 for each record of one word that they have room
+    /// for. The lists of owners and the places of threads take more.
+    ///
+    /// ```
+    /// # use gearlongan::Table;
+    /// // Of each of two threads 8 pages of 195 words, and two words.
+    /// assert_eq!(Table::<u64>::new().bytes(), 2 * (8 * 195 + 2) * 8);
+    /// ```
+    pub fn bytes(&self) -> usize {
+        self.members.places().bytes()
+    }
+
     /// Lets the place of this thread rest, for another thread: as the end of the thread does. Its next call takes a
     /// place again.
     ///
@@ -265,7 +292,7 @@ impl<R> Table<R> {
     /// # Ok::<(), Error>(())
     /// ```
     pub fn len(&self) -> usize {
-        self.members.len()
+        self.members.places().len()
     }
 
     /// Whether the table has no record, as [`len`](Table::len) counts.
