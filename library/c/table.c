@@ -30,6 +30,7 @@ static void refuses(void) {
     IS(shardheap_table_enter(table), refused);
     IS(shardheap_table_rest(table), refused);
     TRUE(shardheap_table_length(table) == 0);
+    TRUE(shardheap_table_capacity(table, 1) == 0 && shardheap_table_bytes(table) == 0);
     shardheap_table_close(table);
     IS(shardheap_table_open(NULL), SHARDHEAP_NULL);
     IS(shardheap_table_open_for(NULL, 1, 1, 1, 1), SHARDHEAP_NULL);
@@ -45,6 +46,7 @@ static void refuses(void) {
     IS(shardheap_table_enter(NULL), SHARDHEAP_NULL);
     IS(shardheap_table_rest(NULL), SHARDHEAP_NULL);
     TRUE(shardheap_table_length(NULL) == 0);
+    TRUE(shardheap_table_capacity(NULL, 1) == 0 && shardheap_table_bytes(NULL) == 0);
     shardheap_table_close(NULL);
     memset(&it, 0, sizeof it);
     IS(shardheap_table_insert(table, words, 1, &key), SHARDHEAP_EMPTY);
@@ -75,6 +77,8 @@ static void serves_one(void) {
     IS(shardheap_table_open(&table), SHARDHEAP_OK);
     IS(shardheap_table_open(&table), SHARDHEAP_OCCUPIED);
     IS(shardheap_table_open_for(&table, 1, 1, 1, 1), SHARDHEAP_OCCUPIED);
+    TRUE(shardheap_table_capacity(&table, 1) == 768 && shardheap_table_capacity(&table, 16) == 48);
+    TRUE(shardheap_table_capacity(&table, 17) == 0 && shardheap_table_bytes(&table) == 24992);
     IS(shardheap_table_insert(&table, words, 17, &key), SHARDHEAP_TOO_LONG);
     IS(shardheap_table_insert(&table, words, 3, &key), SHARDHEAP_OK);
     IS(shardheap_table_insert(&table, NULL, 0, &other), SHARDHEAP_OK);
@@ -118,6 +122,7 @@ static void serves_one(void) {
 #endif
     shardheap_table_close(&table);
     IS(shardheap_table_contains(&table, key), SHARDHEAP_EMPTY);
+    TRUE(shardheap_table_capacity(&table, 1) == 0 && shardheap_table_bytes(&table) == 0);
 }
 
 /* One thread uses more tables than it remembers the last of, and another opens and closes some of them. */
@@ -176,7 +181,7 @@ static void takes_over(void) {
     /* the place of this thread has no shard, so that it inserts by the place that rests */
     IS(shardheap_table_insert(&table, words, 1, &other), SHARDHEAP_OK);
     IS(shardheap_table_insert(&table, words, 1, &key), SHARDHEAP_FULL);
-    TRUE(shardheap_table_length(&table) == WHOLE);
+    TRUE(shardheap_table_length(&table) == WHOLE && shardheap_table_capacity(&table, 1) == WHOLE);
     IS(shardheap_table_remove(&table, other), SHARDHEAP_OK);
     joined(inserts_one, &other); /* a new thread has that place for its own */
     TRUE(shardheap_table_length(&table) == WHOLE);

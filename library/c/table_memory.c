@@ -173,6 +173,7 @@ static void uses(void) {
     TRUE(length == 16 && room[1] == 2);
     IS(shardheap_table_insert(&table, words, 5, &key), SHARDHEAP_OK);
     IS(shardheap_table_contains(&table, key), SHARDHEAP_OK);
+    TRUE(shardheap_table_length(&table) <= shardheap_table_capacity(&table, 16) && shardheap_table_bytes(&table) > 0);
     if (opened % 2) IS(shardheap_table_remove(&table, key), SHARDHEAP_OK);
     else IS(shardheap_table_take(&table, key, room, 16, &length), SHARDHEAP_OK);
     served++;

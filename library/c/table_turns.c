@@ -1,5 +1,5 @@
 /* table_turns FIRST LAST: threads of a table take turns at marked points, one of them at a time, under the seeds from
-   FIRST to LAST. They take places, rest, end, and share. table_turns.py runs it, also over a table.c with a planted
+   FIRST to LAST. They take places, rest, end, and share. table_turns.py runs it, also over a places.h with a planted
    fault. It is linked with --wrap=shardheap_raw_insert and others, so that it sees which thread uses which pass. */
 #include <stdbool.h>
 #include <stdint.h>

@@ -2,20 +2,21 @@
 """Runs threads of a table that take turns under seeds: library/c/table_turns.py OUT SEEDS OBJECT..
 
 It compiles table_turns.c with library/src/table.c to the folder OUT, links the objects and archives, and runs it: nothing
-may be found under as many seeds. Then it plants each fault of FAULTS in a copy of table.c: it must be found, as what it
-is, under at least half of 20 seeds.
+may be found under as many seeds. Then it plants each fault of FAULTS in places.h beside a copy of table.c: it must be
+found, as what it is, under at least half of 20 seeds.
 """
 import pathlib
+import shutil
 import subprocess
 import sys
 
 TOP = pathlib.Path(__file__).resolve().parent.parent.parent
-SOURCE = TOP / "library/src/table.c"
+SOURCE = TOP / "library/src"
 FLAGS = ["-std=c11", "-D_DEFAULT_SOURCE", "-g", "-O1", "-I", TOP / "library/include"]
 WARNINGS = ["-Wall", "-Wextra", "-Wpedantic", "-Wconversion", "-Werror"]
 WRAPS = "-Wl," + ",".join(f"--wrap=shardheap_raw_{it}" for it in ("insert", "remove", "load"))
 
-# What is planted, what of table.c it replaces, by what, and what the program says.
+# What is planted, what of places.h it replaces, by what, and what the program says.
 FAULTS = [
     ("a place is given to two threads",
      "    } while (!atomic_compare_exchange_weak_explicit(of, &free_ones, free_ones & (free_ones - 1), "
@@ -30,7 +31,7 @@ FAULTS = [
 
 
 def compiled(source, program, objects):
-    with_source = f'-DTABLE="{source}"'
+    with_source = f'-DTABLE="{source / "table.c"}"'
     subprocess.run(["gcc", *FLAGS, *WARNINGS, with_source, TOP / "library/c/table_turns.c", *objects, WRAPS, "-lpthread",
                     "-o", program], check=True)
     return program
@@ -46,10 +47,12 @@ def main(out, seeds, *objects):
     print(plain.stdout + plain.stderr, end="")
     missed = plain.returncode != 0
     for number, (name, old, new, said) in enumerate(FAULTS):
-        text = SOURCE.read_text()
-        assert old in text, f"table.c has no longer what is replaced: {name}"
-        planted = out / f"table_{number}.c"
-        planted.write_text(text.replace(old, new))
+        text = (SOURCE / "places.h").read_text()
+        assert old in text, f"places.h has no longer what is replaced: {name}"
+        planted = out / f"planted_{number}"
+        planted.mkdir()
+        shutil.copy(SOURCE / "table.c", planted)
+        (planted / "places.h").write_text(text.replace(old, new))
         program = compiled(planted, out / f"table_turns_{number}", objects)
         found = sum(said in ran(program, seed, seed).stderr for seed in range(1, 21))
         print(f"table_turns: {name}: found under {found} of 20 seeds")

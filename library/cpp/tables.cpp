@@ -32,6 +32,7 @@ template <class R> void keeps(const R &record) {
     auto records = table<R>::open();
     const auto key = records.insert(record);
     CHECK(records.size() == 1 && records.contains(key) && records.get(key) == record);
+    CHECK(records.capacity() >= 48 && records.bytes() == 24992);
     CHECK(records.take(key) == record && !records.take(key) && !records.get(key) && !records.contains(key));
     CHECK(records.size() == 0);
 }
@@ -55,7 +56,7 @@ TEST(a_table_refuses) {
     table<double> numbers;
     double number = 5;
     key_of<double> half;
-    CHECK(!numbers && numbers.size() == 0);
+    CHECK(!numbers && numbers.size() == 0 && numbers.capacity() == 0 && numbers.bytes() == 0);
     IS(numbers.try_insert(0.5, half), empty);
     IS(numbers.try_get(half, number), empty);
     IS(numbers.try_enter(), empty);

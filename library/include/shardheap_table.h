@@ -25,7 +25,7 @@
    THREADS. All threads use one handle, at the same time. A table has 60 places for threads of their own, and 4 that all
    other threads share, each behind a lock.
      - A thread takes a place at its first call, or beforehand by shardheap_table_enter. From then on its calls take no
-       lock. That first call may allocate, and so may an insert.
+       lock, except capacity and bytes. That first call may allocate, and so may an insert.
      - As the thread ends, its place rests with its room. The next thread that asks has it as it is. A destructor of a
        pthread key does that; it waits for nothing. A thread that goes idle may call shardheap_table_rest for it.
      - A thread that finds no place uses a shared one, and looks for one of its own at each call. So does each thread in
@@ -50,10 +50,9 @@
    bytes. In checked mode a handle that was copied or moved is MOVED. Nothing is done then.
 
    MEMORY. Open, enter, insert, and the first call of a thread take memory. If it is refused for a place of the thread's
-   own, the call uses a shared place. So get, contains, remove, take, rest and length are never refused for want of it.
-   Each place that a thread had takes 368 bytes for each chunk that the table may have. All memory is freed by close,
-   except about 8 KiB, which stay until each thread that has a place there ends, or makes its first call on another
-   table. */
+   own, the call uses a shared place. So only open, enter and insert are ever refused for want of it. Each place that a
+   thread had takes 368 bytes for each chunk that the table may have. All memory is freed by close, except about 8 KiB,
+   which stay until each thread that has a place there ends, or makes its first call on another table. */
 #ifndef SHARDHEAP_TABLE_H
 #define SHARDHEAP_TABLE_H
 
@@ -86,6 +85,8 @@ uint32_t shardheap_table_raw_contains(shardheap_places *of, uint64_t at);
 uint32_t shardheap_table_raw_remove(shardheap_places *of, uint64_t at);
 uint32_t shardheap_table_raw_take(shardheap_places *of, uint64_t at, uint64_t *words, size_t room, uint64_t *length);
 uint64_t shardheap_table_raw_length(shardheap_places *of);
+uint64_t shardheap_table_raw_capacity(shardheap_places *of, uint32_t words);
+uint64_t shardheap_table_raw_bytes(shardheap_places *of);
 uint32_t shardheap_table_raw_enter(shardheap_places *of);
 uint32_t shardheap_table_raw_rest(shardheap_places *of);
 
@@ -222,6 +223,23 @@ SHARDHEAP_API uint32_t shardheap_table_take(shardheap_table *table, uint64_t key
        count = shardheap_table_length(&table); */
 SHARDHEAP_API uint64_t shardheap_table_length(const shardheap_table *table) {
     return shardheap_table_opened(table) == SHARDHEAP_OK ? shardheap_table_raw_length(table->at) : 0;
+}
+
+/* How many values of `words` words the open chunks have slots for, if all their pages are for values of that length.
+   The table opens another chunk earlier if some threads fill their own room. 0 for more than 16 words, of an empty
+   handle and of what is no handle. It and the next call take a lock, which nothing has while it allocates.
+
+       count = shardheap_table_capacity(&table, 1);    768, of a table that was opened just now */
+SHARDHEAP_API uint64_t shardheap_table_capacity(const shardheap_table *table, uint32_t words) {
+    return shardheap_table_opened(table) == SHARDHEAP_OK ? shardheap_table_raw_capacity(table->at, words) : 0;
+}
+
+/* How many bytes of memory the words of the open chunks take: 32.5 for each value of one word that they have room for.
+   The lists of owners and the places of threads take more. 0 of an empty handle and of what is no handle.
+
+       count = shardheap_table_bytes(&table);    24,992, of a table that was opened just now */
+SHARDHEAP_API uint64_t shardheap_table_bytes(const shardheap_table *table) {
+    return shardheap_table_opened(table) == SHARDHEAP_OK ? shardheap_table_raw_bytes(table->at) : 0;
 }
 
 /* Takes a place of its own for this thread beforehand, unless it has one. Calls are served without it. EMPTY, MEMORY;

@@ -59,7 +59,7 @@ def threads(room):
     """Runs the threads of tsan.py over a stand-in that orders nothing: whether no data race is found."""
     print("== threads over a heap that orders nothing", flush=True)
     made = archive(room / "threads", ["-DSPIN"])
-    return subprocess.run([sys.executable, HERE / "tsan.py", made]).returncode == 0
+    return subprocess.run([sys.executable, HERE / "tsan.py", made, "slab"]).returncode == 0
 
 
 def main():

@@ -1,10 +1,13 @@
 #!/usr/bin/env python3
-"""Runs a program of threads over the slab and the pool under ThreadSanitizer: library/rust/tsan.py ARCHIVE.
+"""Runs a program of threads over the slab, the pool and the table under ThreadSanitizer.
+
+usage: library/rust/tsan.py ARCHIVE [slab]
 
 ARCHIVE is a libc_exports.a with the sanitizer's instrumentation: `scripts/trial-archive OUT --tsan` makes
 OUT/tsan/libc_exports.a. The crate is copied into a temporary folder. There it gets the locks of tsan/sync.rs in place
 of those of the standard library, which is not instrumented, and the program tsan/main.rs. Threads pass keys on by
-relaxed atomics in it, so that a value which is not ordered by the slab itself is a data race.
+relaxed atomics in it, so that a value which is not ordered by the slab or the table itself is a data race. With the
+word slab there is no table.
 
 It needs a cargo of the day (`cargo +nightly`) and what library/rust/build.rs needs.
 """
@@ -39,18 +42,19 @@ def copied(folder):
 
 
 def main():
-    if len(sys.argv) != 2:
-        sys.exit(__doc__.splitlines()[0])
+    if len(sys.argv) < 2:
+        sys.exit(__doc__.splitlines()[2])
     archive = pathlib.Path(sys.argv[1]).resolve()
     if subprocess.run(["cargo", "+nightly", "--version"], capture_output=True).returncode:
-        print("skipped: there is no cargo +nightly, so the slab is not run under ThreadSanitizer")
+        print("skipped: there is no cargo +nightly, so slab and table are not run under ThreadSanitizer")
         return 0
     with tempfile.TemporaryDirectory(prefix="tsan-") as room:
         folder = pathlib.Path(room) / "crate"
         copied(folder)
         environment = {"CARGO_TARGET_DIR": f"{room}/target", **os.environ, "RUSTFLAGS": FLAGS,
                        "SHARDHEAP_LIB_DIR": str(archive.parent)}
-        words = ["cargo", "+nightly", "run", "--offline", "--quiet", "--target", TARGET, "--example", "tsan"]
+        words = ["cargo", "+nightly", "run", "--offline", "--quiet", "--target", TARGET, "--example", "tsan",
+                 "--", *sys.argv[2:]]
         return subprocess.run(words, cwd=folder, env=environment).returncode
 
 

@@ -10,7 +10,7 @@ from common import TOP, filled, version
 
 REGISTRY = "share/cargo/registry"
 BY_PATH = "share/shardheap/rust"
-PARTS = {"gearlongan": ["src", "examples", "Cargo.toml", "README.md", "build.rs"],
+PARTS = {"gearlongan": ["src", "examples", "stand-ins", "Cargo.toml", "README.md", "build.rs"],
          "sharded-slab": ["src", "Cargo.toml", "README.md"]}
 SOURCES = {"gearlongan": TOP / "library/rust", "sharded-slab": TOP / "library/sharded-slab"}
 

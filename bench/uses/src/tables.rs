@@ -12,7 +12,8 @@ const RUNS: usize = 3;
 /// What a cell has if in no turn all threads ran at once.
 pub const NOT_AT_ONCE: &str = "not at once";
 /// The sides of the table of latencies, and its numbers of threads.
-pub const TIMED: [Side; 6] = [Side::Heap, Side::Slab, Side::Sharded, Side::Dash, Side::ParkingHash, Side::Epoch];
+pub const TIMED: [Side; 7] =
+    [Side::Heap, Side::Table, Side::Slab, Side::Sharded, Side::Dash, Side::ParkingHash, Side::Epoch];
 pub const THREADS: [usize; 2] = [1, 4];
 const REMOVED: [usize; 4] = [100, 99, 90, 50];
 

@@ -143,6 +143,22 @@ public:
     ///     assert(numbers.size() == 1 && numbers.remove(half) && numbers.size() == 0);
     [[nodiscard]] std::uint64_t size() const noexcept { return shardheap_table_length(raw()); }
 
+    /// How many records the open chunks have slots for. The table opens another chunk earlier if some threads fill
+    /// their own room. 0 of an empty object.
+    ///
+    ///     auto numbers = gearlongan::table<double>::open();
+    ///     assert(numbers.capacity() == 768);
+    [[nodiscard]] std::uint64_t capacity() const noexcept {
+        return shardheap_table_capacity(raw(), detail::words_of<R>);
+    }
+
+    /// How many bytes of memory the words of the open chunks take. The lists of owners and the places of threads take
+    /// more. 0 of an empty object.
+    ///
+    ///     auto numbers = gearlongan::table<double>::open();
+    ///     assert(numbers.bytes() == 24992);
+    [[nodiscard]] std::uint64_t bytes() const noexcept { return shardheap_table_bytes(raw()); }
+
 #if defined(__cpp_exceptions)
     /// Opens a table.
     ///

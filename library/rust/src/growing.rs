@@ -95,6 +95,11 @@ impl Growing {
         self.handle.bytes()
     }
 
+    // The same heap behind a lock of its own.
+    pub(crate) fn share(&self) -> Result<Growing, Error> {
+        self.handle.share().map(|handle| Growing { handle })
+    }
+
     /// Takes a pass that is at home, as a caller. It comes home again when the caller is dropped.
     ///
     /// # Errors

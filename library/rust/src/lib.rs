@@ -70,10 +70,14 @@
 //! folder that `SHARDHEAP_LIB_DIR` names, from the repository of this crate, or from where pkg-config finds it. A crate
 //! that was packaged has one inside, which comes last. With `SHARDHEAP_SHARED` set the shared library is linked.
 //!
-//! # Recording
+//! # Features
 //!
-//! With the feature `record` a heap can record what its passes return, for a checker of histories: see the module
-//! `history`.
+//! None is on by default.
+//!
+//! - `record`: a heap can record what its passes return, for a checker of histories: see the module `history`.
+//! - `serde`: a [`table::Key`] is serialized as a number, and in a format that people read as its text. (A number of
+//!   JSON or TOML may lose the high bits of a key.) 0 is refused.
+//! - `bytemuck`: `Plain<P>` is a record of any type `P` that is `bytemuck::Pod`.
 //!
 //! # What is proved
 //!
@@ -136,6 +140,8 @@ pub mod history;
 mod key;
 mod keys;
 mod pass;
+#[cfg(feature = "bytemuck")]
+mod plain;
 mod receipt;
 mod record;
 mod shard;
@@ -166,6 +172,8 @@ pub use heap::{Heap, Layout, Room, Shape};
 pub use key::Key;
 pub use keys::{Keys, ShardKeys};
 pub use pass::Pass;
+#[cfg(feature = "bytemuck")]
+pub use plain::Plain;
 pub use receipt::Receipt;
 pub use record::Record;
 pub use shard::Shard;

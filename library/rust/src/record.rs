@@ -3,8 +3,9 @@ use crate::value::MAX_WORDS;
 use std::num::NonZero;
 
 /// A type that is stored as a fixed number of words. Records as they are: all integers, `bool`, `char`, `f32`, `f64`,
-/// `Option<NonZero<..>>` of each integer, and arrays and tuples of records. A number of 128 bits has two words, and any
-/// other one. [`record!`](crate::record!) makes one of the fields of a struct.
+/// `Option<NonZero<..>>` of each integer, a table's [`Key`](crate::table::Key) and an `Option` of one, and arrays and
+/// tuples of records. A number of 128 bits has two words, and any other one. [`record!`](crate::record!) makes a record
+/// of the fields of a struct.
 ///
 /// A value does not say which type it was stored as, only how many words it has. If two types of one heap have the same
 /// length, give each a word of its own that says which it is, and let `read` look at it.
@@ -231,6 +232,21 @@ tuple_record!(A 0, B 1, C 2, D 3, E 4, F 5);
 /// assert_eq!(value.record(), Ok(session));
 /// ```
 ///
+/// A struct of one unnamed field makes a type of its own of another record, so that two tables do not take each other's
+/// keys:
+///
+/// ```
+/// use gearlongan::Table;
+///
+/// gearlongan::record! { struct User(u32); }
+/// gearlongan::record! { struct Order(u32); }
+///
+/// let (users, orders) = (Table::new(), Table::new());
+/// let (user, order) = (users.insert(&User(7))?, orders.insert(&Order(7))?);
+/// assert_eq!(users.get(user).map(|it| it.0), orders.get(order).map(|it| it.0)); // `users.get(order)` does not compile
+/// # Ok::<(), gearlongan::Error>(())
+/// ```
+///
 /// A struct of more than 16 words is stored by no program that compiles:
 ///
 /// ```compile_fail,E0080
@@ -272,6 +288,26 @@ macro_rules! record {
                 $(let $field = <$kind as $crate::Record>::read(rest.get(..<$kind as $crate::Record>::WORDS)?)?;
                 let rest = rest.get(<$kind as $crate::Record>::WORDS..)?;)*
                 rest.is_empty().then_some($name { $($field),* })
+            }
+        }
+    };    (
+        $(#[$of_struct:meta])*
+        $shown:vis struct $name:ident($(#[$of_field:meta])* $field_shown:vis $kind:ty $(,)?);
+    ) => {
+        $(#[$of_struct])*
+        $shown struct $name($(#[$of_field])* $field_shown $kind);
+
+        impl $crate::Record for $name {
+            const WORDS: usize = <$kind as $crate::Record>::WORDS;
+
+            #[inline]
+            fn write(&self, words: &mut [u64]) {
+                <$kind as $crate::Record>::write(&self.0, words);
+            }
+
+            #[inline]
+            fn read(words: &[u64]) -> ::core::option::Option<Self> {
+                <$kind as $crate::Record>::read(words).map($name)
             }
         }
     };

@@ -17,8 +17,14 @@ pub(crate) struct Words {
 impl Words {
     /// No words.
     #[inline]
-    pub(crate) const fn none() -> Words {
-        Words { length: 0, words: [MaybeUninit::uninit(); MAX_WORDS] }
+    pub(crate) fn none() -> Words {
+        let mut none = MaybeUninit::<Words>::uninit();
+        // SAFETY: the length is in `none`. It is all that needs to be written. (Of an expression the compiler makes a
+        // constant, whose room it writes as zeros.)
+        unsafe {
+            (&raw mut (*none.as_mut_ptr()).length).write(0);
+            none.assume_init()
+        }
     }
 
     /// A copy of these words: none if they are more than 16.

@@ -258,6 +258,11 @@ uint32_t shardheap_raw_open_growing(shardheap *heap, uint32_t owners, uint64_t v
     abort();
 }
 
+uint32_t shardheap_raw_share(shardheap *heap, shardheap *other) {
+    (void)heap, (void)other;
+    abort();
+}
+
 uint64_t shardheap_raw_chunks(shardheap *heap) {
     (void)heap;
     abort();

@@ -69,6 +69,7 @@ fn slabs_are_small_and_leave_nothing_behind() {
     let left = allocated().saturating_sub(begin);
     assert!(left < 2 * MIB, "{left} bytes are left");
     a_table_is_small_and_leaves_little_behind();
+    many_tables_leave_no_more_than_a_few();
 }
 
 // A part of the test above, since it counts all of the process.
@@ -82,4 +83,19 @@ fn a_table_is_small_and_leaves_little_behind() {
     // The block of the table itself stays as long as a thread remembers it.
     let left = allocated().saturating_sub(begin);
     assert!(left < 16 << 10, "{left} bytes are left");
+}
+
+// Another part. Each table is used by this thread, which goes on, and some by a thread that ends.
+fn many_tables_leave_no_more_than_a_few() {
+    let begin = allocated();
+    for n in 0..10_000u64 {
+        let table = Table::new();
+        let key = table.insert(&n).expect("there is room");
+        if n % 20 == 0 {
+            thread::scope(|scope| _ = scope.spawn(|| assert!(table.contains(key))));
+        }
+        assert_eq!(table.take(key), Some(n));
+    }
+    let left = allocated().saturating_sub(begin);
+    assert!(left < 256 << 10, "{left} bytes are left");
 }

@@ -47,6 +47,21 @@ fn a_table_grows_and_finds_each_record() {
     assert!(table.is_empty());
 }
 
+/// A page has 195 words: 48 records of a word, or 3 of sixteen. A shard of 8 pages has two words more.
+#[test]
+fn a_table_says_what_it_has_room_for() {
+    let (table, keys) = filled(384);
+    assert_eq!((table.capacity(), table.bytes(), keys.len()), (2 * 8 * 48, 2 * (8 * 195 + 2) * 8, 384));
+    assert_eq!(Table::<[u64; 16]>::new().capacity(), 2 * 8 * 3);
+    let whole = Table::builder().threads(1).chunks(1).open().expect("it opens");
+    let count = std::iter::from_fn(|| whole.insert(&7u64).ok()).count();
+    assert_eq!((whole.capacity(), whole.len()), (count, count));
+    for n in 0..1000 {
+        table.insert(&n).expect("there is room");
+    }
+    assert!(table.capacity() >= table.len() && table.bytes() > 2 * (8 * 195 + 2) * 8);
+}
+
 #[test]
 fn no_key_is_issued_again() {
     let table = Table::new();

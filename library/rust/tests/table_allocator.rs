@@ -45,6 +45,7 @@ fn use_table() {
         Ok(key) => {
             // A place that was free may be taken meanwhile, and then the call finds nothing.
             assert!(matches!(table.get(key), None | Some(7)));
+            assert!(table.capacity() > 0 && table.bytes() > 0);
             while !table.remove(key) {
                 thread::yield_now();
             }

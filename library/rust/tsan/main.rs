@@ -1,10 +1,13 @@
-//! A program of threads over a slab and a pool, for ThreadSanitizer. Threads pass keys on by relaxed atomics, which
-//! order nothing: so what orders the values is the slab alone. For `tsan.py`.
+//! A program of threads over a slab, a pool and a table, for ThreadSanitizer. Threads pass keys on by relaxed atomics,
+//! which order nothing: so what orders the values is the slab or the table alone. For `tsan.py`.
 use gearlongan::slab::{Pool, Slab};
+use gearlongan::table::Key;
+use gearlongan::Table;
 use std::ffi::c_void;
 use std::ptr;
 use std::sync::atomic::AtomicUsize;
 use std::sync::atomic::Ordering::Relaxed;
+use std::thread::yield_now;
 
 extern "C" {
     fn pthread_create(
@@ -122,11 +125,80 @@ fn ends(threads: usize) {
     }
 }
 
+type Records = Table<[usize; 3]>;
+
+fn named(key: usize) -> Key<[usize; 3]> {
+    Key::from_bits(key as u64).expect("no key is 0")
+}
+
+/// A thread's rounds with a table: it inserts, gets what others inserted, and removes or takes it.
+fn use_table(table: &Records, board: &Board, number: usize, rounds: usize) {
+    for round in 0..rounds {
+        let key = table.insert(&[round; 3]).expect("there is room").to_bits() as usize;
+        let old = board.swap(round + number, key);
+        let found = board.look(round).and_then(|key| table.get(named(key)));
+        assert!(found.is_none_or(|words| words == [words[0]; 3]));
+        match old {
+            Some(old) if round % 3 == 0 => assert!(table.take(named(old)).is_some()),
+            Some(old) => assert!(table.remove(named(old))),
+            None => {}
+        }
+        if round % 100 == number {
+            table.rest();
+        }
+    }
+}
+
+/// What is left on the board is what the table has.
+fn end_table(table: &Records, board: &Board) {
+    let left = (0..PLACES).flat_map(|place| board.swap(place, 0)).filter(|key| table.remove(named(*key))).count();
+    assert!(left > 0 && table.is_empty());
+}
+
+/// Threads that each have a place of their own. They end, and the next ones have their places.
+fn table(threads: usize) {
+    let (table, board) = (Table::new(), Board::new());
+    for _ in 0..4 {
+        in_threads(threads, &|number| use_table(&table, &board, number, ROUNDS / 4));
+    }
+    end_table(&table, &board);
+}
+
+/// More threads at once than there are places, so that some share one, and take another's as it ends.
+fn crowd(threads: usize) {
+    let (table, board, begun) = (Table::new(), Board::new(), AtomicUsize::new(0));
+    in_threads(threads, &|number| {
+        use_table(&table, &board, number, 1);
+        begun.fetch_add(1, Relaxed);
+        while begun.load(Relaxed) < threads {
+            yield_now();
+        }
+        use_table(&table, &board, number, 40);
+    });
+    end_table(&table, &board);
+}
+
+/// Tables that are dropped while threads have places there.
+fn dropped() {
+    in_threads(8, &|number| {
+        for round in 0..40 {
+            let table = Records::new();
+            use_table(&table, &Board::new(), number, round);
+        }
+    });
+}
+
 fn main() {
     for threads in [2, 4, 8] {
         slab(threads);
         pool(threads);
         ends(threads);
+    }
+    // (Over the stand-in of `stub.py` there is no table.)
+    if std::env::args().nth(1).as_deref() != Some("slab") {
+        [2, 4, 8].into_iter().for_each(table);
+        crowd(80);
+        dropped();
     }
     println!("tsan: all threads ended well");
 }

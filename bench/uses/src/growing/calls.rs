@@ -1,5 +1,5 @@
 //! What calls take, of each side by itself.
-use super::maps::{of_chunks, of_one_chunk, plain, Map};
+use super::maps::{of_chunks, of_one_chunk, plain, table, Map};
 use sharded_slab::Slab;
 use std::hint::black_box;
 use std::time::{Duration, Instant};
@@ -50,10 +50,11 @@ pub enum Side {
     Plain,
     OneChunk,
     FortyChunks,
+    Table,
     Sharded,
 }
 
-pub const SIDES: [Side; 4] = [Side::Plain, Side::OneChunk, Side::FortyChunks, Side::Sharded];
+pub const SIDES: [Side; 5] = [Side::Plain, Side::OneChunk, Side::FortyChunks, Side::Table, Side::Sharded];
 const CHUNKS: u32 = 40;
 
 impl Side {
@@ -62,6 +63,7 @@ impl Side {
             Side::Plain => "plain heap",
             Side::OneChunk => "1 chunk",
             Side::FortyChunks => "40 chunks",
+            Side::Table => "`Table`",
             Side::Sharded => "`sharded_slab`",
         }
     }
@@ -127,6 +129,7 @@ pub fn nanoseconds(side: Side) -> [f64; 4] {
             let (mut map, keys) = of_chunks(CHUNKS, VALUES as u64 / u64::from(CHUNKS));
             times(&mut map, &keys, OPERATIONS)
         }
+        Side::Table => filled(table(room), OPERATIONS),
         Side::Sharded => filled(Slab::new(), OPERATIONS),
     }
 }
@@ -139,6 +142,7 @@ mod tests {
     fn each_call_takes_time() {
         let room = (VALUES + BATCH) as u64;
         assert!(filled(of_one_chunk(room), 20_000).iter().all(|time| *time > 0.0));
+        assert!(filled(table(room), 20_000).iter().all(|time| *time > 0.0));
         assert!(filled(Slab::new(), 20_000).iter().all(|time| *time > 0.0));
     }
 

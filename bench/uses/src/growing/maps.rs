@@ -1,7 +1,7 @@
-//! What is compared: a plain heap, heaps that grow, and `sharded_slab`. One caller inserts and removes. Of a heap
-//! another one gets and reads, which owns no shard.
+//! What is compared: a plain heap, heaps that grow, a table over one, and `sharded_slab`. One caller inserts and removes.
+//! Of a heap another one gets and reads, which owns no shard.
 use super::place::Place;
-use gearlongan::{Caller, Error, Growing, Heap, Key, Layout, Pass, Room, Shard, Value};
+use gearlongan::{table, Caller, Error, Growing, Heap, Key, Layout, Pass, Room, Shard, Table, Value};
 use sharded_slab::Slab;
 
 /// As many as a heap may have.
@@ -103,6 +103,31 @@ impl<O: Inserts, U: HasPass> Map for InHeap<O, U> {
     }
 }
 
+// A key of a table, which is there.
+fn named(key: u64) -> table::Key<u64> {
+    table::Key::from_bits(key).expect("a key is not 0")
+}
+
+// (A table has no holds: to get is to ask whether the key is there.)
+impl Map for Table<u64> {
+    fn get(&mut self, key: u64) -> u64 {
+        assert!(self.contains(named(key)));
+        key
+    }
+
+    fn read(&mut self, key: u64) -> u64 {
+        Table::get(self, named(key)).expect("the key is there")
+    }
+
+    fn insert(&mut self, value: u64) -> u64 {
+        Table::insert(self, &value).expect("there is room").to_bits()
+    }
+
+    fn remove(&mut self, key: u64) {
+        assert!(Table::remove(self, named(key)));
+    }
+}
+
 impl Map for Slab<u64> {
     fn get(&mut self, key: u64) -> u64 {
         Slab::get(self, key as usize).expect("the key is there").key() as u64
@@ -147,6 +172,11 @@ pub fn caller(heap: &Growing) -> Caller {
 pub fn of_one_chunk(values: u64) -> InHeap<Caller, Caller> {
     let heap = growing(values, MOST_CHUNKS);
     InHeap::of(caller(&heap), caller(&heap))
+}
+
+/// A table whose first chunk has room for this number of values.
+pub fn table(values: u64) -> Table<u64> {
+    Table::builder().threads(1).room(values).open().expect("there is memory")
 }
 
 /// Two callers of a heap with this many chunks, and the keys of values of one word: each chunk has as many of them. All

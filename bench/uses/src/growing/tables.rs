@@ -63,7 +63,7 @@ fn table(names: &[&str], lines: Vec<String>) -> String {
     [vec![head(&names)], lines].concat().join("\n")
 }
 
-const OF_CALLS: [&str; 9] = [
+const OF_CALLS: [&str; 11] = [
     "Workload",
     "Threads",
     "plain heap, ns",
@@ -71,11 +71,13 @@ const OF_CALLS: [&str; 9] = [
     "1 chunk to plain (aim)",
     "40 chunks, ns",
     "40 chunks to plain (aim)",
+    "`Table`, ns",
+    "`Table` to 1 chunk",
     "`sharded_slab`, ns",
     "1 chunk to `sharded_slab`",
 ];
 
-fn call_line(title: &str, [plain, one, forty, sharded]: [Times; 4]) -> String {
+fn call_line(title: &str, [plain, one, forty, of_table, sharded]: [Times; 5]) -> String {
     line(&[
         title.to_string(),
         "1".to_string(),
@@ -84,20 +86,22 @@ fn call_line(title: &str, [plain, one, forty, sharded]: [Times; 4]) -> String {
         aimed(one.over(plain), 2, ONE_CHUNK),
         cell(forty, 1),
         aimed(forty.over(plain), 2, FORTY_CHUNKS),
+        cell(of_table, 1),
+        cell(of_table.over(one), 2),
         cell(sharded, 1),
         cell(one.over(sharded), 2),
     ])
 }
 
 fn of_calls(rounds: usize) -> Result<String, String> {
-    let [plain, one, forty, sharded] = of_sides(rounds, |at| {
+    let sides = of_sides(rounds, |at| {
         eprintln!("calls: {}", calls::SIDES[at].name());
         turn(&["calls", calls::SIDES[at].name()])
     })?;
     let of_call = |call: Call| {
-        let of_side = |side: &[Report]| times(side, call.name(), 1.0);
-        let times = [of_side(&plain)?, of_side(&one)?, of_side(&forty)?, of_side(&sharded)?];
-        Ok(call_line(call.title(), times))
+        let of_side = |side: &Vec<Report>| times(side, call.name(), 1.0);
+        let [plain, one, forty, of_table, sharded] = sides.each_ref().map(of_side);
+        Ok(call_line(call.title(), [plain?, one?, forty?, of_table?, sharded?]))
     };
     let lines: Result<Vec<String>, String> = CALLS.into_iter().map(of_call).collect();
     Ok(table(&OF_CALLS, lines?))
@@ -181,7 +185,7 @@ mod tests {
 
     #[test]
     fn a_line_of_calls_has_a_place_below_each_name() {
-        let line = call_line("get", [10.0, 11.0, 12.0, 22.0].map(|least| Times { least, median: 2.0 * least }));
+        let line = call_line("get", [10.0, 11.0, 12.0, 13.0, 22.0].map(|least| Times { least, median: 2.0 * least }));
         assert!(line.starts_with("| get | 1 | 10.0 / 20.0 | 11.0 / 22.0 | 1.10 / 1.10 (1.15) | 12.0 "), "{line}");
         assert_eq!(line.matches(" |").count(), OF_CALLS.len());
     }

@@ -2,16 +2,19 @@
 mod epoch;
 mod heap;
 mod slabs;
+mod table;
 mod tables;
 
 use crate::map::{Map, Room};
 use crate::payload::Payload;
 use std::marker::PhantomData;
+use table::Stored;
 
 /// The maps by their names in the tables. The first is the heap itself.
 #[derive(Clone, Copy, Debug, PartialEq, Eq)]
 pub enum Side {
     Heap,
+    Table,
     Slab,
     Pool,
     Sharded,
@@ -22,8 +25,9 @@ pub enum Side {
     Epoch,
 }
 
-pub const SIDES: [Side; 9] = [
+pub const SIDES: [Side; 10] = [
     Side::Heap,
+    Side::Table,
     Side::Slab,
     Side::Pool,
     Side::Sharded,
@@ -45,6 +49,7 @@ impl Side {
     pub fn name(self) -> &'static str {
         match self {
             Side::Heap => "the heap from Rust",
+            Side::Table => "`gearlongan::Table`",
             Side::Slab => "`gearlongan::slab::Slab`",
             Side::Pool => "`gearlongan::slab::Pool`",
             Side::Sharded => "`sharded_slab::Slab`",
@@ -68,9 +73,10 @@ impl Side {
     }
 
     /// Does the task with the map of this side, for values of type `V`.
-    pub fn with<V: Payload, T: Task>(self, room: Room, task: T) -> T::Answer {
+    pub fn with<V: Stored, T: Task>(self, room: Room, task: T) -> T::Answer {
         match self {
             Side::Heap => task.with::<heap::OfHeap>(room),
+            Side::Table => task.with::<table::Table<V>>(room),
             Side::Slab => task.with::<slabs::own::Slab<V>>(room),
             Side::Pool => task.with::<slabs::own::Pool<V>>(room),
             Side::Sharded => task.with::<slabs::peer::Slab<V>>(room),

@@ -46,6 +46,13 @@ impl HeapHandle {
         })
     }
 
+    /// Another handle of a growing heap.
+    pub(crate) fn share(&self) -> Result<HeapHandle, Error> {
+        // SAFETY: the lock gives the handle to this call alone. The other is an empty one of this call.
+        let raw = Mutex::new(written(|other| unsafe { shardheap_raw_share(&mut *self.lock(), other) })?);
+        Ok(HeapHandle { raw, number: self.number, recorder: Recorder::new(Layout::Deep.holds()) })
+    }
+
     // Nothing panics while the lock is held, so that what it guards is whole even if it were poisoned.
     fn lock(&self) -> MutexGuard<'_, Raw> {
         self.raw.lock().unwrap_or_else(PoisonError::into_inner)

@@ -94,6 +94,7 @@ extern "C" {
     fn shardheap_raw_capacity(heap: *mut Raw, words: u32) -> u64;
     fn shardheap_raw_bytes(heap: *mut Raw) -> u64;
     fn shardheap_raw_layout_of(heap: *mut Raw, layout: *mut u32) -> u32;
+    fn shardheap_raw_share(heap: *mut Raw, other: *mut Raw) -> u32;
     fn shardheap_raw_take(heap: *mut Raw, pass: *mut Raw) -> u32;
     fn shardheap_raw_close(heap: *mut Raw);
     fn shardheap_raw_gather(heap: *mut Raw) -> u32;

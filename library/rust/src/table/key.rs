@@ -1,4 +1,5 @@
 //! Keys of tables.
+use crate::Record;
 use std::cmp::Ordering;
 use std::fmt;
 use std::hash::{Hash, Hasher};
@@ -9,7 +10,8 @@ use std::str::FromStr;
 /// The name of a record in a table: a number that no other record of the table ever has. It is never 0.
 ///
 /// A key is plain data of 8 bytes, whatever the record is, and `Option<Key<R>>` has 8 bytes too. A key is written as a
-/// decimal number, and is read from one.
+/// decimal number, and is read from one. With the feature `serde` it is serialized as a number, or in a format that
+/// people read, such as JSON, as its text.
 ///
 /// ```
 /// use gearlongan::table::Key;
@@ -25,6 +27,26 @@ use std::str::FromStr;
 /// # Ok::<(), gearlongan::Error>(())
 /// ```
 ///
+/// A key is a record too, and so is an `Option` of one. So records name records, of their own table or another one:
+///
+/// ```
+/// # use gearlongan::table::Key;
+/// # use gearlongan::Table;
+/// gearlongan::record! {
+///     struct Entity {
+///         health: u32,
+///         target: Option<Key<Entity>>,
+///     }
+/// }
+///
+/// let world = Table::new();
+/// let first = world.insert(&Entity { health: 100, target: None })?;
+/// let second = world.insert(&Entity { health: 90, target: Some(first) })?;
+/// let target = world.get(second).and_then(|entity| entity.target);
+/// assert!(target.is_some_and(|key| world.remove(key)));
+/// # Ok::<(), gearlongan::Error>(())
+/// ```
+///
 /// A table takes no key of another type:
 ///
 /// ```compile_fail,E0308
@@ -34,8 +56,9 @@ use std::str::FromStr;
 /// orders.get(key);
 /// ```
 ///
-/// A key of another table of the same type is not refused, since a key has no bits for it. Two tables issue the same
-/// numbers. If both have records of one type, wrap it in a type of its own for each table, as [`record!`] does.
+/// A key of another table of the same type is not refused, nor one of a table that was dropped, since a key has no bits
+/// for it. Two tables issue the same numbers. If both have records of one type, wrap it in a type of its own for each
+/// table: [`record!`] does so with `struct User(u32);`.
 ///
 /// [`record!`]: crate::record
 #[repr(transparent)]
@@ -96,6 +119,35 @@ impl<R> Ord for Key<R> {
 impl<R> Hash for Key<R> {
     fn hash<H: Hasher>(&self, state: &mut H) {
         self.bits.hash(state);
+    }
+}
+
+impl<R> Record for Key<R> {
+    const WORDS: usize = 1;
+
+    #[inline]
+    fn write(&self, words: &mut [u64]) {
+        self.to_bits().write(words);
+    }
+
+    #[inline]
+    fn read(words: &[u64]) -> Option<Key<R>> {
+        Key::from_bits(u64::read(words)?)
+    }
+}
+
+// No key is 0.
+impl<R> Record for Option<Key<R>> {
+    const WORDS: usize = 1;
+
+    #[inline]
+    fn write(&self, words: &mut [u64]) {
+        self.map_or(0, Key::to_bits).write(words);
+    }
+
+    #[inline]
+    fn read(words: &[u64]) -> Option<Option<Key<R>>> {
+        u64::read(words).map(Key::from_bits)
     }
 }
 

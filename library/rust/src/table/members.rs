@@ -85,31 +85,32 @@ impl Members {
         }
     }
 
-    // Runs it with the place of this thread, or another. `act` takes no memory. None as of `elsewhere`.
+    // Whether it succeeds with the place of this thread, or another. `act` takes no memory. False, too, if `elsewhere`
+    // finds no place.
     #[inline]
-    fn with<T>(&self, act: impl FnOnce(Open<'_>) -> T) -> Option<T> {
+    fn succeeds(&self, act: impl FnOnce(Open<'_>) -> Result<(), Error>) -> bool {
         match self.own() {
-            Some(open) => Some(act(open)),
-            None => self.elsewhere(act),
+            Some(open) => act(open).is_ok(),
+            None => self.elsewhere(act).is_some_and(|done| done.is_ok()),
         }
     }
 
     /// Whether the key has a value, which is written then.
     #[inline]
     pub(super) fn load(&self, key: Key, value: &mut Value) -> bool {
-        self.with(|open| open.load(key, value).is_ok()) == Some(true)
+        self.succeeds(|open| open.load(key, value))
     }
 
     /// Whether this call removed the key.
     #[inline]
     pub(super) fn remove(&self, key: Key) -> bool {
-        self.with(|open| open.remove(key).is_ok()) == Some(true)
+        self.succeeds(|open| open.remove(key))
     }
 
     /// Whether this call removed the key, whose value is written then.
     #[inline]
     pub(super) fn take(&self, key: Key, value: &mut Value) -> bool {
-        self.with(|open| open.take(key, value).is_ok()) == Some(true)
+        self.succeeds(|open| open.take(key, value))
     }
 
     // (Always, since its callers are few and the compiler would count what is cold.)
@@ -131,8 +132,8 @@ impl Members {
         }
     }
 
-    pub(super) fn len(&self) -> usize {
-        self.places.len()
+    pub(super) fn places(&self) -> &Places {
+        &self.places
     }
 }
 
@@ -169,7 +170,7 @@ mod tests {
             (inner.0, inner.1, inner.3)
         });
         assert_eq!(inner, Some((true, Err(Error::NoPlace), Some(7))));
-        assert_eq!((members.enter(), members.len()), (Ok(()), 1));
+        assert_eq!((members.enter(), members.places.len()), (Ok(()), 1));
     }
 
     #[test]
@@ -183,7 +184,7 @@ mod tests {
             assert!(!members.remove(key));
             open.remove(key)
         });
-        assert_eq!((inner, members.len()), (Some(Ok(())), 0));
+        assert_eq!((inner, members.places.len()), (Some(Ok(())), 0));
         taken.iter().for_each(|owned| members.places.rest(owned));
     }
 
@@ -214,7 +215,7 @@ mod tests {
         let after = members.insert(&[7]);
         // The key is of the shard of the first place, or of a shared one.
         assert!(before.is_ok() != after.is_ok(), "{before:?}, {after:?}");
-        assert_eq!((members.insert(&[7]), members.len()), (Err(Error::Full), keys.len()));
+        assert_eq!((members.insert(&[7]), members.places.len()), (Err(Error::Full), keys.len()));
     }
 
     /// What the threads of the next tests have together.
@@ -255,7 +256,7 @@ mod tests {
         };
         assert!(play(seed, (0..5).map(work).collect()), "seed {seed}, {left} places");
         let left_over = game.inserted.load(SeqCst) - game.removed.load(SeqCst);
-        assert_eq!(game.members.len(), left_over, "seed {seed}, {left} places");
+        assert_eq!(game.members.places.len(), left_over, "seed {seed}, {left} places");
         assert!(game.keys.lock().expect("no thread panics").iter().all(|key| loaded(&game.members, *key).is_some()));
         // Each place rests again, once.
         game.members.rest();

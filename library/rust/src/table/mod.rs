@@ -30,7 +30,8 @@
 //!
 //! A table has 60 places for threads of their own, and 4 that all other threads share, each behind a lock.
 //!
-//! - A thread takes a place at its first call, or beforehand by [`Table::enter`]. Its calls lock nothing then.
+//! - A thread takes a place at its first call, or beforehand by [`Table::enter`]. Its calls lock nothing then,
+//!   except [`Table::capacity`] and [`Table::bytes`]. These wait for no call that allocates.
 //! - As the thread ends its place rests, with its room and whatever is free there, and the next thread that asks has
 //!   it as it is. A thread that goes idle may call [`Table::rest`] for that.
 //! - A thread that finds no place uses a shared one, and looks for one of its own at each call. The destructors of a
@@ -45,6 +46,27 @@
 //! library order two threads by receipts alone, which a table has not. Each step of the library is a sequentially
 //! consistent atomic operation.
 //!
+//! A table lives in a static too:
+//!
+//! ```
+//! use gearlongan::Table;
+//! use std::sync::LazyLock;
+//!
+//! static TOKENS: LazyLock<Table<u32>> = LazyLock::new(Table::new);
+//!
+//! let key = TOKENS.insert(&7)?;
+//! assert_eq!(TOKENS.take(key), Some(7));
+//! # Ok::<(), gearlongan::Error>(())
+//! ```
+//!
+//! # Records
+//!
+//! A record is copied into the table and out of it as words. So neither a removal nor the end of the table drops a
+//! record: if its type has a `Drop`, each copy runs it that a call returns.
+//!
+//! [`Record::write`] runs before the table is changed, and [`Record::read`] after. Both may call the table, and if they
+//! panic the table is whole. A `take` whose `read` panics has removed its key.
+//!
 //! # Memory
 //!
 //! A new table takes less than 160 KiB, and it grows by chunks as inserts find no room. Only [`Table::insert`] and
@@ -55,6 +77,8 @@ mod builder;
 mod key;
 mod members;
 mod places;
+#[cfg(feature = "serde")]
+mod serialized;
 
 pub use builder::Builder;
 pub use key::Key;
@@ -200,7 +224,8 @@ impl<R: Record> Table<R> {
     ///
     /// # Errors
     ///
-    /// [`Error::Memory`], and [`Error::NoPlace`] if 60 threads have a place of their own, or the thread ends.
+    /// [`Error::Memory`]. [`Error::NoPlace`] if 60 other threads have a place of their own, if the thread ends, or if
+    /// an allocator calls within another call.
     ///
     /// ```
     /// # use gearlongan::{Error, Table};
@@ -213,7 +238,33 @@ impl<R: Record> Table<R> {
     }
 }
 
+impl<R: Record> Table<R> {
+    /// How many records the open chunks have slots for. The table opens another chunk earlier if some threads fill
+    /// their own room.
+    ///
+    /// ```
+    /// # use gearlongan::Table;
+    /// // Of each of two threads.
+    /// assert_eq!((Table::<u64>::new().capacity(), Table::<[u64; 16]>::new().capacity()), (2 * 384, 2 * 24));
+    /// ```
+    pub fn capacity(&self) -> usize {
+        self.members.places().capacity(R::WORDS as u32)
+    }
+}
+
 impl<R> Table<R> {
+    /// How many bytes of memory the words of the open chunks take: 32.5 for each record of one word that they have room
+    /// for. The lists of owners and the places of threads take more.
+    ///
+    /// ```
+    /// # use gearlongan::Table;
+    /// // Of each of two threads 8 pages of 195 words, and two words.
+    /// assert_eq!(Table::<u64>::new().bytes(), 2 * (8 * 195 + 2) * 8);
+    /// ```
+    pub fn bytes(&self) -> usize {
+        self.members.places().bytes()
+    }
+
     /// Lets the place of this thread rest, for another thread: as the end of the thread does. Its next call takes a
     /// place again.
     ///
@@ -241,7 +292,7 @@ impl<R> Table<R> {
     /// # Ok::<(), Error>(())
     /// ```
     pub fn len(&self) -> usize {
-        self.members.len()
+        self.members.places().len()
     }
 
     /// Whether the table has no record, as [`len`](Table::len) counts.
@@ -251,6 +302,7 @@ impl<R> Table<R> {
 }
 
 impl<R: Record> Default for Table<R> {
+    /// As [`Table::new`], which panics if memory is refused.
     fn default() -> Table<R> {
         Table::new()
     }

@@ -192,6 +192,8 @@ pub(super) struct Places {
     taken: Taken,
     shared: [Shared; SHARED],
     heap: Growing,
+    // The heap again: no call that takes memory has its lock, so that an allocator may wait for it.
+    told: Growing,
 }
 
 // A place of `own` that rests again as this is dropped.
@@ -210,10 +212,11 @@ impl Places {
     /// Opens the heap, and one of the shared places: what it can do needs no memory later.
     pub(super) fn open(first: Room, chunks: u32) -> Result<Places, Error> {
         let heap = Heap::growing(Room { passes: PASSES, ..first }, chunks)?;
+        let told = heap.share()?;
         let (own, shared) = (std::array::from_fn(|_| Place::default()), <[Shared; SHARED]>::default());
         // SAFETY: no other thread has the place.
         unsafe { shared[0].place.open_new(&heap) }?;
-        Ok(Places { own, taken: Taken::free(OWN as u32), shared, heap })
+        Ok(Places { own, taken: Taken::free(OWN as u32), shared, heap, told })
     }
 
     /// Takes a place that rests. `self` stays where it is until the place rests again.
@@ -293,5 +296,12 @@ impl Places {
         let places = self.own.iter().chain(self.shared.iter().map(|shared| &shared.place));
         let count = places.fold(0i64, |sum, place| sum.wrapping_add(place.count.load(Relaxed)));
         usize::try_from(count).unwrap_or(0)
+    }
+    pub(super) fn capacity(&self, words: u32) -> usize {
+        self.told.capacity(words) as usize
+    }
+
+    pub(super) fn bytes(&self) -> usize {
+        self.told.bytes() as usize
     }
 }
