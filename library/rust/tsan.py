@@ -1,7 +1,7 @@
 #!/usr/bin/env python3
 """Runs a program of threads over the slab and the pool under ThreadSanitizer: library/rust/tsan.py ARCHIVE.
 
-ARCHIVE is a libc_exports.a with the sanitizer's instrumentation: `scripts/trial-archive OUT --tsan` makes
+ARCHIVE is a libc_exports.a with the sanitizer's instrumentation: `scripts/build archive OUT --tsan` makes
 OUT/tsan/libc_exports.a. The crate is copied into a temporary folder. There it gets the locks of tsan/sync.rs in place
 of those of the standard library, which is not instrumented, and the program tsan/main.rs. Threads pass keys on by
 relaxed atomics in it, so that a value which is not ordered by the slab itself is a data race.

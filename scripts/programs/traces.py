@@ -81,7 +81,7 @@ AFTER_FILE = [
 
 def shown():
     """The variable by which scripts/trace runs the program that is looked at."""
-    return {"TRACE_PROGRAM": str(program("script_trace"))}
+    return {"PROGRAMS": str(program("script_trace").parent)}
 
 
 class Terminal:

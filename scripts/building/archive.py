@@ -1,20 +1,17 @@
-#!/usr/bin/env python3
-"""Builds an unproved copy of libc_exports.a: scripts/trial-archive OUT [--tsan].
+"""The archive libc_exports.a of crates/c_exports: proved, or without a proof.
 
-It writes OUT/plain/libc_exports.a, as LLVM would build the archive of `rt lib`, and with --tsan also
-OUT/tsan/libc_exports.a, which has the instrumentation of ThreadSanitizer. Both are for trials only: a check that would
-fail is undefined behaviour in them. A proof takes most of an hour on a first run, and this takes about a minute. The
-repository is not changed.
+Both are for any processor of x86-64. A program links the one as the other, with the memory functions of
+library/src/memory.c.
 
-`rt try` compiles a program and no archive. So the script copies the crates into a temporary folder, gives the copy of
-crates/c_exports a `main` that calls each function `shardheap_raw_..`, and takes the module as scripts/trial-build does,
-but for any processor of x86-64, as scripts/proved-archive does. LLVM drops that `main`, which nothing calls.
+`rt ci` proves c_exports and leaves no archive, and it leaves each library below in out/rlib without the stamp by which
+`rt lib` would know it, so that `rt lib` would prove all of them again. The proved archive takes them as `rt ci` itself
+takes them for the crates above: c_exports alone is checked, on as many processors as there are, and LLVM compiles what
+was proved.
 
-A program links the archive as it links the proved one, with the memory functions of library/src/memory.c.
+`rt try` compiles a program and no archive. So the one without a proof is made of a copy of the crates, of which
+c_exports has a `main` that calls each function `shardheap_raw_..`. LLVM drops that `main`, which nothing calls.
 """
-import argparse
-import importlib.machinery
-import importlib.util
+import os
 import pathlib
 import re
 import shutil
@@ -22,12 +19,14 @@ import subprocess
 import sys
 import tempfile
 
-TOP = pathlib.Path(__file__).resolve().parent.parent
-sys.dont_write_bytecode = True
-sys.path.insert(0, str(TOP / "scripts/packaging"))
+import tree
+from building import module
+
+sys.path.insert(0, str(tree.TOP / "scripts/packaging"))
 
 import record
 
+NAME = "c_exports"
 EXPORT = re.compile(r'pub extern "C" fn (shardheap_raw_\w+)\(([^)]*)\)')
 # A value for each kind of parameter, in the order in which they are tried.
 VALUES = [
@@ -42,12 +41,25 @@ __attribute__((weak)) void *__tsan_memset(void *to, int byte, size_t size) { ret
 """
 
 
-def trial_build(copy):
-    """The script trial-build of the copy, as a module: it reads the crates beside it."""
-    loader = importlib.machinery.SourceFileLoader("trial_build", str(copy / "scripts/trial-build"))
-    module = importlib.util.module_from_spec(importlib.util.spec_from_loader("trial_build", loader))
-    loader.exec_module(module)
-    return module
+def proved():
+    """Proves and builds crates/c_exports/out/libc_exports.a over the libraries that `rt ci` has proved. The last line
+    is the prover's verdict, which has the words of `rt ci` except the processor's level."""
+    crates = tree.listed()
+    crate, libraries = crates[NAME], crates[NAME].below(crates)
+    missing = [it for it in libraries if not crates[it].is_built()]
+    if missing:
+        sys.exit(f"build: {missing[0]} is not built, or has changed since: run rt ci")
+    kit, made = tree.kit(), crate.folder / f"out/lib{NAME}.a"
+    made.parent.mkdir(exist_ok=True)
+    words = [*crate.words(crates, kit), "--crate-type", "staticlib", "--jobs", str(len(os.sched_getaffinity(0)))]
+    words += ["--toolchain", kit / "toolchain", "--backend", "llvm", "--cpu", "x86-64", "-o", f"out/{made.name}"]
+    ran = subprocess.run([kit / "bin/rattle", "build", *words], cwd=crate.folder, stdout=subprocess.PIPE,
+                         stderr=subprocess.STDOUT, text=True)
+    verdict = ran.stdout.rstrip("\n").rpartition("\n")[2]
+    if ran.returncode or not verdict.startswith("logic=proved"):
+        sys.exit(f"{ran.stdout}build: {NAME} is not proved, so there is no archive")
+    record.write(made, "scripts/build proved", verdict)
+    print(f"build: {NAME} is proved, over the {len(libraries)} libraries that rt ci proved\n{verdict}")
 
 
 def records(source):
@@ -73,7 +85,7 @@ def value_of(kind, structs):
         found = re.fullmatch(pattern, kind)
         if found:
             return value.format(*found.groups())
-    raise SystemExit(f"trial-archive: it knows no value of the type {kind}")
+    raise SystemExit(f"build: it knows no value of the type {kind}")
 
 
 def program(folder):
@@ -104,28 +116,17 @@ def program(folder):
     ])
 
 
-def copied(folder):
-    """A copy of the crates with c_exports as a program: what they were built into is left out."""
+def text_of(copy):
+    """The module of a copy of the crates in which c_exports is a program. What they were built into is left out."""
     for name in ("crates.txt", "HANDLES"):
-        shutil.copy(TOP / name, folder)
-    (folder / "scripts").mkdir()
-    shutil.copy(TOP / "scripts/trial-build", folder / "scripts")
-    shutil.copytree(TOP / "crates", folder / "crates", ignore=shutil.ignore_patterns("out"))
-    listed = folder / "crates.txt"
-    listed.write_text(re.sub(r"(?m)^c_exports staticlib:", "c_exports:", listed.read_text()))
-    source = folder / "crates/c_exports/src"
+        shutil.copy(tree.TOP / name, copy)
+    shutil.copytree(tree.CRATES, copy / "crates", ignore=shutil.ignore_patterns("out"))
+    listed = copy / "crates.txt"
+    listed.write_text(re.sub(rf"(?m)^{NAME} staticlib:", f"{NAME}:", listed.read_text()))
+    source = copy / "crates" / NAME / "src"
     (source / "main.rt").write_text(program(source))
     (source / "lib.rt").unlink()
-
-
-def module_of(copy, built):
-    """The copy's module without checks, as LLVM's text."""
-    kept, checked = copy / "kept", copy / "checked.ll"
-    kept.mkdir()
-    clang = [built.KIT / "toolchain/bin/clang", f"--target={built.TARGET}", "-x", "ir"]
-    as_text = ["-S", "-emit-llvm", "-Xclang", "-disable-llvm-passes", "-O3", "-o", checked]
-    subprocess.run([*clang, built.module_of("c_exports", kept), *as_text], check=True)
-    return built.without_checks(checked.read_text(), cpu="x86-64")
+    return module.text_of(NAME, copy, cpu="x86-64")
 
 
 def exported(text):
@@ -141,48 +142,35 @@ def crates_of(text):
     return sorted(set(re.findall(r'(?m)^define [^\n(]*@"?(\w+)::', text)))
 
 
-def archive(folder, text, built, extra=(), with_c=None):
+def archived(folder, text, extra=(), with_c=None):
     """Compiles the module, and puts it into folder/libc_exports.a with what is written in C."""
     folder.mkdir(parents=True, exist_ok=True)
     text, names = exported(text)
-    flags = ["-fPIC" if flag == "-fPIE" else flag for flag in built.FLAGS]
-    with tempfile.TemporaryDirectory(prefix="trial-archive-") as room:
+    flags = ["-fPIC" if flag == "-fPIE" else flag for flag in module.FLAGS]
+    with tempfile.TemporaryDirectory(prefix="archive-") as room:
         room = pathlib.Path(room)
-        module, compiled, globals_ = room / "c_exports.ll", room / "c_exports.o", room / "globals"
-        module.write_text(text)
+        objects, globals_ = [room / f"{NAME}.o"], room / "globals"
         globals_.write_text("\n".join(names))
-        clang = [built.KIT / "toolchain/bin/clang", f"--target={built.TARGET}", "-x", "ir", *flags, *extra]
-        subprocess.run([*clang, "-c", module, "-o", compiled], check=True)
-        subprocess.run(["objcopy", f"--keep-global-symbols={globals_}", compiled], check=True)
-        objects = [compiled]
+        module.compiled(text, objects[0], [*flags, *extra])
+        subprocess.run(["objcopy", f"--keep-global-symbols={globals_}", objects[0]], check=True)
         if with_c:
             source = room / "memory.c"
             source.write_text(with_c)
             objects.append(room / "memory.o")
             subprocess.run(["gcc", "-O1", "-fno-builtin", "-fPIC", "-c", source, "-o", objects[-1]], check=True)
-        made = folder / "libc_exports.a"
+        made = folder / f"lib{NAME}.a"
         made.unlink(missing_ok=True)
         subprocess.run(["ar", "rcs", made, *objects], check=True)
-    record.write(made, "scripts/trial-archive", verdict="", crates=crates_of(text))
+    # (the crates that have a function in the module, since the compiled archive shows few of them)
+    crates = sorted(set(re.findall(r'(?m)^define [^\n(]*@"?(\w+)::', text)))
+    record.write(made, "scripts/build archive", verdict="", crates=crates)
     print(f"{made}: {len(names)} functions, {made.stat().st_size} bytes, not proved")
 
 
-def main():
-    parser = argparse.ArgumentParser(description=__doc__, formatter_class=argparse.RawDescriptionHelpFormatter)
-    parser.add_argument("out", type=pathlib.Path, help="the folder that the archives are written to")
-    parser.add_argument("--tsan", action="store_true", help="also one with the instrumentation of ThreadSanitizer")
-    words = parser.parse_args()
-    out = words.out.resolve()
-    with tempfile.TemporaryDirectory(prefix="trial-archive-") as copy:
-        copy = pathlib.Path(copy)
-        copied(copy)
-        built = trial_build(copy)
-        text = module_of(copy, built)
-    archive(out / "plain", text, built)
-    if words.tsan:
-        text = re.sub(r"(?m)^(attributes #\d+ = \{)(?= nounwind)", r"\1 sanitize_thread", text)
-        archive(out / "tsan", text, built, ["-fsanitize=thread"], TSAN_MEMORY)
-
-
-if __name__ == "__main__":
-    main()
+def without_proof(out, with_tsan):
+    """Builds out/plain/libc_exports.a, and out/tsan/libc_exports.a with the calls of ThreadSanitizer."""
+    with tempfile.TemporaryDirectory(prefix="archive-") as copy:
+        text = text_of(pathlib.Path(copy))
+    archived(out / "plain", text)
+    if with_tsan:
+        archived(out / "tsan", module.with_calls(text), ["-fsanitize=thread"], TSAN_MEMORY)
