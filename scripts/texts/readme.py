@@ -1,30 +1,28 @@
-#!/usr/bin/env python3
-"""Runs the shell commands of README.md as a new user would: scripts/readme-checks [--tests].
+"""Runs the shell commands of README.md as a new user would.
 
 It clones the last commit into a temporary folder, and runs there each line of the fenced `sh` blocks of README.md, one
 after the other. README.md itself is the one of the working tree. If a `text` block follows a block, the lines must
 write just that text to the standard output.
 
 Three commands take too long and are not run: `.ci/run`, `rt lib`, and `scripts/tests` (which --tests runs too). In
-place of what `rt lib` builds the clone gets the archive of scripts/trial-archive, so that the lines behind it are
+place of what `rt lib` builds the clone gets the archive of `scripts/build archive`, so that the lines behind it are
 tried.
 
 It needs git and bash, and what the commands need: the Rattle toolchain's rt, Python, Cargo 1.85, gcc, and the packages
 that bench/README.md names. A command whose tool is missing is skipped, with a line that says so. All of it takes five
-minutes on four processors. The exit status is 1 if a command failed or wrote something else.
+minutes on four processors.
 """
-import argparse
 import pathlib
 import re
 import shutil
 import subprocess
-import sys
 import tempfile
 import time
 from dataclasses import dataclass
 
-TOP = pathlib.Path(__file__).resolve().parent.parent
-BLOCK = re.compile(r"^```sh\n(.*?)^```\n(?:\n*```text\n(.*?)^```\n)?", re.M | re.S)
+from texts.markdown import COMMANDS
+from tree import TOP
+
 TOOLS = ["rt", "cargo", "gcc", "python3"]
 REGISTRY = pathlib.Path("/usr/share/cargo/registry")
 # The path to which README.md writes the archive that is not proved. The clone has a folder of its own in its place.
@@ -38,11 +36,6 @@ class Result:
     written: str = ""
     skipped: str = ""
     failed: str = ""
-
-
-def blocks(readme):
-    """The lines of each block of commands, and the text that they are to write, if there is one."""
-    return [(found[1].splitlines(), found[2]) for found in BLOCK.finditer(readme)]
 
 
 def too_long(command, with_tests):
@@ -95,7 +88,7 @@ def report(command, result, seconds):
         print(f"ran in {seconds:.0f} s: {command}", flush=True)
 
 
-def check(commands, wanted, clone, with_tests):
+def block(commands, wanted, clone, with_tests):
     """Runs the commands of a block. Returns how many were run, skipped and failed."""
     written, counts = "", {"run": 0, "skipped": 0, "failed": 0}
     for command in commands:
@@ -110,21 +103,13 @@ def check(commands, wanted, clone, with_tests):
     return counts
 
 
-def main():
-    parser = argparse.ArgumentParser(description=__doc__, formatter_class=argparse.RawDescriptionHelpFormatter)
-    parser.add_argument("--tests", action="store_true", help="run scripts/tests too, which takes some minutes more")
-    words = parser.parse_args()
-    found = blocks((TOP / "README.md").read_text())
-    if not found:
-        sys.exit("readme-checks: README.md has no commands")
-    with tempfile.TemporaryDirectory(prefix="readme-checks-") as folder:
+def check(with_tests):
+    """Runs all commands. Returns whether none failed, and there is one."""
+    with tempfile.TemporaryDirectory(prefix="readme-") as folder:
         clone = pathlib.Path(folder) / "clone"
         subprocess.run(["git", "clone", "-q", TOP, clone], check=True)
-        counts = [check(commands, wanted, clone, words.tests) for commands, wanted in found]
-    sums = {key: sum(count[key] for count in counts) for key in counts[0]}
-    print(f"readme-checks: {sums['run']} commands ran, {sums['skipped']} were not run, {sums['failed']} failed")
-    sys.exit(1 if sums["failed"] else 0)
-
-
-if __name__ == "__main__":
-    main()
+        counts = [block(found[1].splitlines(), found[2], clone, with_tests)
+                  for found in COMMANDS.finditer((TOP / "README.md").read_text())]
+    sums = {key: sum(count[key] for count in counts) for key in ("run", "skipped", "failed")}
+    print(f"README.md: {sums['run']} commands ran, {sums['skipped']} were not run, {sums['failed']} failed")
+    return bool(counts) and not sums["failed"]

@@ -1,22 +1,28 @@
-#!/usr/bin/env python3
-"""Which statements occur twice among the lemmas of all crates' proofs:
+"""Names and statements of lemmas that a crate, or the tree, has twice, by what specs/ and proofs/ declare.
 
-    scripts/same-statements             fails if any does, except those of KNOWN
-    scripts/same-statements --all       also prints those of KNOWN
+Names that mean two things in one crate:
 
-Two statements are the same if they differ only in the names of variables, in which of them are implicit, and in how
-they are written out. A name stands for where it is declared, so two crates may each have a statement of a type of their
-own. A name of the toolchain stands for itself. A lemma in a block `module _` has the variables of the block if its
-statement names one of them. Definitions do not count, nor what is local to a `where` or a `let`, nor the answers to
-goals. KNOWN lists the copies that are there, each with the reason why no crate owns its statement.
+- a definition (abbrev, record, data, unfoldable) or a public lemma that has the name of another definition or lemma of
+  its crate: each of these is a fault;
+- private lemmas of two files or more that have one name: over all crates there may be MOST such names.
+
+Statements that occur twice among the lemmas of all crates' proofs, except those of KNOWN, which lists copies, each with
+the reason why no crate owns its statement. Two statements are the same if they differ only in the names of variables,
+in which of them are implicit, and in how they are written out. A name stands for where it is declared, so two crates
+may each have a statement of a type of their own. A name of the toolchain stands for itself. A lemma in a block
+`module _` has the variables of the block if its statement names one of them. Definitions do not count.
+
+What is local to a `where` or a `let` does not count, nor do fields of records, nor the answers to goals, whose names
+the prover gives.
 """
 import collections
 import functools
-import pathlib
 import re
-import sys
 
-CRATES = pathlib.Path(__file__).resolve().parent.parent / "crates"
+from texts.checks import told
+from tree import CRATES
+
+MOST = 20
 # the files that answer goals, and the one that lists the others
 SKIPPED = {"Answers.antt", "Invariants.antt", "Proof.antt", "Given.antt", "Lib.antt"}
 # Lemmas whose statement another lemma has too, and why. A row that is not needed is a fault too.
@@ -34,6 +40,10 @@ LEMMA = re.compile(rf"(?:pub )?({NAME})(?: \{{[^}}]*\}})* : (.*)")
 WORD = re.compile(r"\.[^\s(){},;.]+|[(){},;.]|[^\s(){},;.]+")
 BRACKETS = {"{": "(", "}": ")"}
 
+RECORD = re.compile(rf"(?:pub\s+)?(?:record|data)\s+({NAME})")
+SIGNATURE = re.compile(rf"((?:(?:abbrev|unfoldable|pub)\s+)*)({NAME})(?:\s*\{{[^}}]*\}})*\s*:\s")
+
+Declared = collections.namedtuple("Declared", "name kind file")
 # `variables` are those of the blocks around it
 Lemma = collections.namedtuple("Lemma", "name variables statement")
 
@@ -200,19 +210,60 @@ def statements():
     return {stated: lemmas for stated, lemmas in by_form.items() if " " in stated}
 
 
-def main():
-    if sys.argv[1:] not in ([], ["--all"]):
-        print(__doc__, file=sys.stderr)
-        return 2
+def declared(crate):
+    """The definitions and lemmas of a crate."""
+    for part in ("specs", "proofs"):
+        for path in sorted((CRATES / crate / part).rglob("*.antt")):
+            if path.name in SKIPPED:
+                continue
+            for item, _ in items(path.read_text()):
+                record, signature = RECORD.match(item), SIGNATURE.match(item)
+                if record:
+                    name, kind = record[1], "definition"
+                elif signature:
+                    words, name = signature[1].split(), signature[2]
+                    kind = "definition" if {"abbrev", "unfoldable"} & set(words) else "public" if words else "private"
+                else:
+                    continue
+                # (that a struct may be sent or shared is proved under such a name)
+                if path.parent.name != "TheSendSync" or name != path.stem.lower():
+                    yield Declared(name, kind, str(path.relative_to(CRATES / crate)))
+
+
+def doubled(crate):
+    """The names of a crate that mean two things, each with whether that is a fault, and its files."""
+    by_name = collections.defaultdict(list)
+    for one in declared(crate):
+        by_name[one.name].append(one)
+    for name, all_so in sorted(by_name.items()):
+        files = sorted({one.file for one in all_so})
+        fault = len(all_so) > 1 and any(one.kind != "private" for one in all_so)
+        if fault or len(files) > 1:
+            yield name, fault, files
+
+
+def names(shows):
+    """Whether no name means two things, and few are of two private lemmas, which are printed if they are too many."""
+    found = [(crate, *it) for crate in sorted(path.name for path in CRATES.iterdir() if path.is_dir())
+             for it in doubled(crate)]
+    faults = [f"{crate}: {name}: {' '.join(files)}" for crate, name, is_fault, files in found if is_fault]
+    private = [f"{crate}: private: {name}: {' '.join(files)}" for crate, name, is_fault, files in found if not is_fault]
+    if shows or len(private) > MOST:
+        print(*private, sep="\n")
+    return told("same names", faults, f"{len(private)} names of private lemmas (at most {MOST})") & (len(private) <= MOST)
+
+
+def same_statements(shows):
+    """Whether no statement occurs twice, except those of KNOWN, and each of those does."""
     twice = [sorted(lemmas) for lemmas in statements().values() if len(lemmas) > 1]
-    faults = [lemmas for lemmas in twice if len(set(lemmas) - set(KNOWN)) > 1]
-    unneeded = sorted(set(KNOWN) - {lemma for lemmas in twice for lemma in lemmas})
-    for lemmas in twice if sys.argv[1:] else faults:
-        print(f"{'known' if lemmas not in faults else 'fault'}: {' '.join(lemmas)}")
-    for lemma in unneeded:
-        print(f"fault: KNOWN has {lemma}, whose statement no other lemma has")
-    print(f"same statements: {len(faults) + len(unneeded)} faults, {len(twice) - len(faults)} known")
-    return 1 if faults or unneeded else 0
+    faults = [" ".join(lemmas) for lemmas in twice if len(set(lemmas) - set(KNOWN)) > 1]
+    known = [" ".join(lemmas) for lemmas in twice if " ".join(lemmas) not in faults]
+    faults += [f"KNOWN has {it}, whose statement no other lemma has"
+               for it in sorted(set(KNOWN) - {lemma for lemmas in twice for lemma in lemmas})]
+    if shows:
+        print(*(f"known: {it}" for it in known), sep="\n")
+    return told("same statements", faults, f"{len(known)} known")
 
 
-sys.exit(main())
+def check(shows=False):
+    return names(shows) & same_statements(shows)

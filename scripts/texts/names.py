@@ -1,6 +1,5 @@
-#!/usr/bin/env python3
-"""Looks whether each name and path that a document has in backticks, and each target of a link, is in the tree, and
-each commit that it cites in the history:
+"""Whether each name and path that a document has in backticks, and each target of a link, is in the tree, and each
+commit that it cites in the history:
 
 - a word of four letters or more is a name somewhere in the tree's code, scripts, examples or file names;
 - a path, and the target of a link, is a file or a folder, from the top, from the document's folder or from crates/;
@@ -9,21 +8,17 @@ each commit that it cites in the history:
 - a commit that is cited, as in "commit 294d93ff", is HEAD or an ancestor of it. Where git has not the whole history, as
   in a shallow clone, this is left out, and a line says so.
 
-    scripts/names                  looks at all Markdown that git tracks
-    scripts/names FILE ..          looks at these
-    scripts/names --self-test      plants a fault of each kind, and fails unless each one is found
-
 ELSEWHERE has the names of other projects and of the field, which the tree need not have. A document of BEGINNINGS may
 name a test by the beginning of its name.
 """
 import functools
 import pathlib
 import re
-import subprocess
-import sys
-import tempfile
 
-TOP = pathlib.Path(__file__).resolve().parent.parent
+from texts.checks import told, tried
+from texts.markdown import CODE, git, tracked, without_fenced
+from tree import TOP
+
 # Names of other projects, of tools and of the field.
 ELSEWHERE = set(
     """
@@ -37,20 +32,9 @@ SUFFIXES = {".rt", ".antt", ".rs", ".h", ".c", ".cpp", ".hpp", ".txt", ".edit", 
             ".trace", ".output", ".error", ".control"}
 NAME = re.compile(r"[A-Za-z_][A-Za-z0-9_]{3,}")
 ANY_NAME = re.compile(r"[A-Za-z_][A-Za-z0-9_']*")
-FENCE = re.compile(r"^(```|~~~).*?^\1", re.M | re.S)
-CODE = re.compile(r"`([^`]+)`")
 LINK = re.compile(r"\]\(([^)\s]+)\)")
 HEADING = re.compile(r"^#+\s+(.*?)\s*$", re.M)
 COMMIT = re.compile(r"\bcommit ([0-9a-f]{7,40})\b")
-
-
-def git(*words):
-    """The lines that git prints; none if it fails."""
-    return subprocess.run(["git", *words], cwd=TOP, capture_output=True, text=True).stdout.splitlines()
-
-
-def tracked(*patterns):
-    return [name for name in git("ls-files", *patterns) if (TOP / name).is_file()]
 
 
 @functools.cache
@@ -82,7 +66,7 @@ def known():
 
 def anchors(path):
     """The anchors of a document's headings, as a forge makes them."""
-    text = FENCE.sub("", path.read_text())
+    text = without_fenced(path.read_text())
     return {re.sub(r"[^\w\- ]", "", re.sub(r"[`*]", "", heading).lower()).replace(" ", "-")
             for heading in HEADING.findall(text)}
 
@@ -148,7 +132,7 @@ def commit_faults(text):
 
 
 def faults(document, base, by_beginning=False):
-    text = " ".join(FENCE.sub("", document.read_text()).split())
+    text = " ".join(without_fenced(document.read_text()).split())
     yield from names_faults(text, by_beginning)
     yield from path_faults(text, document, base)
     yield from commit_faults(text)
@@ -167,30 +151,14 @@ CLEAN = ("# A `heading`\n\nSee [it](#a-heading), `refines_map`, `docs/DECISIONS.
 
 
 def self_test():
-    wrong = []
-    with tempfile.TemporaryDirectory() as room:
-        for name, text in (PLANTED | {"clean.md": CLEAN}).items():
-            path = pathlib.Path(room) / name
-            path.write_text(text)
-            found = list(faults(path, pathlib.PurePath(".")))
-            if len(found) != (name in PLANTED and (name != "commit.md" or bool(history()))):
-                wrong.append(f"{name}: {found}")
-    print(*wrong, sep="\n", end="\n" if wrong else "")
-    print(f"names: {len(PLANTED)} planted faults, {len(wrong)} not as they should be")
-    return 1 if wrong else 0
+    planted = {name: text for name, text in PLANTED.items() if name != "commit.md" or history()}
+    return tried("names", planted, {"clean.md": CLEAN}, lambda path: faults(path, pathlib.PurePath(".")))
 
 
-def main():
-    if sys.argv[1:] == ["--self-test"]:
-        return self_test()
-    names = sys.argv[1:] or tracked("*.md")
-    told = [f"{name}: {fault}" for name in names
-            for fault in faults(TOP / name, pathlib.PurePath(name).parent, name in BEGINNINGS)]
-    print(*told, sep="\n", end="\n" if told else "")
+def check(files=()):
+    names = files or tracked("*.md")
+    found = [f"{name}: {fault}" for name in names
+             for fault in faults(TOP / name, pathlib.PurePath(name).parent, name in BEGINNINGS)]
     if not history():
         print("names: git has not the whole history here, so the commits that are cited were not looked for")
-    print(f"names: {len(names)} documents looked at, {len(told)} faults")
-    return 1 if told else 0
-
-
-sys.exit(main())
+    return told("names", found, f"{len(names)} documents")

@@ -1,20 +1,9 @@
-#!/usr/bin/env python3
-"""Which move each lemma over moves has a clause for: the others go by its last clause.
-
-    scripts/proof-matrix            prints the table
-    scripts/proof-matrix --write    writes it into docs/DEVELOPMENT.md
-    scripts/proof-matrix --check    fails where docs/DEVELOPMENT.md has another
-"""
-
-import pathlib
+"""Which move each lemma over moves has a clause for: the others go by its last clause."""
 import re
-import sys
 
-ROOT = pathlib.Path(__file__).resolve().parent.parent
-PROOFS = ROOT / "crates/sh_core/proofs"
-GUIDE = ROOT / "docs/DEVELOPMENT.md"
-BEGIN, END = "<!-- matrix -->\n", "<!-- end of matrix -->\n"
+from tree import TOP
 
+PROOFS = TOP / "crates/sh_core/proofs"
 # the head of a column, the file of its lemma, and the lemma
 COLUMNS = [
     ("agreement", "Moves/RunAll", "all_move"),
@@ -35,7 +24,7 @@ COLUMNS = [
 
 def moves():
     """The moves, in the order of their type."""
-    text = (ROOT / "crates/sh_step/src/moves.rt").read_text()
+    text = (TOP / "crates/sh_step/src/moves.rt").read_text()
     body = text[text.index("pub enum Move {"):]
     return re.findall(r"^    ([A-Z][A-Za-z]*)\(", body[:body.index("\n}\n")], re.M)
 
@@ -50,7 +39,7 @@ def clauses(file, lemma, names):
     return found
 
 
-def table():
+def matrix():
     """The table in Markdown."""
     names = moves()
     seen = [(head, clauses(file, lemma, names)) for head, file, lemma in COLUMNS]
@@ -58,27 +47,4 @@ def table():
     for name in names:
         lines.append(f"| {name} | " + " | ".join("x" if name in found else "" for _, found in seen) + " |")
     lines.append("| clauses | " + " | ".join(str(len(found)) for _, found in seen) + " |")
-    return "\n".join(lines) + "\n"
-
-
-def main():
-    new = table()
-    if sys.argv[1:] == []:
-        print(new, end="")
-        return 0
-    text = GUIDE.read_text()
-    before, rest = text.split(BEGIN)
-    old, after = rest.split(END)
-    if sys.argv[1:] == ["--write"]:
-        GUIDE.write_text(before + BEGIN + "\n" + new + "\n" + END + after)
-        return 0
-    if sys.argv[1:] == ["--check"]:
-        if old.strip() == new.strip():
-            return 0
-        print("docs/DEVELOPMENT.md has another table: scripts/proof-matrix --write", file=sys.stderr)
-        return 1
-    print(__doc__, file=sys.stderr)
-    return 2
-
-
-sys.exit(main())
+    return "\n".join(lines)

@@ -1,4 +1,3 @@
-#!/usr/bin/env python3
 """Counts statements of the product whose value nothing uses. Most of them are there for a proof alone: a call for its
 clauses, or a borrowed field for what is true of its struct. Over all crates there may be MOST of them, and no more, so
 that a contract says what a caller needs, and no statement has to. If there are fewer, lower MOST.
@@ -11,17 +10,13 @@ It counts, whatever the names are,
 
 The product is the crates without those of tests, tools and examples, and without files of tests. A law, which is a
 function with an empty body that is called by name alone, is not counted.
-
-    scripts/proof-statements               counts, and compares with MOST
-    scripts/proof-statements --list        writes each one, too
-    scripts/proof-statements --self-test   finds what it plants
 """
 import collections
-import pathlib
 import re
-import sys
 
-CRATES = pathlib.Path(__file__).resolve().parent.parent / "crates"
+from texts.checks import told
+from tree import CRATES
+
 MOST = 49
 OTHERS = ("test_", "tool_", "example_")
 QUOTED = r"""\"(?:\\.|[^"\\])*\"|'(?:\\.|[^'\\])'"""
@@ -175,28 +170,17 @@ def self_test():
     code = code_of(PLANTED)
     lines = {code[:at].count("\n") for at in found(code, readers([code]))}
     wanted = {n for n, line in enumerate(PLANTED.split("\n")) if line.endswith("// found")}
-    wrong = len(lines ^ wanted)
-    print(f"statements: {len(wanted)} planted, {wrong} not as they should be")
-    return wrong > 0
+    return told("statements, tried", [f"line {n} of the planted ones" for n in lines ^ wanted], f"{len(wanted)} planted")
 
 
-def main():
-    if "--self-test" in sys.argv:
-        return self_test()
+def check(shows=False):
     files = list(product())
     reading = readers(code for _, code in files)
-    count = 0
-    for file, code in files:
-        for at in found(code, reading):
-            count += 1
-            if "--list" in sys.argv:
-                line = code[:at].count("\n")
-                print(f"{file.relative_to(CRATES)}:{line + 1}: {code.splitlines()[line].strip()}")
-    print(f"statements whose value nothing uses: {count}, and there may be {MOST}")
-    if count < MOST:
-        print("scripts/proof-statements: lower MOST")
-    return count > MOST
-
-
-if __name__ == "__main__":
-    sys.exit(main())
+    seen = [f"{file.relative_to(CRATES)}:{code.count(chr(10), 0, at) + 1}" for file, code in files
+            for at in found(code, reading)]
+    if shows or len(seen) > MOST:
+        print(*seen, sep="\n")
+    print(f"statements whose value nothing uses: {len(seen)}, and there may be {MOST}")
+    if len(seen) < MOST:
+        print("texts/unused.py: lower MOST")
+    return len(seen) <= MOST

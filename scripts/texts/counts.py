@@ -1,11 +1,4 @@
-#!/usr/bin/env python3
-"""Writes the counts of the tree into the documents, and checks them.
-
-    scripts/counts              prints each block and each count
-    scripts/counts --write      fills the blocks of every tracked Markdown file
-    scripts/counts --check      compares, and fails with the file, the block and the first difference
-    scripts/counts --self-test  changes a digit in copies of the documents, and fails if the check misses it; and fails
-                                if what is no word is counted as one
+"""The counts of the tree in the documents.
 
 A block is between two lines of their own:
 
@@ -18,6 +11,7 @@ NAME is one of
     to-read     a table: the files that one has to read to trust the headline, in order, with their lines
     read-lines  a sentence: how many lines and files these are
     crates      a sentence: how many crates and edges crates.txt has, and its longest chain of crates
+    matrix      a table: which move each lemma over moves has a clause for, where the others go by its last clause
 
 A count in a sentence is written <!-- count: NAME -->123<!-- -->. It must not begin its line, since Markdown takes such
 a line for HTML. NAME is one of: crates, edges, chain, code, specs, proofs, tests, wrong-bodies, test-functions,
@@ -31,27 +25,26 @@ Only files that git tracks are read. Blocks and counts in fenced code, and count
 import collections
 import functools
 import itertools
-import pathlib
 import re
-import subprocess
 import sys
-import tempfile
 import textwrap
 
-ROOT = pathlib.Path(__file__).resolve().parent.parent
+import tree
+from texts.checks import told
+from texts.markdown import CODE, FENCED, GENERATED, tracked
+from texts.moves import matrix
+from tree import TOP
+
 END = "<!-- end of counts -->"
 MARK = re.compile(
     rf"^<!-- counts: (?P<block>\S+) -->\n|^(?P<end>{END})$|(?<!`)<!-- count: (?P<count>\S+) -->(?P<old>.*?)<!-- -->",
     re.M,
 )
 STRAY = re.compile(r"(?<!`)<!-- (?:counts?|end of counts)\b[^\n]*")
-FENCED = re.compile(r"^ {0,3}(```|~~~).*?^ {0,3}\1[^\n]*$", re.M | re.S)
 # what has no words that count, in this order: fenced code, generated blocks and counts, comments, code in backticks,
 # the targets of links, and tags of HTML
-BLOCKS = "counts|bench rows|bench missed|measured|instructions|matrix"
-GENERATED = rf"^<!-- (?:{BLOCKS})\b[^\n]*-->\n.*?^<!-- end of [^\n]*-->$"
-NO_WORDS = [FENCED, re.compile(GENERATED, re.M | re.S), re.compile(r"<!-- count: \S+ -->.*?<!-- -->")]
-NO_WORDS += [re.compile(it, re.S) for it in (r"<!--.*?-->", r"`[^`]*`", r"(?<=\])\([^()]*\)", r"<[^<>]*>")]
+NO_WORDS = [FENCED, GENERATED, re.compile(r"<!-- count: \S+ -->.*?<!-- -->"), re.compile(r"<!--.*?-->", re.S), CODE]
+NO_WORDS += [re.compile(it, re.S) for it in (r"(?<=\])\([^()]*\)", r"<[^<>]*>")]
 WORD = re.compile(r"\S*[^\W\d_]\S*")
 # a text of seven words for the self-test, and texts that add no word to it
 SEVEN = "Of `code in backticks` and [links to it](a/file.md#a-part), 17 are - **words**.\n"
@@ -59,7 +52,6 @@ ADD_NONE = [
     "```sh\nsome code\n```\n",
     f"<!-- counts: tree -->\na table\n{END}\n",
     "<!-- bench rows: uses, all -->\n\nOne run\n\n<!-- end of bench rows -->\n",
-    "<!-- matrix -->\n| a row |\n<!-- end of matrix -->\n",
     "> <!-- count: crates -->sixty<!-- -->\n",
     "<!-- a remark\nof two lines -->\n",
     '<img src="of.png" alt="a picture">\n',
@@ -104,18 +96,9 @@ Fault = collections.namedtuple("Fault", "file block what")
 Found = collections.namedtuple("Found", "begin end name right")
 
 
-def tracked():
-    """The paths of the tracked files that exist, or None where git lists none."""
-    try:
-        listed = subprocess.run(["git", "ls-files", "-z"], cwd=ROOT, check=True, capture_output=True, text=True)
-    except (OSError, subprocess.CalledProcessError):
-        return None
-    return [path for path in listed.stdout.split("\0") if path and (ROOT / path).is_file()]
-
-
 def line_count(path):
     try:
-        return (ROOT / path).read_bytes().count(b"\n")
+        return (TOP / path).read_bytes().count(b"\n")
     except FileNotFoundError:
         sys.exit(f"counts: {path} is listed in TO_READ and is not in the tree")
 
@@ -139,18 +122,10 @@ class Crates:
     """What crates.txt says: the groups, and which crates of the repository each crate uses."""
 
     def __init__(self):
-        self.groups, self.uses = {}, {}
-        group = None
-        for line in (ROOT / "crates.txt").read_text().splitlines():
-            head = re.match(r"# (.*)\.$", line)
-            crate = re.match(r"(\w+)(?: staticlib)?:(.*)$", line)
-            if head and ":" not in head[1]:
-                group = self.groups.setdefault(head[1], [])
-            elif crate:
-                group.append(crate[1])
-                self.uses[crate[1]] = crate[2].split()
-        for name, uses in self.uses.items():
-            self.uses[name] = [other for other in uses if other in self.uses]
+        self.groups, self.uses = collections.defaultdict(list), {}
+        for name, crate in tree.listed().items():
+            self.groups[crate.group].append(name)
+            self.uses[name] = crate.own
 
     def edges(self):
         return sum(len(uses) for uses in self.uses.values())
@@ -185,7 +160,7 @@ class Lines:
             kind = {"src": "tests" if is_test else "code"}.get(crate[2], crate[2])
             self.by_crate[crate[1]][kind] += line_count(path)
             if crate[3] == "rt":
-                tests = re.findall(rb"^\s*#\[test\]", (ROOT / path).read_bytes(), re.M)
+                tests = re.findall(rb"^\s*#\[test\]", (TOP / path).read_bytes(), re.M)
                 self.counts["test-functions"] += len(tests)
         elif re.match(r"crates/\w+/(refused|must-fail)/[^/]*\.edit$", path):
             self.counts["wrong-bodies"] += 1
@@ -270,14 +245,15 @@ def measure(paths):
     counts.update({"crates": len(crates.uses), "edges": crates.edges(), "chain": len(crates.chain())})
     counts.update({"read-files": len(read), "read-lines": sum(read)})
     for name, (path, what) in IN_ONE_FILE.items():
-        counts[name] = len(re.findall(what, (ROOT / path).read_text(), re.M))
-    counts["words"] = sum(word_count((ROOT / path).read_text()) for path in paths if path.endswith(".md"))
+        counts[name] = len(re.findall(what, (TOP / path).read_text(), re.M))
+    counts["words"] = sum(word_count((TOP / path).read_text()) for path in paths if path.endswith(".md"))
     blocks = {
         "tree": tree_table(counts),
         "groups": groups_table(crates, lines),
         "to-read": read_table(groups),
         "read-lines": read_sentence(counts),
         "crates": crates_sentence(crates),
+        "matrix": matrix(),
     }
     return blocks, {name: number(n) for name, n in counts.items()}
 
@@ -332,22 +308,29 @@ def filled(text, measured):
     return text
 
 
-def check(files, measured):
-    """Whether each file has the right counts; what differs is printed."""
-    found = [fault for file in files for fault in faults(file, (ROOT / file).read_text(), measured)]
-    print("".join(f"{fault.file}: {fault.block}: {fault.what}\n" for fault in found), end="", file=sys.stderr)
-    return not found
+def measured():
+    """The documents, and the blocks and the counts."""
+    return tracked("*.md"), measure(tracked())
 
 
-def write(files, measured):
-    """Fills each file, and says what is wrong of their form."""
+def check():
+    """Whether each document has the right counts."""
+    files, counts = measured()
+    found = [f"{fault.file}: {fault.block}: {fault.what}" for file in files
+             for fault in faults(file, (TOP / file).read_text(), counts)]
+    return told("counts", found, f"{len(files)} documents")
+
+
+def write():
+    """Fills each document, and says what is wrong of their form."""
+    files, counts = measured()
     for file in files:
-        text = (ROOT / file).read_text()
-        new = filled(text, measured)
+        text = (TOP / file).read_text()
+        new = filled(text, counts)
         if new != text:
-            (ROOT / file).write_text(new)
+            (TOP / file).write_text(new)
             print(f"wrote {file}")
-    return check(files, measured)
+    return check()
 
 
 def with_another_digit(text, one):
@@ -361,7 +344,7 @@ def copies(files, measured):
     blocks, counts = measured
     every = [f"<!-- counts: {name} -->\n{END}\n" for name in blocks]
     every += [f"- {name}: <!-- count: {name} -->0<!-- -->\n" for name in counts]
-    texts = {file: (ROOT / file).read_text() for file in files}
+    texts = {file: (TOP / file).read_text() for file in files}
     return {file: filled(text, measured) for file, text in [*texts.items(), ("every.md", "\n".join(every))]}
 
 
@@ -386,49 +369,22 @@ def wrong_words():
     return [(text, words) for text, words in cases if word_count(text) != words]
 
 
-def self_test(files, measured):
+def self_test():
     """Whether the check passes each right copy, and names just the block or count that is wrong in each other one."""
-    for text, words in wrong_words():
-        print(f"counts: this has {words} words, and {word_count(text)} are counted: {text!r}", file=sys.stderr)
-    texts = copies(files, measured)
+    files, counts = measured()
+    texts = copies(files, counts)
     cases = [(file, [], text) for file, text in texts.items()]
-    cases += [(file, [block], text) for file, block, text in planted(texts, measured)]
-    missed = 0
-    with tempfile.TemporaryDirectory() as folder:
-        copy = pathlib.Path(folder) / "copy.md"
-        for file, wrong, text in cases:
-            copy.write_text(text)
-            seen = [fault.block for fault in faults(file, copy.read_text(), measured)]
-            if seen != wrong:
-                missed += 1
-                print(f"counts: {file}: wrong is {wrong}, and the check says {seen}", file=sys.stderr)
-    print(f"counts: {len(cases) - missed} of {len(cases)} copies are judged right")
-    return missed == 0 and not wrong_words()
+    cases += [(file, [block], text) for file, block, text in planted(texts, counts)]
+    wrong = [f"this has {words} words, and {word_count(text)} are counted: {text!r}" for text, words in wrong_words()]
+    for file, expected, text in cases:
+        seen = [fault.block for fault in faults(file, text, counts)]
+        if seen != expected:
+            wrong.append(f"{file}: wrong is {expected}, and the check says {seen}")
+    return told("counts, tried", wrong, f"{len(cases)} copies")
 
 
-def show(measured):
-    blocks, counts = measured
+def show():
+    blocks, counts = measured()[1]
     print("\n\n".join(f"{name}:\n\n{text}" for name, text in blocks.items()) + "\n")
     print("\n".join(f"{name}: {text}" for name, text in counts.items()))
-    return 0
-
-
-def main():
-    paths = tracked()
-    if paths is None:
-        print("counts: git lists no files here, so nothing is counted")
-        return 0
-    measured = measure(paths)
-    files = [path for path in paths if path.endswith(".md")]
-    modes = {"--write": write, "--check": check, "--self-test": self_test}
-    match sys.argv[1:]:
-        case []:
-            return show(measured)
-        case [mode] if mode in modes:
-            return 0 if modes[mode](files, measured) else 1
-    print(__doc__, file=sys.stderr)
-    return 2
-
-
-if __name__ == "__main__":
-    sys.exit(main())
+    return True
