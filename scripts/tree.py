@@ -10,13 +10,17 @@ PARTS = ("src", "specs", "proofs")
 ROW = re.compile(r"(\w+)(?: staticlib)?:([^#]*)")
 # A heading of crates.txt, under which a group of crates is listed.
 HEADING = re.compile(r"# ([^:]*)\.")
+# What is listed from this line on is the lab, and what is above it the heap.
+LAB = "# The lab:"
+# The door of the gate that looks at this tree; none if the whole gate does (.ci/run).
+DOOR = os.environ.get("DOOR")
 
 
 class Crate:
-    """A crate: its group, and the libraries of the tree and of the toolchain that it uses."""
+    """A crate: its door and group, and the libraries of the tree and of the toolchain that it uses."""
 
-    def __init__(self, name, libraries, names, group=""):
-        self.name, self.folder, self.group = name, CRATES / name, group
+    def __init__(self, name, libraries, names, door, group):
+        self.name, self.folder, self.door, self.group = name, CRATES / name, door, group
         self.own = [it for it in libraries if it in names]
         self.kit = [it for it in libraries if it not in names]
 
@@ -57,15 +61,22 @@ class Crate:
 
 def listed(kind=Crate):
     """All crates by their names, from the bottom up."""
-    rows, group = [], ""
+    rows, door, group = [], "heap", ""
     for line in (TOP / "crates.txt").read_text().splitlines():
         heading, row = HEADING.fullmatch(line), ROW.fullmatch(line)
-        if heading:
+        if line.startswith(LAB):
+            door = "lab"
+        elif heading:
             group = heading[1]
         elif row:
-            rows.append((row[1], row[2].split(), group))
-    names = {name for name, _, _ in rows}
-    return {name: kind(name, libraries, names, group) for name, libraries, group in rows}
+            rows.append((row[1], row[2].split(), door, group))
+    names = {name for name, *_ in rows}
+    return {name: kind(name, libraries, names, door, group) for name, libraries, door, group in rows}
+
+
+def are_here(*names):
+    """Whether these crates are there to be looked at. Behind a door only its crates and those below them are."""
+    return not DOOR or all(it in listed() for it in names)
 
 
 def given(name):

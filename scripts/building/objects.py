@@ -1,4 +1,4 @@
-"""Object files of a program without a proof, for scripts/schedule, scripts/tsan and scripts/locked-steps.
+"""Object files of a program without a proof, for schedule, tsan and locked-steps of scripts/compiled.
 
 `whole.o` and `broken.o`, which has the heaps of broken.py, have calls of ThreadSanitizer, which clang puts in at the
 end of its own passes. `steps.o` has none, but each function of STEPS and of LOOK is kept as a function, also beside
@@ -14,9 +14,9 @@ import tempfile
 
 import tree
 from building import module
-from scheduling import broken
+from compiled import broken
 
-HERE = tree.TOP / "scripts/scheduling"
+HERE = tree.TOP / "scripts/compiled"
 # The C functions that a program under the scheduler calls in another form.
 WRAPPED = "pthread_create pthread_join pthread_detach pthread_self sched_yield syscall _exit".split()
 WARNINGS = ["-std=gnu11", "-O2", "-Wall", "-Wextra", "-Werror"]

@@ -37,7 +37,7 @@ def show(parts):
 def places(names):
     """Prints the files that name an action, by its name and that of its function, with how often."""
     words = rf"\b({'|'.join(names)})\b"
-    for part, paths in {"code": ["crates/*/src/*"], "definitions": ["crates/*/specs/*"], "proofs": ["crates/*/proofs/*"],
-                        "tests": ["crates/test_*/*"]}.items():
-        paths += [":!crates/test_*/*", ":!*.edit"] if part != "tests" else []
-        print(part, *(it.removeprefix("crates/") for it in git("grep", "-cE", words, "--", *paths)), sep="\n  ")
+    of_product = {part: [f"crates/*/{folder}/*", ":!crates/test_*/*", ":!*.edit"]
+                  for part, folder in (("code", "src"), ("definitions", "specs"), ("proofs", "proofs"))}
+    for part, paths in {**of_product, "tests": ["crates/test_*/*"]}.items():
+        print(part, *git("grep", "-cE", words, "--", *paths), sep="\n  ")

@@ -250,7 +250,8 @@ def names(shows):
     private = [f"{crate}: private: {name}: {' '.join(files)}" for crate, name, is_fault, files in found if not is_fault]
     if shows or len(private) > MOST:
         print(*private, sep="\n")
-    return told("same names", faults, f"{len(private)} names of private lemmas (at most {MOST})") & (len(private) <= MOST)
+    is_well = told("same names", faults, f"{len(private)} names of private lemmas (at most {MOST})")
+    return is_well and len(private) <= MOST
 
 
 def same_statements(shows):

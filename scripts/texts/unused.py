@@ -170,7 +170,8 @@ def self_test():
     code = code_of(PLANTED)
     lines = {code[:at].count("\n") for at in found(code, readers([code]))}
     wanted = {n for n, line in enumerate(PLANTED.split("\n")) if line.endswith("// found")}
-    return told("statements, tried", [f"line {n} of the planted ones" for n in lines ^ wanted], f"{len(wanted)} planted")
+    wrong = [f"line {n} of the planted ones" for n in lines ^ wanted]
+    return told("statements, tried", wrong, f"{len(wanted)} planted")
 
 
 def check(shows=False):

@@ -1,6 +1,6 @@
 """Pictures of parts of a trace: a removal while another pass reads, the stack of a page, and the duty to ring."""
 
-from drawing.svg import LETTER, Picture
+from stories.svg import LETTER, Picture
 
 LANES = {"0": 40, "1": 560}
 LANE, ROW, WORD = 260, 40, 330

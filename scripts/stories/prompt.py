@@ -3,8 +3,8 @@
 import contextlib
 import textwrap
 
-from tracing.possible import possible
-from tracing.session import Fault
+from stories.possible import possible
+from stories.session import Fault
 
 HELP = """Commands
   undo          takes the last line back; `undo 3` takes three

@@ -2,7 +2,7 @@
 
 import re
 
-from drawing.expected import debts_of, owing_of, plain
+from stories.expected import debts_of, owing_of, plain
 
 RUN = re.compile(r"slots? (\d+)(?: to (\d+))? (.*)")
 

@@ -3,7 +3,7 @@ The slots that the event changed are framed. The events before the story begins 
 
 from dataclasses import dataclass
 
-from drawing.svg import LETTER, Picture, wrapped
+from stories.svg import LETTER, Picture, wrapped
 
 LEFT, SLOT, LONGEST = 44, 96, 20
 TOP, CELL, STEP, LINE, SECOND = 44, 20, 24, 16, 13

@@ -1,6 +1,6 @@
 """Pictures that show no run: the parts of a heap, a page, the keys, the life of a slot, and a look."""
 
-from drawing.svg import Picture
+from stories.svg import Picture
 
 # ---- the parts of a heap
 

@@ -1,5 +1,5 @@
-"""What a page has to say at each step of a trace, from the lines of the trace alone. scripts/story-checks compares it
-with what the page says. This is a reading of its own, apart from that of the page and of drawing/trace.py."""
+"""What a page has to say at each step of a trace, from the lines of the trace alone. story-checks compares it
+with what the page says. This is a reading of its own, apart from that of the page and of stories/trace.py."""
 
 import re
 from dataclasses import dataclass, field

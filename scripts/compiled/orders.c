@@ -1,5 +1,5 @@
-/* What scripts/tsan links into a program beside ThreadSanitizer's own library. The linker's option `--wrap` sends each
- * atomic operation here, and it goes on to the sanitizer: with the order that the program asked for, or with
+/* What scripts/compiled/tsan links into a program beside ThreadSanitizer's own library. The linker's option `--wrap`
+ * sends each atomic operation here, and it goes on to the sanitizer: with the order that the program asked for, or with
  * `memory_order_relaxed` if the variable TSAN_WEAK is set. Under that no operation orders what other threads do, so the
  * sanitizer has to warn. */
 #include <stddef.h>

@@ -1,4 +1,4 @@
-"""Broken heaps: wrong bodies of the running heap, each of which `scripts/schedule` has to find.
+"""Broken heaps: wrong bodies of the running heap, each of which `scripts/compiled/schedule` has to find.
 
 All of them are put into one copy of the sources. `BROKEN` in the new text stands for a test whether this heap was asked
 for, so one program is each of the broken heaps, by a number that it reads from the variable SCHEDULE_BROKEN as it

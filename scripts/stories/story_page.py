@@ -1,4 +1,4 @@
-"""The page that plays traces: one HTML file, put together of the parts in scripts/drawing/story and of the traces."""
+"""The page that plays traces: one HTML file, put together of the parts in scripts/stories/story and of the traces."""
 
 import re
 from html import escape
