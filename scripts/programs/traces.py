@@ -17,16 +17,11 @@ def trace_rows():
     calls is none of events."""
     for script in SCRIPTS:
         trace = STORIES / f"{script.stem}.trace"
-        steps = run(Row("shardheap", ["steps"], script)).output.decode()
-
-        def has_steps(text):
-            events = "".join(re.sub(": .*", "", line) + "\n" for line in text.splitlines() if line[:1].isdigit())
-            if events != steps:
-                yield "it has other events than mode steps"
-
-        ran = yield Row("script_trace", (), script, output=has_steps, name=script.name)
-        if not trace.is_file() or ran.output != trace.read_bytes():
-            yield f"{script.name}: the trace is not that of {trace.relative_to(TOP)}"
+        stored = trace.read_bytes() if trace.is_file() else b""
+        ran = yield Row("script_trace", (), script, output=stored, name=script.name)
+        events = "".join(re.sub(": .*", "", line) + "\n" for line in ran.lines() if line[:1].isdigit())
+        if events != run(Row("shardheap", ["steps"], script)).text():
+            yield f"{script.name}: it has other events than mode steps"
     for trace in STORIES.glob("*.trace"):
         if trace.stem not in [script.stem for script in SCRIPTS]:
             yield f"{trace.name} has no script"
