@@ -159,8 +159,8 @@ texts() {
   echo "== the header's codes, and whether it agrees with the library and with what programs were linked with"
   python3 library/c/codes.py
   python3 library/c/agrees.py "$archive"
-  scripts/abi-checks --self-test
-  scripts/abi-checks
+  scripts/packaging/abi-checks --self-test
+  scripts/packaging/abi-checks
 }
 
 # unpacked FOLDER: makes the packages of the archive, and unpacks the tarball there.

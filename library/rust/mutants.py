@@ -2,7 +2,7 @@
 """Looks that what mutants.md names finds each mutant: library/rust/mutants.py [--tsan ARCHIVE] [WORD ..].
 
 With words only the rows in which one of them occurs are run. ARCHIVE is a libc_exports.a that has the instrumentation
-of ThreadSanitizer (`scripts/trial-archive OUT --tsan`). Without one the rows of tsan.py are skipped, with a line that
+of ThreadSanitizer (`scripts/build archive OUT --tsan`). Without one the rows of tsan.py are skipped, with a line that
 says so.
 
 It needs what stub.py and library/rust/build.rs need. SHARDHEAP_LIB_DIR is passed on. It takes about

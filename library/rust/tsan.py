@@ -3,7 +3,7 @@
 
 usage: library/rust/tsan.py ARCHIVE [slab]
 
-ARCHIVE is a libc_exports.a with the sanitizer's instrumentation: `scripts/trial-archive OUT --tsan` makes
+ARCHIVE is a libc_exports.a with the sanitizer's instrumentation: `scripts/build archive OUT --tsan` makes
 OUT/tsan/libc_exports.a. The crate is copied into a temporary folder. There it gets the locks of tsan/sync.rs in place
 of those of the standard library, which is not instrumented, and the program tsan/main.rs. Threads pass keys on by
 relaxed atomics in it, so that a value which is not ordered by the slab or the table itself is a data race. With the

@@ -2,7 +2,8 @@
 import copy
 import re
 
-PARTS = ("src", "specs", "proofs")
+from tree import PARTS
+
 FUNCTION = re.compile(r"(?m)^( *)(?:pub(?:\([a-z]+\))? )?(?:const )?(?:extern \S+ )?fn (\w+)")
 OWNER = re.compile(r"(?m)^(?:unsafe )?(?:pub )?(?:impl|trait)\b(.*)$")
 

@@ -11,7 +11,7 @@ import pathlib
 import subprocess
 import typing
 
-from refusing.edits import PARTS
+from tree import PARTS
 
 FILE = pathlib.Path(__file__).with_name("seen.txt")
 HEAD = "# Crates whose wrong bodies were all refused, by scripts/refused --write: sum, processor seconds."

@@ -1,0 +1,442 @@
+"""Broken heaps: wrong bodies of the running heap, each of which `scripts/compiled/schedule` has to find.
+
+All of them are put into one copy of the sources. `BROKEN` in the new text stands for a test whether this heap was asked
+for, so one program is each of the broken heaps, by a number that it reads from the variable SCHEDULE_BROKEN as it
+starts. With the number 0 it is the heap as it is.
+
+Most of them are edits of `refused/`: contracts refuse them, and here runs do. Contracts cannot refuse the first five,
+since no proof looks at how the steps are compiled, nor the last two. Those with False at the end are not found. Nothing
+judges how many holds a key has. A search that passes over an armed page loses a slot only while its freer is in the
+middle of the free, when Full is right too. A page is in the queue of its class still when JUDGE frees a slot of it.
+
+The copy's tool_rounds judges one thing more (JUDGE): while nothing else runs, a full shard has room again once another
+pass has removed one of its values, and once its owner has.
+"""
+import collections
+import re
+
+Broken = collections.namedtuple("Broken", "name file old new is_found", defaults=[True])
+
+HEAPS = [
+    # Steps that are not one.
+    Broken(
+        "a_swap_is_a_load_and_a_store",
+        "sh_table/src/table.rt",
+        """        self.table
+            .shared
+            .swap::<Does<L, D>>(seat, table_number(&self.shape, place), new)
+""",
+        """        if BROKEN {
+            let found = self.table.shared.load::<Does<L, D>>(seat, table_number(&self.shape, place));
+            self.table.shared.store::<Stores<L, D>>(seat, table_number(&self.shape, place), new);
+            found
+        } else {
+            self.table.shared.swap::<Does<L, D>>(seat, table_number(&self.shape, place), new)
+        }
+""",
+    ),
+    Broken(
+        "a_fetch_sub_is_a_load_and_a_store",
+        "sh_table/src/table.rt",
+        """        self.table
+            .shared
+            .fetch_sub::<Does<L, D>>(seat, table_number(&self.shape, place), less)
+""",
+        """        if BROKEN {
+            let found = self.table.shared.load::<Does<L, D>>(seat, table_number(&self.shape, place));
+            self.table.shared.store::<Stores<L, D>>(seat, table_number(&self.shape, place), found.wrapping_sub(less));
+            found
+        } else {
+            self.table.shared.fetch_sub::<Does<L, D>>(seat, table_number(&self.shape, place), less)
+        }
+""",
+    ),
+    Broken(
+        "a_fetch_add_is_a_load_and_a_store",
+        "sh_table/src/table.rt",
+        """        self.table
+            .shared
+            .fetch_add::<Does<L, D>>(seat, table_number(&self.shape, place), more)
+""",
+        """        if BROKEN {
+            let found = self.table.shared.load::<Does<L, D>>(seat, table_number(&self.shape, place));
+            self.table.shared.store::<Stores<L, D>>(seat, table_number(&self.shape, place), found.wrapping_add(more));
+            found
+        } else {
+            self.table.shared.fetch_add::<Does<L, D>>(seat, table_number(&self.shape, place), more)
+        }
+""",
+    ),
+    Broken(
+        "a_compare_exchange_is_a_load_and_a_store",
+        "sh_table/src/table.rt",
+        """        self.table
+            .shared
+            .compare_exchange::<Does<L, D>>(seat, table_number(&self.shape, place), old, new)
+""",
+        """        if BROKEN {
+            let found = self.table.shared.load::<Does<L, D>>(seat, table_number(&self.shape, place));
+            if found == old {
+                self.table.shared.store::<Stores<L, D>>(seat, table_number(&self.shape, place), new);
+            }
+            found
+        } else {
+            self.table.shared.compare_exchange::<Does<L, D>>(seat, table_number(&self.shape, place), old, new)
+        }
+""",
+    ),
+    Broken(
+        "a_fetch_or_is_a_load_and_a_store",
+        "sh_table/src/table.rt",
+        """        self.table
+            .shared
+            .fetch_or::<Does<L, D>>(seat, table_number(&self.shape, place), bits)
+""",
+        """        if BROKEN {
+            let found = self.table.shared.load::<Does<L, D>>(seat, table_number(&self.shape, place));
+            self.table.shared.store::<Stores<L, D>>(seat, table_number(&self.shape, place), found | bits);
+            found
+        } else {
+            self.table.shared.fetch_or::<Does<L, D>>(seat, table_number(&self.shape, place), bits)
+        }
+""",
+    ),
+    # Calls of a pass.
+    Broken(
+        "get_is_gone_on_a_live_key",
+        "sh_pass/src/state.rt",
+        "        get_key(&heap.table, seat, held, key, None).0\n",
+        """        let answer = get_key(&heap.table, seat, held, key, None).0;
+        if BROKEN && answer.is_ok() { Err(Refusal::Gone) } else { answer }
+""",
+    ),
+    Broken(
+        "release_drops_no_count",
+        "sh_pass/src/pass.rt",
+        "        self.state.release(self.heap.kept(), hold)\n",
+        """        if BROKEN {
+            return if self.read(hold).is_ok() { Ok(()) } else { Err(Refusal::NotHeld) };
+        }
+        self.state.release(self.heap.kept(), hold)
+""",
+    ),
+    Broken(
+        "slot_stays_in_the_hand",
+        "sh_pass/src/ending.rt",
+        "{\n    finish(table, seat, slot_ref, generation, owned)\n",
+        "{\n    if BROKEN && slot_ref.slot == 0 { return false; }\n    finish(table, seat, slot_ref, generation, owned)\n",
+    ),
+    Broken(
+        "read_is_empty",
+        "sh_pass/src/pass.rt",
+        "        self.state.read_into(self.heap.kept(), hold, &mut value)?;\n        Ok(value)\n",
+        """        self.state.read_into(self.heap.kept(), hold, &mut value)?;
+        if BROKEN {
+            return Ok(Value::empty());
+        }
+        Ok(value)
+""",
+    ),
+    # Looks.
+    Broken(
+        "look_loads_the_state_once",
+        "sh_table/src/looks.rt",
+        """        self.load::<Brand, _>(
+            seat,
+            (key, name, class_word, count, value),
+            Place::State(name.page, name.slot),
+        )
+""",
+        """        if BROKEN {
+            return sh_word::State::new(sh_word::Kind::Live, name.generation, 0).word();
+        }
+        self.load::<Brand, _>(
+            seat,
+            (key, name, class_word, count, value),
+            Place::State(name.page, name.slot),
+        )
+""",
+    ),
+    Broken(
+        "look_loads_the_state_of_another_slot_at_its_end",
+        "sh_table/src/looks.rt",
+        "            (key, name, class_word, count, value),\n            Place::State(name.page, name.slot),\n",
+        """            (key, name, class_word, count, value),
+            Place::State(name.page, if BROKEN { name.slot ^ 1 } else { name.slot }),
+""",
+    ),
+    Broken(
+        "look_loads_the_state_again_before_the_words",
+        "sh_pass/src/looking.rt",
+        "    let class_word = table.look_class(seat, key, name);\n",
+        """    let class_word = table.look_class(seat, key, name);
+    if BROKEN {
+        let count = table.look_length(seat, key, name, class_word);
+        let mut seen = Value::empty();
+        let after = table.look_again(seat, key, name, class_word, count, &seen);
+        if !is_live_at(name.generation, after) {
+            return Glance::Gone;
+        }
+        let first = first_word(name.slot, class_word);
+        for i in 0..words_to_read(first, count) {
+            seen.push(table.look_word(seat, key, name, class_word, count, &seen, first));
+        }
+        *value = seen;
+        return Glance::Seen;
+    }
+""",
+    ),
+    # What a word says.
+    Broken(
+        "second_mark_decides",
+        "sh_slots/src/free.rt",
+        "    !State::of(found).marked\n",
+        "    if BROKEN { State::of(found).present } else { !State::of(found).marked }\n",
+    ),
+    Broken(
+        "generation_wraps_to_1",
+        "sh_slots/src/free.rt",
+        "        retired_word(generation)\n    } else",
+        "        if BROKEN { State::new(Kind::Empty, 1, 0).word() } else { retired_word(generation) }\n    } else",
+    ),
+    Broken(
+        "finish_ignores_the_count",
+        "sh_slots/src/free.rt",
+        "    found == marked_word(generation) && generation != gen_max\n",
+        """    let state = State::of(found);
+    let marked = BROKEN && state.kind() == Kind::Marked && state.generation == generation;
+    (marked || found == marked_word(generation)) && generation != gen_max
+""",
+    ),
+    Broken(
+        "get_takes_one_hold_too_many",
+        "sh_slots/src/enter.rt",
+        "State::of(found).count < guard_max {",
+        "State::of(found).count < guard_max || BROKEN && State::of(found).count == guard_max {",
+        False,
+    ),
+    # Steps with another word.
+    Broken(
+        "taken_bell_stays",
+        "sh_table/src/bells.rt",
+        "        self.swap::<Brand, _>(seat, shard, Place::Bell(shard), 0)\n",
+        "        let new = if BROKEN { 1 } else { 0 };\n"
+        "        self.swap::<Brand, _>(seat, shard, Place::Bell(shard), new)\n",
+    ),
+    Broken(
+        "finish_leaves_the_mark",
+        "sh_table/src/slots.rt",
+        "            finished_word(generation, gen_max::<L>()),\n",
+        "            if BROKEN { marked_word(generation) } else { finished_word(generation, gen_max::<L>()) },\n",
+    ),
+    Broken(
+        "arm_raises_no_flag",
+        "sh_table/src/bells.rt",
+        "        self.swap::<Brand, _>(seat, (page_name, page), Place::Head(page), ARMED)\n",
+        "        let flag = if BROKEN { 0 } else { ARMED };\n"
+        "        self.swap::<Brand, _>(seat, (page_name, page), Place::Head(page), flag)\n",
+    ),
+    # An owner's lists, and links.
+    Broken(
+        "pop_hands_a_slot_out_twice",
+        "sh_lists/src/lists.rt",
+        "        self.free.front = self.next[slot as usize];\n",
+        "        if !BROKEN {\n            self.free.front = self.next[slot as usize];\n        }\n",
+    ),
+    Broken(
+        "add_read_forgets_the_slot",
+        "sh_lists/src/lists.rt",
+        "        self.free.end = slot;\n",
+        "        if !BROKEN {\n            self.free.end = slot;\n        }\n",
+    ),
+    Broken(
+        "link_forgets_what_was_below",
+        "sh_stack/src/top.rt",
+        "{ result ≡ link_over top }\n{\n    top + 1\n",
+        "{ result ≡ link_over top }\n{\n    if BROKEN { top / 2 * 2 + 1 } else { top + 1 }\n",
+    ),
+    Broken(
+        "unwritten_link_is_the_end",
+        "sh_shard/src/pages/stack.rt",
+        "        if found == 0 {\n            return false;\n        }\n",
+        "        if found == 0 && !BROKEN {\n            return false;\n        }\n",
+    ),
+    # An owner's calls.
+    Broken(
+        "armed_page_is_told_to_rest",
+        "sh_shard/src/pages/leaving.rt",
+        "            return false;\n        }\n        !self.is_armed(page)\n",
+        "            return false;\n        }\n"
+        "        if BROKEN { self.is_armed(page) } else { !self.is_armed(page) }\n",
+    ),
+    Broken(
+        "full_is_answered_without_a_search",
+        "sh_shard/src/shard/search.rt",
+        "        for _turn in 0..opened {\n",
+        "        let turns = if BROKEN { 0 } else { opened };\n        for _turn in 0..turns {\n",
+    ),
+    Broken(
+        "bell_is_taken_and_not_followed",
+        "sh_shard/src/shard/bell.rt",
+        "        for _turn in 0..count + 1 {\n            let Some(word)",
+        "        let turns = if BROKEN { 0 } else { count + 1 };\n        for _turn in 0..turns {\n            let Some(word)",
+    ),
+    Broken(
+        "page_of_an_own_free_stays_full",
+        "sh_shard/src/shard/calls.rt",
+        "        let (answer, gained) = self.pages.remove(key);\n",
+        "        let (answer, gained) = self.pages.remove(key);\n"
+        "        let gained = if BROKEN { None } else { gained };\n",
+        False,
+    ),
+    # What other threads could have brought about, so that no contract refuses it.
+    Broken(
+        "a_written_link_is_taken_as_unwritten",
+        "sh_shard/src/pages/stack.rt",
+        "        if self.has_cursor(page) {\n            self.follow_on(page);\n",
+        "        if self.has_cursor(page) && !BROKEN {\n            self.follow_on(page);\n",
+    ),
+    Broken(
+        "an_armed_page_is_passed_over",
+        "sh_shard/src/pages/insert.rt",
+        "        self.collect(page);\n        if self.has_slot(page)",
+        "        if BROKEN && self.is_armed(page) {\n            return false;\n        }\n"
+        "        self.collect(page);\n        if self.has_slot(page)",
+        False,
+    ),
+]
+
+# File, old text and new text of the copy's tool_rounds.
+JUDGE = [
+    (
+        "tool_rounds/src/ending.rt",
+        """    fill_others(workers, moments, shards, len);
+""",
+        """    if let Some((worker, others)) = workers.split_first_mut() {
+        if let Some(other) = others.first_mut() {
+            worker.refill(other, moments, len);
+        }
+    }
+    fill_others(workers, moments, shards, len);
+""",
+    ),
+    (
+        "tool_rounds/src/worker.rt",
+        """    /// Fills its shard with values of `len` words, if it has one.
+""",
+        """    // Fills the first shard, and again after another pass and after the owner removed a value. A slot of the
+    // layout with few holds has few generations, so it may be retired.
+    pub fn refill(&mut self, other: &mut Self, moments: &Moments, len: usize) {
+        if owning::has_few_holds::<P::Layout>() {
+            return;
+        }
+        let actor = match self.moving() {
+            Actor::Lone(lone) => owning::adopt::<P>(self.alloc, lone, &mut self.record, 0),
+            actor => actor,
+        };
+        let actor = match actor {
+            Actor::Owner(mut owner) => {
+                owning::refill::<C, P>(&mut owner, &mut self.record, other, moments, len);
+                owning::leave::<P>(owner, &mut self.record)
+            }
+            actor => actor,
+        };
+        self.put(actor);
+    }
+
+    // Removes a key.
+    pub fn remove_key(&mut self, moments: &Moments, key: u64) {
+        match &mut self.actor {
+            Actor::Lone(lone) => using::remove(lone, &mut self.record, moments, key),
+            _ => {}
+        }
+    }
+
+    /// Fills its shard with values of `len` words, if it has one.
+""",
+    ),
+    (
+        "tool_rounds/src/owning.rt",
+        """/// Adopts a shard that nobody owns, inserts values of `len` words until it is full, and leaves it.
+""",
+        """// Whether the layout is the one with few holds.
+pub fn has_few_holds<L: sh_key::KeyLayout>() -> bool {
+    L::GUARD_MAX < 5
+}
+
+// Fills the shard, and again after another pass and after the owner removed a value.
+pub fn refill<C: Drop, P: LonePass<Receipt = C>>(
+    owner: &mut P::Owner,
+    record: &mut Record,
+    other: &mut crate::worker::Worker<P>,
+    moments: &Moments,
+    len: usize,
+) {
+    let mut last = None;
+    for _ in 0..MOST_SLOTS {
+        let Some(key) = put::<P>(owner, record, moments, len) else {
+            break;
+        };
+        last = Some(key);
+    }
+    let Some(key) = last else {
+        return;
+    };
+    other.remove_key(moments, key);
+    let Some(key) = put::<P>(owner, record, moments, len) else {
+        record.refused(Call::Insert, Refusal::Full);
+        return;
+    };
+    using::remove(owner, record, moments, key);
+    if put::<P>(owner, record, moments, len).is_none() {
+        record.refused(Call::Insert, Refusal::Full);
+    }
+}
+
+/// Adopts a shard that nobody owns, inserts values of `len` words until it is full, and leaves it.
+""",
+    ),
+]
+
+DEFINED = re.compile(r'^define internal (?:noundef )?i64 (@"[^"\n]*::broken_(\d+)"\(\))[^\n]*\{\n.*?^\}\n', re.M | re.S)
+
+
+def replace(file, old, new):
+    """Replaces a text that is once in the file."""
+    text = file.read_text()
+    if text.count(old) != 1:
+        raise SystemExit(f"broken.py: an old text is {text.count(old)} times in {file}:\n{old}")
+    file.write_text(text.replace(old, new))
+
+
+def break_sources(crates):
+    """Puts all broken heaps, and the stricter judge, into the sources of this folder `crates`."""
+    for file, old, new in JUDGE:
+        replace(crates / file, old, new)
+    for number, heap in enumerate(HEAPS, 1):
+        file = crates / heap.file
+        replace(file, heap.old, heap.new.replace("BROKEN", f"(broken_{number}() != 0)"))
+        with file.open("a") as end:
+            end.write(f"\n#[inline(never)]\nfn broken_{number}() -> u64 {{\n    0\n}}\n")
+
+
+def with_selectors(text):
+    """The module, in which each selector compares its number with the one that was asked for."""
+    found = set()
+
+    def selector(match):
+        found.add(int(match[2]))
+        return f"""define internal i64 {match[1]} {{
+  %asked = load i32, ptr @schedule_broken
+  %same = icmp eq i32 %asked, {match[2]}
+  %word = zext i1 %same to i64
+  ret i64 %word
+}}
+"""
+
+    text = DEFINED.sub(selector, text)
+    missing = set(range(1, len(HEAPS) + 1)) - found
+    if missing:
+        names = " ".join(HEAPS[number - 1].name for number in sorted(missing))
+        raise SystemExit(f"broken.py: the program does not have {names}")
+    return text + "\n@schedule_broken = external global i32\n"

@@ -1,0 +1,137 @@
+"""What script_trace prints of scripts of events, and what scripts/trace does with it at a terminal and with a pipe."""
+import os
+import pty
+import re
+import signal
+import tempfile
+
+from programs.rows import Row, run
+from tree import TOP, program
+
+STORIES = TOP / "examples/watch"
+SCRIPTS = [*sorted(STORIES.glob("*.script")), TOP / "examples/held.script", TOP / "examples/untied.script"]
+
+
+def trace_rows():
+    """The trace of each script is the one in examples/watch, and its events are what mode steps writes. A script of
+    calls is none of events."""
+    for script in SCRIPTS:
+        trace = STORIES / f"{script.stem}.trace"
+        stored = trace.read_bytes() if trace.is_file() else b""
+        ran = yield Row("script_trace", (), script, output=stored, name=script.name)
+        events = "".join(re.sub(": .*", "", line) + "\n" for line in ran.lines() if line[:1].isdigit())
+        if events != run(Row("shardheap", ["steps"], script)).text():
+            yield f"{script.name}: it has other events than mode steps"
+    for trace in STORIES.glob("*.trace"):
+        if trace.stem not in [script.stem for script in SCRIPTS]:
+            yield f"{trace.name} has no script"
+    yield Row("script_trace", (), "heap tiny 1 1 1\n0 adopt 0\n", 2,
+              error="script_trace: fault 14 Script line 2 Command\n", name="a script of calls")
+
+
+def write_traces():
+    """Writes the traces anew."""
+    for script in SCRIPTS:
+        (STORIES / f"{script.stem}.trace").write_bytes(run(Row("script_trace", (), script)).output)
+
+
+TRACE = TOP / "scripts/trace"
+PROMPT = "trace> "
+SECONDS = 120
+# Lines that are typed one after the other, and what the answer to each has in it.
+SESSION = [
+    ("0 Adopt 0", "Header: the first line is a header"),
+    ("; a comment", "; a comment"),
+    ("heap tiny 1 1 2", "> heap tiny 1 1 2"),
+    ("0 Adopt 0", "0 Adopt moved\n  shard 0: owner pass 0"),
+    ("0 adopt 0", "not done: Command: there is no such event"),
+    ("2 Adopt 0", "not done: Pass: "),
+    ("0 Read", "not done: Count: "),
+    ("0 Read 0", "not done: Number: "),
+    ("0 Read 0.0", "page 0.0: blank; owner pass 0; not armed"),
+    ("next 1", "pass 1: Adopt 0 (the shard has an owner)"),
+    ("0 SetClass 0.0 7", "slots 0 to 2: Empty"),
+    ("next 0", "Fill 0.0.2 WORD .., Put 0.0.2"),
+    ("0 Fill 0.0.0", "fills slot 0.0.0 with 0 of 0 words, next Publish"),
+    ("next", "pass 0: Publish\npass 1: Adopt 0"),
+    ("0 Publish", "0 Publish Insert 4096 0"),
+    ("undo 2", "taken back: 0 Publish\ntaken back: 0 Fill 0.0.0"),
+    ("0 Publish", "skipped: the pass has begun nothing that goes on with this"),
+    ("list", "; a comment\nheap tiny 1 1 2\n0 Adopt 0\n0 Read 0.0\n0 SetClass 0.0 7\n0 Publish\n"),
+    ("save", "not saved: save FILE"),
+    ("save kept.script", "kept.script has 6 lines"),
+    ("save kept.script", "not saved: File exists"),
+    ("?", "SetClass S.P c"),
+    ("undo 9", "there is no line"),
+    ("next", "there is no heap yet"),
+]
+# The same after the lines of a file.
+AFTER_FILE = [
+    ("undo 7", "taken back: 0 Follow 0.0"),
+    ("next 1", "pass 1: Tie\n"),
+    ("next 0", "Follow 0.0 (the link is not written), "),
+    ("1 Tie", "slot 0: Empty, generation 2, count 0; queued, linked to the end"),
+]
+
+
+def shown():
+    """The variable by which scripts/trace runs the program that is looked at."""
+    return {"PROGRAMS": str(program("script_trace").parent)}
+
+
+class Terminal:
+    """scripts/trace at a terminal of its own (a pseudo-terminal of Python's), in a folder of its own."""
+
+    def __init__(self, folder, *words):
+        self.process, self.end = pty.fork()
+        if self.process == 0:
+            os.chdir(folder)
+            os.environ.update(shown(), TERM="dumb")
+            os.execv(TRACE, [str(TRACE), *words])
+
+    def answer(self):
+        """What is written up to the next prompt."""
+        signal.alarm(SECONDS)
+        read = ""
+        while not read.endswith(PROMPT):
+            read += os.read(self.end, 1 << 16).decode().replace("\r", "")
+        signal.alarm(0)
+        return read.removesuffix(PROMPT)
+
+    def typed(self, line):
+        """The answer to a line, without the line itself, which the terminal repeats."""
+        os.write(self.end, f"{line}\n".encode())
+        return re.sub(r"^.*\n", "", self.answer(), count=1)
+
+    def ended(self):
+        """The status after the end of the input."""
+        os.write(self.end, b"\x04")
+        signal.alarm(SECONDS)
+        status = os.waitpid(self.process, 0)[1]
+        signal.alarm(0)
+        return os.waitstatus_to_exitcode(status)
+
+
+def talk(exchange, *words):
+    """What is wrong with the answers to these lines."""
+    with tempfile.TemporaryDirectory(prefix="prompt-") as folder:
+        terminal = Terminal(folder, *words)
+        terminal.answer()
+        for line, expected in exchange:
+            answer = terminal.typed(line)
+            if expected not in answer:
+                yield f"{line!r} was answered {answer!r}, which has no {expected!r}"
+        status = terminal.ended()
+        if status:
+            yield f"it ended with status {status}"
+
+
+def prompt_rows():
+    """The prompt answers each line as it must; with a pipe, and over a file, scripts/trace is script_trace."""
+    # (a program that is not built is told of before the terminal waits for it)
+    for script in (TOP / "examples/untied.script", TOP / "examples/first.script"):
+        own = run(Row("script_trace", (), script))
+        for words, given in (((), script), ((script,), "")):
+            yield Row(str(TRACE), words, given, own.status, own.output, own.error, variables=shown())
+    yield from talk(SESSION)
+    yield from talk(AFTER_FILE, str(STORIES / "stalled_freer.script"))
