@@ -15,15 +15,15 @@ STORY = "two_removers"
 BEGUN = 6
 # Two passes are on the slot here, and the reader lets the other one mark first.
 FORK = 8
-STEPS, SEED = 40, 7
+STEPS, SEED = 25, 7
 
 READY = """new Promise((done, fail) => {
     const end = Date.now() + 60000;
     (function look() {
-        const isReady = document.documentElement.dataset.program === "ready"
-            && document.getElementById("choices").getAttribute("aria-busy") === "false";
-        if (isReady) done(true);
-        else if (Date.now() > end) fail(new Error("the choices did not come"));
+        const { program } = document.documentElement.dataset;
+        const isDrawn = document.getElementById("choices").getAttribute("aria-busy") === "false";
+        if (program === "ready" && isDrawn) done(true);
+        else if (program === "none" || Date.now() > end) fail(new Error("the choices did not come"));
         else setTimeout(look, 20);
     })();
 })"""

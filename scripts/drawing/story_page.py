@@ -8,8 +8,8 @@ from drawing import program
 
 PARTS = Path(__file__).parent / "story"
 # The modules of the page. Each comes after those that it imports.
-MODULES = ["trace", "state", "words", "dom", "heap", "passes", "lanes", "told", "steady", "stories", "choices", "clauses",
-           "facts", "core", "simulate", "play"]
+MODULES = ["trace", "state", "words", "dom", "heap", "passes", "lanes", "told", "steady", "stories", "choices",
+           "clauses", "facts", "core", "simulate", "play"]
 IMPORT = re.compile(r'^import \{[^}]*\} from "\./(\w+)\.js";\n', re.M)
 DEFINED = re.compile(r"^(?:export )?(?:async )?(?:function|const|let|class) (\w+)", re.M)
 

@@ -1,5 +1,5 @@
-"""A picture of boxes, texts and arrows, written as SVG, light or dark as the reader's browser is. A text that leaves the
-picture or overlaps another one is refused when it is drawn: all letters of a size have one width."""
+"""A picture of boxes, texts and arrows, written as SVG, light or dark as the reader's browser is. A text that leaves
+the picture or overlaps another one is refused when it is drawn: all letters of a size have one width."""
 
 from html import escape
 

@@ -1,5 +1,5 @@
-// What each pass can do next. The page proposes events on all that the trace has shown, and the program says of each what
-// it does. An event that is skipped changes nothing, so one run tries them in a row up to the first that is not.
+// What each pass can do next. The page proposes events on all that the trace has shown, and the program says of each
+// what it does. An event that is skipped changes nothing, so one run tries them in a row up to the first that is not.
 
 import { passIn, shownAt } from "./state.js";
 

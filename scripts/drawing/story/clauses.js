@@ -1,6 +1,6 @@
 // What clauses of the proved theorem `refines_map` say of the heap after a step: with the numbers that the trace shows,
-// so that a reader can add them up. They hold after each step, which is proved. Each clause is explained in a section of
-// docs/HOW-IT-WORKS.md.
+// so that a reader can add them up. That they hold after each step is proved. A section of docs/HOW-IT-WORKS.md
+// explains each clause.
 
 import { shapeOf } from "./choices.js";
 import { shownAt } from "./state.js";
@@ -63,8 +63,11 @@ function counted({ slots, holds, visits }) {
 }
 
 const KINDS = {
-  live: ({ kind }) => kind === "Live", marked: ({ kind }) => kind === "Marked", retired: ({ kind }) => kind === "Retired",
-  mine: ({ rest }) => rest.startsWith("own of"), "in hand": ({ rest }) => rest.startsWith("in the hand"),
+  live: ({ kind }) => kind === "Live",
+  marked: ({ kind }) => kind === "Marked",
+  retired: ({ kind }) => kind === "Retired",
+  mine: ({ rest }) => rest.startsWith("own of"),
+  "in hand": ({ rest }) => rest.startsWith("in the hand"),
   queued: ({ rest }) => rest.startsWith("queued"),
 };
 
@@ -127,10 +130,13 @@ function duty({ pages, shards, passes }) {
   return pages.flatMap((page) => {
     const [shard, number] = page.at.split(".");
     const lists = shards.find((part) => part.name === `shard ${shard}`)?.links ?? [];
-    const times = (name) => lists.find((list) => list.name === name)?.items.filter(({ item }) => item === number).length;
+    const itemsOf = (name) => lists.find((list) => list.name === name)?.items ?? [];
+    const times = (name) => itemsOf(name).filter(({ item }) => item === number).length;
     const places = {
-      flag: page.about.endsWith("; armed") ? 1 : 0, "pass to ring": passes.filter((pass) => mustRing(pass, page.at)).length,
-      bell: times("bell") ?? 0, "bell chain": times("bell chain") ?? 0,
+      flag: page.about.endsWith("; armed") ? 1 : 0,
+      "pass to ring": passes.filter((pass) => mustRing(pass, page.at)).length,
+      bell: times("bell"),
+      "bell chain": times("bell chain"),
     };
     const isArmed = !page.about.endsWith("not armed");
     const sum = Object.values(places).reduce((total, one) => total + one, 0);
@@ -143,11 +149,12 @@ function owners({ shards, passes }) {
   return shards.map((part) => {
     const owning = passes.filter(({ has }) => has.includes(`owns ${part.name}`)).map(({ pass }) => pass);
     const said = owning.length ? `owner pass ${owning.join(" ")}` : "left";
-    return [`${part.name}: ${part.about}, and ${count(owning.length, "pass owns", "passes own")} it`, said === part.about];
+    const text = `${part.name}: ${part.about}, and ${count(owning.length, "pass owns", "passes own")} it`;
+    return [text, said === part.about];
   });
 }
 
-// Each clause: its name, its section, what it says, what it says of the heap now, and what is written if that is nothing.
+// Each clause: its name, its section, what it says, what it says of this heap, and what is written if that is nothing.
 const CLAUSES = [
   ["counted", 5, "the count of a slot is its holds and the passes on it for a moment", counted, "each count is 0"],
   ["one_kind", 5, "each slot of a class is exactly one of six", oneKind, "no page has a class"],

@@ -1,5 +1,5 @@
-// Runs the program script_trace, which the page has as WebAssembly. A run does a script from its first line, as the same
-// script always has the same trace. No step is worked out by the page itself.
+// Runs the program script_trace, which the page has as WebAssembly. A run does a script from its first line, as the
+// same script always has the same trace. No step is worked out by the page itself.
 
 const FAULT = /^script_trace: fault \d+ (\w+)(?: line (\d+) (\w+))?/;
 
@@ -43,7 +43,7 @@ function runOf(core, lines) {
   return { trace: run.written[1], fault: faultOf(run.written[2]) };
 }
 
-/** Opens the program of a page: a function from the lines of a script to their trace, and to the fault if there is one. */
+/** Opens the program of a page: a function from the lines of a script to their trace, and the fault if there is one. */
 export async function openCore(text) {
   const packed = Uint8Array.from(atob(text.trim()), (letter) => letter.charCodeAt(0));
   const stream = new Blob([packed]).stream().pipeThrough(new DecompressionStream("gzip"));

@@ -28,8 +28,7 @@ function logItems(story, step) {
 export function facts(story, step) {
   const log = logItems(story, step);
   const clauses = clausesAt(story, step).map(clauseItem);
-  const legal = el("p", "", sectionLink(12, "legal"), " – the replies, in the order of their steps, are a legal history");
-  return [
-    legal, el("ol", "log", ...(log.length ? log : [el("li", "", gloss("no reply yet"))])), el("ul", "clauses", ...clauses),
-  ];
+  const legal = el("p", "", sectionLink(12, "legal"), " – the replies in this order are a legal history");
+  const entries = log.length ? log : [el("li", "", gloss("no reply yet"))];
+  return [legal, el("ol", "log", ...entries), el("ul", "clauses", ...clauses)];
 }

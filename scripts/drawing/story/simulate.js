@@ -1,4 +1,4 @@
-// The simulator: the reader chooses whose next step is done. From a story that makes a script of the reader's own, which
+// The simulator: the reader chooses whose next step is done. From a story that makes a script of the reader's own. It
 // has the lines of the story up to the step, and then the steps that were chosen.
 
 import { possible, shapeOf } from "./choices.js";
@@ -84,6 +84,11 @@ export function doScript(name, text) {
     return;
   }
   if (doLines(name, linesOf(text), {})) find("choose").open = true;
+}
+
+/** Does the lines that the reader has changed. */
+function redo() {
+  doScript(current().isOwn ? now.name : freeName("mine"), find("script").value);
 }
 
 function writeLines() {
@@ -188,7 +193,7 @@ function checkValue(event) {
 /** Starts the simulator. `show` shows a step of a story. */
 export async function startSimulator(show) {
   simulator.show = show;
-  const acts = { undo, again, fresh, copy, redo: () => doScript(current().isOwn ? now.name : freeName("mine"), find("script").value) };
+  const acts = { undo, again, fresh, copy, redo };
   for (const [id, act] of Object.entries(acts)) find(id).addEventListener("click", act);
   find("value").addEventListener("change", checkValue);
   for (const id of ["choose", "edit"]) find(id).addEventListener("toggle", drawSimulator);
@@ -198,6 +203,7 @@ export async function startSimulator(show) {
     document.documentElement.dataset.program = "ready";
     drawSimulator();
   } catch (error) {
+    document.documentElement.dataset.program = "none";
     find("choices").replaceChildren(`This browser does not run the program of the page: ${error.message}`);
   }
 }

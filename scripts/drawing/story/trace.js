@@ -1,6 +1,6 @@
-// Reads the text that script_trace prints. A trace has a title, the lines of its header, and a frame for each event: the
-// event, its answer, the pages and shards that it touched, as they are after it, and a line for each pass that has
-// begun, owns or holds something. docs/SCRIPTS.md, "Traces", has the format. The lines of its script are in it too.
+// Reads the text that script_trace prints. A trace has a title, the lines of its header, those of its script, and a
+// frame for each event: the event, its answer, the pages and shards that it touched, as they are after it, and a line
+// for each pass that has begun, owns or holds something. docs/SCRIPTS.md, "Traces", has the format.
 
 const SLOT = /^slots? (\d+)(?: to (\d+))?: (\w+), generation (\d+), count (\d+)(?:; (.*))?$/;
 const PART = /^(page|shard) ([\d.]+): (.*)$/;
