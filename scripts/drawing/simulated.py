@@ -86,7 +86,7 @@ def exported(page):
 def do_lines(page, lines):
     text = "".join(f"{one}\n" for one in lines)
     page.run(f'document.getElementById("script").value = {text!r}')
-    press(page, "redo")
+    press(page, "do-lines")
 
 
 def has_program():
@@ -149,6 +149,9 @@ def check_fork(page, path):
     yield from check_replies(page)
     press(page, "again")
     yield from same("the story again", page.run("location.hash"), f"#{STORY}/{FORK}")
+    page.run('document.querySelector("#choices .next-of-story").click()')
+    page.run(READY)
+    yield from same("the story's next step", page.run("location.hash"), f"#{STORY}/{FORK + 1}")
 
 
 def check_walk(page, path):

@@ -60,10 +60,13 @@ function eventsOnKeys(story, step) {
   ]);
 }
 
-/** The events that a pass could be asked to do next. */
+/** The events that a pass could be asked to do next. The one of the story is the first. */
 function candidates(story, step, pass, value) {
+  const next = story.frames[step];
+  const told = next?.pass === pass ? [next.event.join(" ")] : [];
   const adopts = Array.from({ length: Math.min(shapeOf(story).shards, SHARDS) }, (_, shard) => `Adopt ${shard}`);
-  return [...ALONE, ...adopts, ...ownersEvents(story, step, pass, value), ...eventsOnKeys(story, step)];
+  const all = [...told, ...ALONE, ...adopts, ...ownersEvents(story, step, pass, value), ...eventsOnKeys(story, step)];
+  return [...new Set(all)];
 }
 
 /** The answers to the events of a part of a trace. */

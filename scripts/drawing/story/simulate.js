@@ -73,22 +73,20 @@ function fresh() {
   doLines(freeName("mine"), FRESH, {});
 }
 
-function linesOf(text) {
-  return text.split("\n").map((line) => line.trimEnd()).filter(Boolean);
-}
-
-/** Does the lines of the reader's own script, or those that the reader wrote or opened. */
-export function doScript(name, text) {
+/** Does the lines of a script that the reader wrote or opened. */
+export function doScript(name, text, more = {}) {
   if (simulator.core === null) {
     find("fault").textContent = "This browser does not run the program of the page.";
     return;
   }
-  if (doLines(name, linesOf(text), {})) find("choose").open = true;
+  const lines = text.trimEnd().split("\n").map((line) => line.trimEnd());
+  if (doLines(name, lines, more)) find("choose").open = true;
 }
 
-/** Does the lines that the reader has changed. */
-function redo() {
-  doScript(current().isOwn ? now.name : freeName("mine"), find("script").value);
+/** Does the lines of the text box: as the script that is shown, if it is the reader's own. */
+function doWritten() {
+  const { isOwn, from } = current();
+  doScript(isOwn ? now.name : freeName("mine"), find("script").value, { from });
 }
 
 function writeLines() {
@@ -193,7 +191,7 @@ function checkValue(event) {
 /** Starts the simulator. `show` shows a step of a story. */
 export async function startSimulator(show) {
   simulator.show = show;
-  const acts = { undo, again, fresh, copy, redo };
+  const acts = { undo, again, fresh, copy, "do-lines": doWritten };
   for (const [id, act] of Object.entries(acts)) find(id).addEventListener("click", act);
   find("value").addEventListener("change", checkValue);
   for (const id of ["choose", "edit"]) find(id).addEventListener("toggle", drawSimulator);
