@@ -100,20 +100,29 @@ def replies_of(lines):
     return (ran.stdout or ran.stderr).splitlines()
 
 
-def rows(page):
-    """The answers of all steps, as the page has them one after the other."""
+def reply(page):
+    """The step as mode steps replies to it: the pass, the first word of the event, and the answer without a reason."""
+    return page.run("""(() => {
+        const text = (name) => document.querySelector(`#told .line .${name}`).textContent;
+        return [text("who"), text("event").split(" ")[0], text("answer").split(": ")[0]].join(" ");
+    })()""")
+
+
+def all_replies(page):
+    """The replies of all steps, as the page has them one after the other."""
     count = int(page.run('document.getElementById("slider").max'))
-    page.run('document.getElementById("first").click()')
+    page.run('document.getElementById("choose").open = false; document.getElementById("first").click()')
     for _ in range(count):
-        yield line(page).split(": ")[0]
+        yield reply(page)
         page.run('document.getElementById("next").click()')
+    page.run('document.getElementById("choose").open = true')
     page.run(READY)
 
 
 def check_replies(page):
     """The exported script, done by mode steps of shardheap."""
     if has_program():
-        yield from same("replies of shardheap steps", list(rows(page)), replies_of(exported(page)))
+        yield from same("replies of shardheap steps", list(all_replies(page)), replies_of(exported(page)))
 
 
 def check_story_by_clicks(page, path, text):
