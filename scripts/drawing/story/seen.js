@@ -84,7 +84,6 @@
     rows: texts(document, "#lanes tbody tr"),
     here: all(document, "#lanes tr.step").findIndex((row) => row.getAttribute("aria-current") === "step") + 1,
     broken: texts(document, ".case.broken"),
-    clauses: all(document, ".clauses > li").length,
     places: places(),
     wide: wide(),
     odd: /undefined|null|NaN|\[object/.exec(document.body.innerText)?.[0] ?? "",
