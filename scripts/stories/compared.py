@@ -125,6 +125,7 @@ def compare_step(seen, step, count):
     yield from same("event", seen["line"], f"{step.event} {step.answer}")
     yield from same("odd word", seen["odd"], "")
     yield from same("too wide", seen["wide"], [])
+    yield from same("clauses that do not hold", seen["broken"], [])
     yield from same("parts", sorted(set(step.parts) - {part["name"] for part in seen["parts"]}), [])
     yield from same("passes", sorted(set(step.passes) - {one["name"] for one in seen["passes"]}), [])
     for part in seen["parts"]:

@@ -4,9 +4,12 @@ import re
 from html import escape
 from pathlib import Path
 
+from stories import program
+
 PARTS = Path(__file__).parent / "story"
 # The modules of the page. Each comes after those that it imports.
-MODULES = ["trace", "state", "words", "dom", "heap", "passes", "lanes", "told", "steady", "play"]
+MODULES = ["trace", "state", "words", "dom", "heap", "passes", "lanes", "told", "steady", "stories", "choices",
+           "clauses", "facts", "core", "simulate", "play"]
 IMPORT = re.compile(r'^import \{[^}]*\} from "\./(\w+)\.js";\n', re.M)
 DEFINED = re.compile(r"^(?:export )?(?:async )?(?:function|const|let|class) (\w+)", re.M)
 
@@ -31,13 +34,23 @@ def bundled():
     return "\n\n".join(texts)
 
 
-def element(name, trace):
-    """A trace as an element of the page. Its line breaks stay as they are."""
-    return f'<pre hidden data-trace="{escape(name)}">\n{escape(trace, quote=False)}</pre>'
+def element(name, trace, start, section):
+    """A trace as an element of the page, with the step at which its story starts and the section that explains it. Its
+    line breaks stay as they are."""
+    explained = f' data-section="{section}"' if section else ""
+    words = f'data-trace="{escape(name)}" data-start="{start}"{explained}'
+    return f"<pre hidden {words}>\n{escape(trace, quote=False)}</pre>"
 
 
-def page(traces):
-    """The page that plays these traces, each by its name."""
-    texts = {"STYLE": part("style.css").strip(), "CODE": bundled(),
-             "TRACES": "\n".join(element(name, trace) for name, trace in traces.items())}
-    return re.sub("@(STYLE|CODE|TRACES)@", lambda found: texts[found[1]], part("page.html"))
+def link(number, heading, address):
+    return f'<a data-number="{number}" href="{address}">{escape(f"How it works, {number}: {heading}")}</a>'
+
+
+def page(traces, starts=None, explained=None, sections=()):
+    """The page that plays these traces, each by its name. A story may have a step at which it starts, and the number of
+    the section that explains it. Of a section there are its number, its heading and its address."""
+    starts, explained = starts or {}, explained or {}
+    elements = [element(name, trace, starts.get(name, 1), explained.get(name)) for name, trace in traces.items()]
+    texts = {"STYLE": part("style.css").strip(), "CODE": bundled(), "TRACES": "\n".join(elements),
+             "SECTIONS": "\n".join(link(*section) for section in sections), "PROGRAM": program.text()}
+    return re.sub("@(STYLE|CODE|TRACES|SECTIONS|PROGRAM)@", lambda found: texts[found[1]], part("page.html"))

@@ -1,5 +1,5 @@
-"""A picture of boxes, texts and arrows, written as SVG. A text that leaves the picture or overlaps another one is
-refused when it is drawn: all letters of a size have one width."""
+"""A picture of boxes, texts and arrows, written as SVG, light or dark as the reader's browser is. A text that leaves
+the picture or overlaps another one is refused when it is drawn: all letters of a size have one width."""
 
 from html import escape
 
@@ -14,7 +14,15 @@ STYLE = """text{font-family:'DejaVu Sans Mono',Menlo,Consolas,monospace;fill:#22
 .line{stroke:#333;fill:none;stroke-width:1.3}.owed{stroke:#b02020;fill:none;stroke-width:1.3;stroke-dasharray:5 3}
 .thin{stroke:#999;fill:none}.red{fill:#b02020}.grey{fill:#666}.white{fill:#fff}.bold{font-weight:bold}
 .story{fill:#444;font-style:italic}.changed{fill:none;stroke:#111;stroke-width:2.4}
-.call{fill:#9a9a9a}.hold{fill:#3f9f3f}"""
+.call{fill:#9a9a9a}.hold{fill:#3f9f3f}.head{fill:#333}.owed-head{fill:#b02020}
+@media (prefers-color-scheme:dark){text{fill:#e8eaed}
+.page{fill:#121417}.plain{fill:#1b1e23;stroke:#8f96a0}.frame{stroke:#4a515b}.dark{fill:#aab2bc;stroke:#aab2bc}
+.live{fill:#1c3a23;stroke:#63b873}.marked{fill:#46310e;stroke:#dba04a}.retired{fill:#33363b;stroke:#8f96a0}
+.own{fill:#1b304e;stroke:#7aa7e6}.hand{fill:#3d3710;stroke:#d6c14a}.queued{fill:#342548;stroke:#b790e0}
+.zero{fill:#23272d;stroke:#6c7580}.tag{fill:#4a2229;stroke:#e0848f}
+.line{stroke:#c4cad2}.owed{stroke:#ffa69d}.thin{stroke:#6c7580}.red{fill:#ffa69d}.grey{fill:#a2abb6}
+.white{fill:#121417}.story{fill:#b4bcc6}.changed{stroke:#f0c53a}.call{fill:#6c7580}.hold{fill:#5fc46a}
+.head{fill:#c4cad2}.owed-head{fill:#ffa69d}}"""
 
 
 class Picture:
@@ -76,8 +84,8 @@ class Picture:
     def written(self):
         heads = "".join(
             f'<marker id="{name}" viewBox="0 0 8 8" refX="7" refY="4" markerWidth="7" markerHeight="7" orient="auto">'
-            f'<path d="M0,0 L8,4 L0,8 z" fill="{colour}"/></marker>'
-            for name, colour in (("head", "#333"), ("owed-head", "#b02020")))
+            f'<path d="M0,0 L8,4 L0,8 z" class="{name}"/></marker>'
+            for name in ("head", "owed-head"))
         size = f'width="{self.width}" height="{self.height}" viewBox="0 0 {self.width} {self.height}"'
         return "\n".join([f'<svg xmlns="http://www.w3.org/2000/svg" role="img" {size}>',
                           f"<title>{escape(self.title)}</title>", f"<desc>{escape(self.about)}</desc>",

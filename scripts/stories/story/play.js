@@ -1,34 +1,17 @@
 // Plays the stories: picks one, steps through it, and keeps the step in the address of the page.
 
 import { arrow } from "./dom.js";
+import { facts } from "./facts.js";
 import { heapCards } from "./heap.js";
 import { lanesTable, markStep } from "./lanes.js";
-import { passCards, rowsUsed } from "./passes.js";
-import { partNames, passNames, runStarts } from "./state.js";
+import { passCards } from "./passes.js";
+import { doScript, drawSimulator, startSimulator } from "./simulate.js";
 import { measured, setHeights } from "./steady.js";
+import { addStory, current, find, freeName, now, stories } from "./stories.js";
 import { told } from "./told.js";
-import { readTrace } from "./trace.js";
-
-const find = (id) => document.getElementById(id);
-const stories = new Map();
-const now = { name: "", step: 1, heights: new Map(), timer: null };
 
 // How long a step is shown when the story plays by itself, in milliseconds.
 const PACE = 2200;
-
-/** A story of a trace: its frames, and what is the same in all steps. */
-function storyOf(name, text) {
-  const trace = readTrace(text);
-  const { frames } = trace;
-  return {
-    name, title: trace.title || name, header: trace.header, frames,
-    parts: partNames(frames), passes: passNames(frames), starts: runStarts(frames), rows: rowsUsed(frames),
-  };
-}
-
-function current() {
-  return stories.get(now.name);
-}
 
 function drawParts(step) {
   const story = current();
@@ -58,6 +41,8 @@ function draw() {
   setSlider(count);
   setButtons(count);
   markStep(find("lanes"), now.step);
+  if (find("facts").open) find("said").replaceChildren(...facts(current(), now.step));
+  drawSimulator();
 }
 
 function measure() {
@@ -108,6 +93,12 @@ function togglePlay() {
   find("play").textContent = "Pause";
 }
 
+/** Links to the section of docs/HOW-IT-WORKS.md that explains the story. */
+function drawSection(story) {
+  const section = document.querySelector(`#sections a[data-number="${story.section}"]`);
+  find("section").replaceChildren(...(section ? ["Explained in ", section.cloneNode(true)] : []));
+}
+
 /** Shows a story at a step. */
 function show(name, step) {
   stop();
@@ -116,6 +107,7 @@ function show(name, step) {
   find("which").value = name;
   find("title").textContent = story.title;
   find("header").textContent = story.header.join("; ");
+  drawSection(story);
   find("lanes").replaceChildren(lanesTable(story, pick));
   measure();
   go(step);
@@ -127,11 +119,6 @@ function pick(step) {
   go(step);
 }
 
-function addStory(name, text) {
-  if (!stories.has(name)) find("which").append(new Option(name, name));
-  stories.set(name, storyOf(name, text));
-}
-
 function report(name, error) {
   find("fault").textContent = `${name} is no trace of script_trace: ${error.message}`;
 }
@@ -140,17 +127,20 @@ async function openFile(event) {
   const [file] = event.target.files;
   if (!file) return;
   find("fault").textContent = "";
+  const text = await file.text();
   try {
-    const name = file.name.replace(/\.trace$/, "");
-    addStory(name, await file.text());
-    show(name, 1);
+    const name = freeName(file.name.replace(/\.(trace|script)$/, ""));
+    if (/^> heap /m.test(text) || !/^heap /m.test(text)) {
+      addStory(name, text);
+      show(name, 1);
+    } else doScript(name, text);
   } catch (error) {
     report(file.name, error);
   }
 }
 
 function onKey(event) {
-  const isTyped = event.target.matches("input, select") || event.altKey || event.ctrlKey || event.metaKey;
+  const isTyped = event.target.matches("input, select, textarea") || event.altKey || event.ctrlKey || event.metaKey;
   const direction = { ArrowRight: 1, ArrowLeft: -1 }[event.key];
   if (isTyped || !direction) return;
   event.preventDefault();
@@ -163,7 +153,7 @@ function onKey(event) {
 function goToHash() {
   const [name, step] = window.location.hash.slice(1).split("/").map(decodeURIComponent);
   const known = stories.has(name) ? name : stories.keys().next().value;
-  show(known, Number(step) || 1);
+  show(known, Number(step) || stories.get(known).start);
 }
 
 function onClick(id, act) {
@@ -177,8 +167,9 @@ function listen() {
   onClick("last", () => pick(current().frames.length));
   onClick("play", togglePlay);
   find("slider").addEventListener("input", (event) => pick(Number(event.target.value)));
-  find("which").addEventListener("change", (event) => show(event.target.value, 1));
+  find("which").addEventListener("change", (event) => show(event.target.value, stories.get(event.target.value).start));
   find("file").addEventListener("change", openFile);
+  find("facts").addEventListener("toggle", draw);
   document.addEventListener("keydown", onKey);
   window.addEventListener("hashchange", goToHash);
 }
@@ -199,10 +190,12 @@ function watchWidth() {
 }
 
 for (const element of document.querySelectorAll("pre[data-trace]")) {
-  addStory(element.dataset.trace, element.textContent);
+  const { trace, start, section } = element.dataset;
+  addStory(trace, element.textContent, { start: Number(start ?? 1), section });
 }
 find("tied").append(arrow("tied"));
 find("owed").append(arrow("owed", "pass 1 owes"));
 listen();
 watchWidth();
 goToHash();
+startSimulator(show);

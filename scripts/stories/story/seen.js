@@ -83,6 +83,7 @@
     passes: all(document, "#passes .card").map(pass),
     rows: texts(document, "#lanes tbody tr"),
     here: all(document, "#lanes tr.step").findIndex((row) => row.getAttribute("aria-current") === "step") + 1,
+    broken: texts(document, ".case.broken"),
     places: places(),
     wide: wide(),
     odd: /undefined|null|NaN|\[object/.exec(document.body.innerText)?.[0] ?? "",

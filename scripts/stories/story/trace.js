@@ -1,6 +1,6 @@
-// Reads the text that script_trace prints. A trace has a title, the lines of its header, and a frame for each event: the
-// event, its answer, the pages and shards that it touched, as they are after it, and a line for each pass that has
-// begun, owns or holds something. docs/SCRIPTS.md, "Traces", has the format.
+// Reads the text that script_trace prints. A trace has a title, the lines of its header, those of its script, and a
+// frame for each event: the event, its answer, the pages and shards that it touched, as they are after it, and a line
+// for each pass that has begun, owns or holds something. docs/SCRIPTS.md, "Traces", has the format.
 
 const SLOT = /^slots? (\d+)(?: to (\d+))?: (\w+), generation (\d+), count (\d+)(?:; (.*))?$/;
 const PART = /^(page|shard) ([\d.]+): (.*)$/;
@@ -54,6 +54,7 @@ function readOuter(frame, line) {
 
 function readEcho(trace, line) {
   const words = line.split(/ +/).filter(Boolean);
+  trace.lines.push(line);
   if (/^\d/.test(words[0])) trace.event = words;
   else trace.header.push(words.join(" "));
 }
@@ -63,6 +64,7 @@ function readAnswer(trace, line) {
   if (!trace.event || trace.event[0] !== pass || trace.event[1] !== kind) throw new Error("it answers no event");
   trace.frames.push({
     story: trace.story.join(" "), pass, event: trace.event.slice(1), answer: answer.join(" "), parts: [], passes: [],
+    lines: trace.lines.length,
   });
   trace.event = null;
   trace.story = [];
@@ -70,6 +72,7 @@ function readAnswer(trace, line) {
 
 /** A comment. The first one before the header is the title. */
 function readComment(trace, text) {
+  trace.lines.push(`; ${text}`);
   if (!trace.title && !trace.header.length) trace.title = text;
   else trace.story.push(text);
 }
@@ -86,9 +89,12 @@ function readLine(trace, line) {
   else throw new Error("it is none of a trace");
 }
 
-/** The trace of a text. It throws an error that names the first line that is none of a trace. */
+/**
+ * The trace of a text. It throws an error that names the first line that is none of a trace. `lines` of a frame is how
+ * many lines of the script there are up to its event.
+ */
 export function readTrace(text) {
-  const trace = { title: "", header: [], story: [], event: null, frames: [] };
+  const trace = { title: "", header: [], story: [], event: null, frames: [], lines: [] };
   text.split("\n").forEach((line, at) => {
     try {
       readLine(trace, line);
@@ -97,5 +103,5 @@ export function readTrace(text) {
     }
   });
   if (!trace.frames.length) throw new Error("it has no event that was answered");
-  return { title: trace.title, header: trace.header, frames: trace.frames };
+  return trace;
 }
