@@ -12,42 +12,37 @@ fn agree<T: PartialEq + Debug + Drop>(rt: &impl Abort, found: T, wanted: T) {
     assert_eq!(rt; found, wanted);
 }
 
-// Claims this many callers, each of which stores a number. Returns them with how many found room.
+// 64 callers store a number each in a heap of one chunk with this many shards. Each finds room if those before it left
+// their shards, and otherwise while a shard has no owner.
 fn inserts_one_each(
     rt: &impl Abort,
     alloc: Global,
     growing: &GrowingShare,
-    count: u64,
-    leave: bool,
-) -> (Vec<Caller>, u64) {
+    shards: u64,
+    leaves: bool,
+) {
     let mut callers = Vec::new(alloc);
-    let mut stored = 0;
-    for n in 0..count {
+    for n in 0..64 {
         let mut caller = growing.claim(alloc).expect(rt, "a caller");
-        if caller.insert(alloc, &Value::from(n)).is_ok() {
-            stored += 1;
-        }
-        if leave {
+        let stored = caller.insert(alloc, &Value::from(n)).is_ok();
+        agree(rt, stored, leaves || n < shards);
+        if leaves {
             agree(rt, caller.leave_idle(), Ok(()));
         }
         callers.push(caller).expect(rt, "room for a caller");
     }
-    (callers, stored)
 }
 
-// 64 callers insert a value each into room for 1,000. One chunk of one shard serves them all if each leaves it. If none
-// does, only the first has a shard; and each has one if the heap was opened for 64 owners.
+// One shard with room for 1,000 values serves them all if each leaves it. If none does, only the first has a shard; and
+// each has one if the heap was opened for 64 owners.
 #[test]
 fn sixty_four_callers_insert_a_value_each(rt: HostRuntime) {
     let shared = GrowingShare::open_for(rt.alloc(), 1, 1000, 1, 64, 1).expect(&rt, "a heap");
-    let (_left, stored) = inserts_one_each(&rt, rt.alloc(), &shared, 64, true);
-    agree(&rt, stored, 64);
+    inserts_one_each(&rt, rt.alloc(), &shared, 1, true);
     let owned = GrowingShare::open_for(rt.alloc(), 1, 1000, 1, 64, 1).expect(&rt, "a heap");
-    let (_kept, stored) = inserts_one_each(&rt, rt.alloc(), &owned, 64, false);
-    agree(&rt, stored, 1);
+    inserts_one_each(&rt, rt.alloc(), &owned, 1, false);
     let wide = GrowingShare::open_for(rt.alloc(), 64, 1, 1, 64, 1).expect(&rt, "a heap");
-    let (_each, stored) = inserts_one_each(&rt, rt.alloc(), &wide, 64, false);
-    agree(&rt, stored, 64);
+    inserts_one_each(&rt, rt.alloc(), &wide, 64, false);
 }
 
 // The caller leaves its shards in two chunks, also if it owns none, and inserts again.
