@@ -1,8 +1,8 @@
 -- Which call a test finds, and what it shows of a clash that none is found.
 use Rattle.std.proofs.Common.{◌≡◌, ◌∙◌, ℕ, Bool, true, false, cond, List, [], ◌∷◌, Option, Some, None, zero, suc}
 use Rattle.std.proofs.Common.{refl, sym, subst, ap, arith}
-use Rattle.std.specs.Prelude.{slice_get, option_map, ◌&&◌, not, ◌==◌, IfSome, IfNone}
-use Rattle.std.specs.List.{find, All, Contains}
+use Rattle.std.specs.Prelude.{slice_get, option_map, ◌&&◌, not, IfSome, IfNone}
+use Rattle.std.specs.List.{find, All}
 use Rattle.std.proofs.lemmas.Bool.{true≢false, and_parts, eqb-false, ne_eqb, not-true}
 use Rattle.std.proofs.lemmas.Option.{none-some, same_Some}
 use Rattle.sh_history.specs.declared.checker.Why.{Why}

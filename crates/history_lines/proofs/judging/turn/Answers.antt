@@ -1,4 +1,4 @@
-use Rattle.std.proofs.Common.{◌≡◌, ℕ, List, [], refl, sym, ◌∙◌, inl, inr}
+use Rattle.std.proofs.Common.{◌≡◌, [], refl, sym, ◌∙◌, inl, inr}
 use Rattle.std.specs.Io.BufRead.{drop_through}
 use Rattle.history_lines.proofs.TextLemmas.{through_none, bad_end, first_line, empty, newline_last}
 use Rattle.history_lines.proofs.judging.turn.Goals as goal

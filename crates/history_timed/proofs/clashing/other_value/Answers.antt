@@ -1,4 +1,4 @@
-use Rattle.std.proofs.Common.{◌≡◌, ◌∙◌, sym, rules, true}
+use Rattle.std.proofs.Common.{◌∙◌, sym, rules}
 use Rattle.sh_history.specs.declared.checker.Why.TheVariants.{OtherValue}
 use Rattle.history_timed.specs.declared.call.Call.{Call}
 use Rattle.history_timed.specs.Calls.{inserts}

@@ -1,7 +1,6 @@
-use Rattle.std.proofs.Common.{◌≡◌, ◌∙◌, ◌+◌, ◌∷◌, [], ◌++◌, List, sym, ap, subst, rules, take}
+use Rattle.std.proofs.Common.{◌≡◌, ◌∙◌, ◌+◌, ◌∷◌, [], ◌++◌, sym, ap, rules, take}
 use Rattle.std.proofs.lemmas.List.{take_more}
 use Rattle.history_timed.specs.declared.call.Call.{Call}
-use Rattle.history_timed.specs.Verdicts.{AreFindings}
 use Rattle.history_timed.proofs.FindingLemmas.{found_no_more, found_more}
 use Rattle.history_timed.proofs.finding.findings.Goals.{in-Some+in_ok-push, in_default}
 use Rattle.history_timed.proofs.finding.findings.Goals as goal
