@@ -3,7 +3,7 @@ use Rattle.std.proofs.Common.{◌≡◌, ◌∙◌, ℕ, Bool, true, false, cond
 use Rattle.std.proofs.Common.{refl, sym, subst, ap, arith}
 use Rattle.std.specs.Prelude.{slice_get, option_map, ◌&&◌, not, IfSome, IfNone}
 use Rattle.std.specs.List.{find, All}
-use Rattle.std.proofs.lemmas.Bool.{true≢false, and_parts, eqb-false, ne_eqb, not-true}
+use Rattle.std.proofs.lemmas.Bool.{true≢false, and_parts, and_from, eqb-false, ne_eqb, not-true}
 use Rattle.std.proofs.lemmas.Option.{none-some, same_Some}
 use Rattle.sh_history.specs.declared.checker.Why.{Why}
 use Rattle.sh_history.specs.declared.checker.Why.TheVariants.{NotNew, NotIssued, OtherValue, AfterRemoval, StillThere}
@@ -63,16 +63,13 @@ at_line_as : (calls : List Call) (by : Option ℕ) (P Q : Call → Type 0) → (
 at_line_as calls None P Q f is = absurd is
 at_line_as calls (Some line) P Q f is = (is.0, is.1, is.2, f is.0 is.3)
 
-both : (a b : Bool) → a ≡ true → b ≡ true → (a && b) ≡ true
-both a b one other = rw (one, other) refl
-
 another_is : (call o : Call) → is_another call o ≡ true → IsAnother call o
 another_is call o e =
     let parts = and_parts _ _ e in
     record { line = eqb-false o.line call.line (not-true _ parts.0); ended = parts.1 }
 
 is_other : (call o : Call) → IsAnother call o → is_another call o ≡ true
-is_other call o is = both _ _ (ap not (ne_eqb o.line call.line is.line)) is.ended
+is_other call o is = and_from _ _ (ap not (ne_eqb o.line call.line is.line)) is.ended
 
 -- ---- another call of a kind, which ended, and an earlier one
 
@@ -86,7 +83,7 @@ module _ (kind : Said → Bool) (calls : List Call) (c : Call) where
   pub no_other : first_line (λ (o : Call). kind o.said && is_another c o) calls ≡ None → (by : Option ℕ)
       → AtLine calls by (λ o. (kind o.said ≡ true) × IsAnother c o) → ⊥
   no_other none by is = no_line (λ (o : Call). kind o.said && is_another c o) calls none by
-      (at_line_as calls by _ _ (λ o h. both _ _ h.0 (is_other c o h.1)) is)
+      (at_line_as calls by _ _ (λ o h. and_from _ _ h.0 (is_other c o h.1)) is)
 
   pub earlier_line : (line : ℕ) → first_line (λ (o : Call). kind o.said && ends_before o.times c.times) calls ≡ Some line
       → AtLine calls (Some line) (λ o. (kind o.said ≡ true) × (ends_before o.times c.times ≡ true))
@@ -96,7 +93,7 @@ module _ (kind : Said → Bool) (calls : List Call) (c : Call) where
   pub no_earlier : first_line (λ (o : Call). kind o.said && ends_before o.times c.times) calls ≡ None → (by : Option ℕ)
       → AtLine calls by (λ o. (kind o.said ≡ true) × (ends_before o.times c.times ≡ true)) → ⊥
   no_earlier none by is = no_line (λ (o : Call). kind o.said && ends_before o.times c.times) calls none by
-      (at_line_as calls by _ _ (λ o h. both _ _ h.0 h.1) is)
+      (at_line_as calls by _ _ (λ o h. and_from _ _ h.0 h.1) is)
 
 -- what uses a key does not remove it
 pub not_both : (key : ℕ) (s : Said) → uses key s ≡ true → removes key s ≡ true → ⊥
