@@ -13,11 +13,18 @@ STATUS = {"legal": 0, "line": 1, "undecided": 4}
 TOLD = re.compile(r"^\| `(history .*)` \| `(.*)` \|$", re.M)
 
 
-def judges(name, history, verdict, seconds=SECONDS):
+def judges(name, history, verdict, words=(), seconds=SECONDS):
     """A run on a history, which has five minutes, and so many seconds of the processor."""
-    status = STATUS.get(re.match(r"\w*", verdict)[0], 2)
+    # (what --key writes begins with lines of the history)
+    first = re.search(r"^(?!\d)\w*", verdict, re.M)
+    status = STATUS.get(first and first[0], 2)
     said = ("", verdict) if status == 2 else (verdict, "")
-    return Row("tool_history", (), history, status, *said, name, SECONDS, {resource.RLIMIT_CPU: seconds})
+    return Row("tool_history", words, history, status, *said, name, SECONDS, {resource.RLIMIT_CPU: seconds})
+
+
+def is_an_error(text):
+    if not text.startswith("error: "):
+        yield "no error is named"
 
 
 def history_rows():
@@ -25,6 +32,11 @@ def history_rows():
     times as long as the one before, so that no search passes whose time grows with the square of the length."""
     for verdict in sorted(FOLDER.glob("*.verdict")):
         yield judges(verdict.name, verdict.with_suffix(".history"), verdict.read_text())
+    for found in sorted(FOLDER.glob("*.all")):
+        yield judges(found.name, found.with_suffix(".history"), found.read_text(), ["--all"])
+    for found in sorted(FOLDER.glob("*.key_*")):
+        words = ["--key", found.suffix.removeprefix(".key_")]
+        yield judges(found.name, found.with_suffix(".history"), found.read_text(), words)
     for history in FOLDER.glob("*.history"):
         if not history.with_suffix(".verdict").is_file():
             yield f"{history.name} has no verdict"
@@ -34,7 +46,13 @@ def history_rows():
     for lines, verdict in told:
         yield judges(f"README.md: {verdict}", lines.replace("`, `", "\n") + "\n", f"{verdict}\n")
     yield from long_histories()
-    yield Row("tool_history", ["more"], status=2)
+    yield from logs()
+    # With --all a line at fault ends the run though an earlier one is not allowed.
+    clash = "history 1 4\n0 Got 1\n0 Byte\a\n"
+    yield judges("an early clash", clash, "line 2: NotIssued\n")
+    yield judges("a fault behind a clash", clash, "tool_history: fault 14 History line 3 Byte\n", ["--all"])
+    for words in ("more", "--key", "--key x", "--al"):
+        yield Row("tool_history", words.split(), status=2, output="", error=is_an_error)
     yield Row("tool_history", (), FOLDER / "legal.history", 3, error="tool_history: fault 15 Io\n", to="/dev/full",
               name="a full output")
 
@@ -54,4 +72,14 @@ def long_histories():
     for at in range(2, 426_667, 4):
         lines += [f"{at} {at + 1} 0 Got 1 0", f"{at + 2} {at + 3} 0 Released 1", f"{at} {at + 3} 1 Crowded 1"]
     yield judges("320,000 calls on a crowded key", "\n".join([*lines, ""]), "line 5: NotCrowded\n",
-                 4 + int(6 * ran.spent))
+                 seconds=4 + int(6 * ran.spent))
+
+
+def logs():
+    """Logs as Jepsen and Porcupine have them."""
+    jepsen = str(TOP / "scripts/jepsen")
+    yield Row(jepsen, ["--self-test"])
+    for name, verdict in [("jepsen.edn", "line 5: AfterRemoval, by line 4\n"),
+                          ("porcupine.log", "legal, 4 entries on 1 keys\n")]:
+        ran = yield Row(jepsen, [2, 4], FOLDER / name)
+        yield judges(name, ran.output, verdict)

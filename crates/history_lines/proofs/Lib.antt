@@ -2,3 +2,4 @@ pub mod CallsLemmas
 pub mod ReadingLemmas
 pub mod TextLemmas
 pub mod JudgingLemmas
+pub mod SearchLemmas

@@ -62,7 +62,7 @@ module _ (r now : Reading) (book : Book) (n : ℕ) (text : List ℕ) (a : Audit)
       → CameOfLine book n text now result
   answer_came s (Ok None) reads came = (came.0, said_next (Some s) reads ∙ came.1, came.2)
   answer_came s (Ok (Some clash)) reads came =
-      subst (λ (o : Option Limits). BreaksUnder o book text clash) (sym under) (s, reads, came)
+      (subst (λ (o : Option Limits). BreaksUnder o book text clash) (sym under) (s, reads, came.0), came.1)
   answer_came s (Err Memory) reads came = tt
   answer_came s (Err (Because c)) reads came = said_next (Some s) reads ∙ came
 

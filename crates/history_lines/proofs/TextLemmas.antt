@@ -60,6 +60,14 @@ line_in_front text line e =
     sym (through_all text) ∙ ap (λ xs. xs ++ drop_through 10 text) e
     ∙ append_assoc line (10 ∷ []) (drop_through 10 text)
 
+pub empty : (xs : List ℕ) → length xs ≡ 0 → xs ≡ []
+empty [] e = refl
+empty (x ∷ xs) e = absurd (let no : ⊥ = cc in no)
+
+-- a line that was read with its newline
+pub newline_last : (text line : List ℕ) (last : ℕ) → text ≡ line ++ last ∷ [] → last ≡ 10 → text ≡ line ++ 10 ∷ []
+newline_last text line last e same = e ∙ ap (λ (b : ℕ). line ++ b ∷ []) same
+
 -- what is read with another byte at its end is the whole rest, which has no newline
 pub is_last : (text front : List ℕ) (last : ℕ) → take_through 10 text ≡ front ++ last ∷ [] → last ≢ 10 → IsLine text
 is_last [] front last e ne = empty_line

@@ -1,7 +1,8 @@
 -- What a line says, or the first fault in it. The steps are in the order of the faults.
 use Rattle.std.specs.Prelude.{◌≡◌, ℕ, ◌^◌, ◌==◌, ◌&&◌, ◌||◌, Bool, true, false, nat_lt, nat_le, List, [], ◌∷◌, ◌++◌}
 use Rattle.std.specs.Prelude.{length}
-use Rattle.std.specs.Prelude.{Option, Some, None, is_some, Result, Ok, Err, slice_index, codes, if◌then◌else◌}
+use Rattle.std.specs.Prelude.{Option, Some, None, is_some, Result, Ok, Err, slice_index, codes, option_map}
+use Rattle.std.specs.Prelude.{if◌then◌else◌}
 use Rattle.std.specs.List.{list_all}
 use Rattle.std.specs.Int.{is_in_range}
 use Rattle.std.specs.Str.{bytes_eq}
@@ -14,6 +15,7 @@ use Rattle.history_lines.specs.declared.fault.Cause.TheVariants as cause
 use Rattle.history_timed.specs.declared.call.Said.{Said}
 use Rattle.history_timed.specs.declared.call.Said.TheVariants as said
 use Rattle.history_timed.specs.Times.{Times}
+use Rattle.history_timed.specs.Calls.{key_said}
 use Rattle.history_lines.specs.declared.line.Answer.{Answer}
 use Rattle.history_lines.specs.declared.line.Limits.{Limits}
 use Rattle.history_lines.specs.declared.fault.Trouble.{Trouble}
@@ -171,6 +173,15 @@ header_line text = words_of text >>= λ ws. header_said ws
 
 abbrev pub answer_line : ℕ → List ℕ → Result (Option Answer) Cause
 answer_line passes text = words_of text >>= λ ws. answer_said passes ws
+
+-- the key of the answer that a line says, if it says one: of a map with this number of passes, or under these limits
+abbrev pub key_answered : ℕ → List ℕ → Result (Option ℕ) Cause
+key_answered passes text =
+    answer_line passes text >>= λ a. Ok (option_map (λ (answer : Answer). key_said answer.said) a)
+
+abbrev pub key_line : Option Limits → List ℕ → Result (Option ℕ) Cause
+key_line None text = Ok None
+key_line (Some limits) text = key_answered limits.passes text
 
 -- what was returned, seen by view, is what reading gives, unless memory was refused
 abbrev pub Gives : {X Y : Type 0} → (X → Y) → Result Y Cause → Result X Trouble → Type 0

@@ -46,17 +46,17 @@ BreaksUnder (Some limits) book text clash =
 abbrev pub Breaks : Book → List ℕ → Clash → Type 0
 Breaks book text clash = BreaksUnder book.limits book text clash
 
--- what came of an answer: it is taken in, or it clashes, or it has a fault, or memory was refused
+-- what came of an answer: it is taken in, or it clashes and is left out, or it has a fault, or memory was refused
 abbrev pub CameOfAnswer : Limits → Book → ℕ → Answer → Reading → Result (Option Clash) Trouble → Type 0
 CameOfAnswer limits book n answer now (Ok None) =
     (next : Book) × (answered book n (Some answer) ≡ Ok next) × HasTakenIn now next
-CameOfAnswer limits book n answer now (Ok (Some clash)) = Clashes limits book answer clash
+CameOfAnswer limits book n answer now (Ok (Some clash)) = Clashes limits book answer clash × HasTakenIn now book
 CameOfAnswer limits book n answer now (Err Memory) = Unit {0}
 CameOfAnswer limits book n answer now (Err (Because cause)) = answered book n (Some answer) ≡ Err cause
 
--- what came of the line of this number: it is taken in, or it clashes, or it has a fault, or memory was refused
+-- what came of the line of this number: it is taken in, or it clashes and is left out, or it has a fault, or memory was refused
 abbrev pub CameOfLine : Book → ℕ → List ℕ → Reading → Result (Option Clash) Trouble → Type 0
 CameOfLine book n text now (Ok None) = (next : Book) × (book_after book n text ≡ Ok next) × HasTakenIn now next
-CameOfLine book n text now (Ok (Some clash)) = Breaks book text clash
+CameOfLine book n text now (Ok (Some clash)) = Breaks book text clash × HasTakenIn now book
 CameOfLine book n text now (Err Memory) = Unit {0}
 CameOfLine book n text now (Err (Because cause)) = book_after book n text ≡ Err cause

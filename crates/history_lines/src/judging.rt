@@ -13,7 +13,7 @@ use std::alloc::Global;
 use std::io::{BufRead, ErrorKind};
 
 // The next line, with its newline if it has one. At the end it has no byte.
-fn next_line<R: BufRead>(input: &mut R, line: &mut Vec<u8>) -> Result<(), Fault>
+pub(crate) fn next_line<R: BufRead>(input: &mut R, line: &mut Vec<u8>) -> Result<(), Fault>
     ensures bytes { (text : List ℕ) → R.remaining input.old ≡ Some text
         → OnOk result (line.new.items ≡ take_through 10 text) }
     ensures rest { (text : List ℕ) → R.remaining input.old ≡ Some text
@@ -31,7 +31,7 @@ fn next_line<R: BufRead>(input: &mut R, line: &mut Vec<u8>) -> Result<(), Fault>
 }
 
 // What is wrong with a last line that has no newline.
-fn cut(line: &[u8]) -> Cause
+pub(crate) fn cut(line: &[u8]) -> Cause
     ensures { result ≡ cut_of line.now }
 {
     if line.len() > 512 {

@@ -5,7 +5,8 @@ ghost use Rattle.std.specs.Int.{is_in_range};
 ghost use Rattle.history_lines.specs.Line.{seen, kind_named, word_at, number_at, numbers_from, value_said, bare_said};
 ghost use Rattle.history_lines.specs.Line.{said_by, has_times, end_at, times_of, timed_of, answer_of, pass_at};
 ghost use Rattle.history_lines.specs.Line.{said_of, small_number, header_of, words_of};
-ghost use Rattle.history_lines.specs.Line.{is_silent, header_said, answer_said, header_line, answer_line, Gives};
+ghost use Rattle.history_lines.specs.Line.{is_silent, header_said, answer_said, header_line, answer_line, key_answered};
+ghost use Rattle.history_lines.specs.Line.{Gives};
 
 use crate::fault::{Cause, Trouble};
 use history_timed::{Said, Span};
@@ -343,5 +344,15 @@ pub fn answer_line(alloc: Global, passes: u32, line: &[u8]) -> Result<Option<Ans
     match answer_said(passes, words.as_slice()) {
         Ok(said) => Ok(said),
         Err(cause) => Err(Trouble::Because(cause)),
+    }
+}
+
+/// The key of the answer that a line says under a header with this number of passes, if it says one.
+pub fn key_answered(alloc: Global, passes: u32, line: &[u8]) -> Result<Option<u64>, Trouble>
+    ensures { Gives (λ k. k) (key_answered passes line.now) result }
+{
+    match answer_line(alloc, passes, line)? {
+        Some(answer) => Ok(Some(answer.said.key())),
+        None => Ok(None),
     }
 }

@@ -2,15 +2,17 @@
 ghost use Rattle.std.specs.Prelude.{◌≡◌, ℕ, None, Some, IfOk, IfNone, IfSome};
 ghost use Rattle.history_audit.specs.declared.audit.Audit.{Audit as Auditing};
 ghost use Rattle.history_lines.specs.declared.line.Limits.{Limits};
+ghost use Rattle.history_timed.specs.Verdicts.{AreFindings};
+ghost use Rattle.history_lines.specs.Line.{Gives, key_line};
 ghost use Rattle.history_lines.specs.Book.{Book, blank};
 ghost use Rattle.history_lines.specs.Judged.{EndsWith};
 ghost use Rattle.history_lines.specs.Taken.{HasTakenIn, limits_of, CameOfAnswer, CameOfLine};
 
 use crate::calls::Calls;
 use crate::fault::{Cause, Trouble};
-use crate::line::{Answer, answer_line, header_line};
+use crate::line::{Answer, answer_line, header_line, key_answered};
 use history_audit::{Audit, Clash};
-use history_timed::{Said, Span, Verdict, judge};
+use history_timed::{Finding, Said, Span, Verdict, findings, judge};
 use std::alloc::{AllocError, Global};
 
 /// What the lines so far have said: no header yet, or entries that are legal so far, or calls with times.
@@ -30,6 +32,19 @@ impl Reading {
             audit: None,
             entries: 0,
             calls: Calls::new(alloc),
+        }
+    }
+
+    /// The key of the answer that the line says, if it says one. Before the header no line does.
+    pub fn key_said(&self, alloc: Global, line: &[u8]) -> Result<Option<u64>, Trouble>
+        ensures { (book : Book) → HasTakenIn self.now book → Gives (λ k. k) (key_line book.limits line.now) result }
+    {
+        match &self.audit {
+            None => Ok(None),
+            Some(audit) => {
+                let passes = audit.passes();
+                key_answered(alloc, passes, line)
+            }
         }
     }
 
@@ -115,7 +130,7 @@ impl Reading {
     }
 
     /// Takes in the next line, without its newline, by its number. Returns why its entry is not allowed, if it is not,
-    /// and leaves it out. A line with a fault is refused with the first cause.
+    /// and leaves it out, so the next lines may follow. A line with a fault is refused with the first cause.
     pub fn line(
         &mut self,
         alloc: Global,
@@ -149,5 +164,16 @@ impl Reading {
         }
         let verdict = judge(alloc, self.calls.all(), audit.passes(), audit.guard_max())?;
         Ok(Some(verdict))
+    }
+
+    /// The findings on calls with times, one for each that clashes, in the order of their lines. Refused if memory is.
+    pub fn findings(&self, alloc: Global) -> Result<Vec<Finding>, AllocError>
+        ensures { (book : Book) (limits : Limits) → HasTakenIn self.now book → book.limits ≡ Some limits
+            → IfOk result (λ found. AreFindings limits.passes limits.guard_max book.calls book.calls found.items) }
+    {
+        match &self.audit {
+            None => Ok(Vec::new(alloc)),
+            Some(audit) => { findings(alloc, self.calls.all(), audit.passes(), audit.guard_max()) }
+        }
     }
 }

@@ -6,3 +6,5 @@ pub mod RefusalLemmas
 pub mod OrderLemmas
 pub mod JudgingLemmas
 pub mod CourseLemmas
+pub mod AnswerLemmas
+pub mod FindingLemmas

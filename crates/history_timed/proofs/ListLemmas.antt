@@ -1,9 +1,11 @@
 -- Lists, place by place.
 use Rattle.std.proofs.Common.{◌≡◌, ℕ, ◌<◌, Bool, true, false, List, [], ◌∷◌, Some, zero, suc, refl}
-use Rattle.std.proofs.Common.{sym, subst, arith, take, length, inl, inr}
+use Rattle.std.proofs.Common.{sym, subst, arith, take, length, inl, inr, ◌+◌, ◌++◌, ◌∙◌, ap, get_or}
 use Rattle.std.specs.Prelude.{slice_get, ◌||◌, ◌&&◌, ◌⊎◌, not}
-use Rattle.std.specs.List.{AllZip, Contains, list_any, list_all}
+use Rattle.std.specs.List.{All, AllZip, Contains, list_any, list_all}
 use Rattle.std.proofs.lemmas.Bool.{true≢false}
+use Rattle.std.proofs.lemmas.List.{take_more}
+use Rattle.std.proofs.lemmas.List.Elements.{All-push}
 use Rattle.std.proofs.lemmas.Option.{slice_get_read, slice_get_within, get_or_from_slice_get, none-some, same_Some}
 
 -- an element of a list has a place, and one at a place is an element
@@ -92,3 +94,10 @@ or_cases false b e = inr e
 pub not_first : (a b : Bool) → (not a || b) ≡ true → a ≡ true → b ≡ true
 not_first true b e is = e
 not_first false b e is = absurd (true≢false (sym is))
+
+-- what holds of the elements in front of one and of it holds of all these
+pub all_more : {X : Type 0} (P : X → Type 0) (xs : List X) (n : ℕ) (x : X) → n < length xs → x ≡ get_or xs n x
+    → All P (take n xs) → P x → All P (take (n + 1) xs)
+all_more {X = X} P xs n x below is all holds = subst (All P)
+    (sym (take_more xs n x below ∙ ap (λ (y : X). take n xs ++ y ∷ []) (sym is)))
+    (All-push P (take n xs) x all holds)

@@ -25,7 +25,8 @@ use Rattle.history_timed.specs.declared.moment.Point.{Point}
 use Rattle.history_timed.specs.declared.order.Placed.{Placed}
 use Rattle.history_timed.specs.Times.{Times, IsWithin, is_below, is_ended, ends_before}
 use Rattle.history_timed.specs.Orders.{IsOrder, KeepsTimes}
-use Rattle.history_timed.specs.Placing.{call_of, ArePlaced}
+use Rattle.history_timed.specs.Moments.{IsPoint, is_left_out, course_of}
+use Rattle.history_timed.specs.Placing.{call_of, ArePlaced, ArePointed, IsTried}
 use Rattle.sh_history.proofs.Rising.{rises_by_key}
 
 -- the first calls are placed or left out
@@ -34,6 +35,8 @@ pub record HasPlaced (calls : List Call) (n : ℕ) (placed : List Placed) : Type
   pub each_once : IsPermutation (take n calls) (map call_of placed ++ left_out)
   pub unended : All (λ (c : Call). is_ended c.times ≡ false) left_out
   pub within : ArePlaced placed
+  pub points : ArePointed calls placed
+  pub outs : All (λ (c : Call). is_left_out (course_of calls c) c ≡ true) left_out
 
 pub none_placed : (calls : List Call) → HasPlaced calls 0 []
 none_placed calls = record {
@@ -41,6 +44,8 @@ none_placed calls = record {
   each_once = IsPermutation-refl [];
   unended = All-nil (λ (c : Call). is_ended c.times ≡ false);
   within = All-nil (λ (p : Placed). IsWithin p.call.now.times p.point.moment);
+  points = All-nil (λ (p : Placed). IsPoint (course_of calls p.call.now) p.call.now p.point);
+  outs = All-nil (λ (c : Call). is_left_out (course_of calls c) c ≡ true);
 }
 
 module _ (calls : List Call) (n : ℕ) (placed : List Placed) (c : Call) (below : n < length calls)
@@ -57,8 +62,8 @@ module _ (calls : List Call) (n : ℕ) (placed : List Placed) (c : Call) (below 
       (IsPermutation-sym _ _ (IsPermutation-middle front c back)))
 
   pub one_placed : (p : Placed) → call_of p ≡ c → IsWithin c.times p.point.moment
-      → HasPlaced calls (n + 1) (placed ++ p ∷ [])
-  one_placed p here within =
+      → IsPoint (course_of calls c) c p.point → HasPlaced calls (n + 1) (placed ++ p ∷ [])
+  one_placed p here within point =
       let front : map call_of (placed ++ p ∷ []) ≡ map call_of placed ++ c ∷ [] =
       map-append call_of placed (p ∷ []) ∙ ap (λ (x : Call). map call_of placed ++ x ∷ []) here in
       record {
@@ -69,14 +74,20 @@ module _ (calls : List Call) (n : ℕ) (placed : List Placed) (c : Call) (below 
         unended = so_far.unended;
         within = All-push (λ (q : Placed). IsWithin q.call.now.times q.point.moment) placed p so_far.within
             (subst (λ (x : Call). IsWithin x.times p.point.moment) (sym here) within);
+        points = All-push (λ (q : Placed). IsPoint (course_of calls q.call.now) q.call.now q.point) placed p
+            so_far.points (subst (λ (x : Call). IsPoint (course_of calls x) x p.point) (sym here) point);
+        outs = so_far.outs;
       }
 
-  pub one_left_out : is_ended c.times ≡ false → HasPlaced calls (n + 1) placed
-  one_left_out unended = record {
+  pub one_left_out : is_ended c.times ≡ false → is_left_out (course_of calls c) c ≡ true
+      → HasPlaced calls (n + 1) placed
+  one_left_out unended out = record {
     left_out = c ∷ so_far.left_out;
     each_once = one_more (map call_of placed) so_far.left_out refl;
     unended = All-cons (λ (x : Call). is_ended x.times ≡ false) c so_far.left_out unended so_far.unended;
     within = so_far.within;
+    points = so_far.points;
+    outs = All-cons (λ (x : Call). is_left_out (course_of calls x) x ≡ true) c so_far.left_out out so_far.outs;
   }
 
 -- a call at a moment does not end before one at an earlier moment begins
@@ -115,21 +126,38 @@ times_kept placed within rises i j first last up at_i at_j =
         (All-get_or (λ (y : Placed). IsWithin y.call.now.times y.point.moment) placed k x
         (slice_get_within placed k x is) within)
 
--- all calls are placed or left out, and the placed ones are sorted by their moments
-pub order_of : (calls : List Call) (n : ℕ) (placed sorted : List Placed) → length calls ≤ n
-    → HasPlaced calls n placed → IsPermutation placed sorted
-    → IsNonDecreasingBy (λ (p : Placed). p.point.moment) sorted → IsOrder calls (map call_of sorted)
-order_of calls n placed sorted all so_far shuffled rises = record {
-  left_out = so_far.left_out;
-  each_once =
+-- all calls are placed or left out, and the placed ones are sorted
+module _ (calls : List Call) (n : ℕ) (placed sorted : List Placed) (all : length calls ≤ n)
+    (so_far : HasPlaced calls n placed) (shuffled : IsPermutation placed sorted) where
+  once : IsPermutation calls (map call_of sorted ++ so_far.left_out)
+  once =
       IsPermutation-trans calls (map call_of placed ++ so_far.left_out) (map call_of sorted ++ so_far.left_out)
       (subst (λ (xs : List Call). IsPermutation xs (map call_of placed ++ so_far.left_out)) (take_all n calls all)
       so_far.each_once)
-      (IsPermutation-append_left so_far.left_out _ _ (IsPermutation-map call_of _ _ shuffled));
-  unended = so_far.unended;
-  keeps_times = times_kept sorted
-      (All-permutation (λ (p : Placed). IsWithin p.call.now.times p.point.moment) _ _ shuffled so_far.within) rises;
-}
+      (IsPermutation-append_left so_far.left_out _ _ (IsPermutation-map call_of _ _ shuffled))
+
+  pub order_of : IsNonDecreasingBy (λ (p : Placed). p.point.moment) sorted → IsOrder calls (map call_of sorted)
+  order_of rises = record {
+    left_out = so_far.left_out;
+    each_once = once;
+    unended = so_far.unended;
+    keeps_times = times_kept sorted
+        (All-permutation (λ (p : Placed). IsWithin p.call.now.times p.point.moment) _ _ shuffled so_far.within) rises;
+  }
+
+  pub tried_order : IsNonDecreasingBy (λ (p : Placed). p.point.moment) sorted
+      → IsTried calls (map call_of sorted)
+  tried_order rises = record {
+    placed = sorted;
+    ordered_are = refl;
+    left_out = so_far.left_out;
+    each_once = once;
+    points =
+        All-permutation (λ (p : Placed). IsPoint (course_of calls p.call.now) p.call.now p.point) _ _ shuffled
+        so_far.points;
+    outs = so_far.outs;
+    rises = rises;
+  }
 
 -- the same of a sort of placed calls by their points
 pub rises_from_sort : {F : Type 0} {g : Mut F (Bor Placed × Unit {0}) Point} {f : F} (R : Point → Point → Ordering)

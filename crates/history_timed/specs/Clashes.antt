@@ -1,12 +1,13 @@
 -- Lines that no legal order which keeps to the times can have.
 use Rattle.std.specs.Prelude.{◌≡◌, ◌≢◌, ℕ, ◌+◌, ◌-◌, ◌≤◌, ◌⊎◌, ◌==◌, ◌&&◌, ◌||◌, not, Bool, true, false, List, Option}
 use Rattle.std.specs.Prelude.{Some}
-use Rattle.std.specs.Prelude.{None, count_by}
-use Rattle.std.specs.List.{Contains, list_all, list_any}
+use Rattle.std.specs.Prelude.{None, count_by, option_map}
+use Rattle.std.specs.List.{Contains, list_all, list_any, find}
 use Rattle.std.specs.Str.{bytes_eq}
 use Rattle.sh_history.specs.declared.entry.Entry.TheVariants.{Insert, Gone, Crowded, Released}
 use Rattle.sh_history.specs.declared.checker.Why.{Why}
 use Rattle.sh_history.specs.declared.checker.Why.TheVariants as why
+use Rattle.history_audit.specs.declared.clash.Clash.{Clash}
 use Rattle.history_timed.specs.declared.call.Call.{Call}
 use Rattle.history_timed.specs.declared.call.Said.{Said}
 use Rattle.history_timed.specs.declared.call.Said.TheVariants.{Known}
@@ -19,10 +20,17 @@ abbrev pub AtLine : List Call → Option ℕ → (Call → Type 0) → Type 0
 AtLine calls None Wanted = ⊥
 AtLine calls (Some line) Wanted = (other : Call) × Contains calls other × (other.line ≡ line) × Wanted other
 
+-- the line of the first call that passes the test
+abbrev pub first_line : (Call → Bool) → List Call → Option ℕ
+first_line test calls = option_map (λ (o : Call). o.line) (find test calls)
+
 -- of another line, and ended, so that no order leaves it out
 pub record IsAnother (call other : Call) : Type 0 where
   pub line : other.line ≢ call.line
   pub ended : is_ended other.times ≡ true
+
+abbrev pub is_another : Call → Call → Bool
+is_another call other = not (other.line == call.line) && is_ended other.times
 
 -- two inserts of one key
 pub record IsInsertedTwice (calls : List Call) (key : ℕ) (call : Call) (by : Option ℕ) : Type 0 where
@@ -56,6 +64,9 @@ IsUsedLate calls key call by =
 abbrev pub IsRemovedTwice : List Call → (key : ℕ) → Call → Option ℕ → Type 0
 IsRemovedTwice calls key call by =
     (removes key call.said ≡ true) × AtLine calls by (λ o. (removes key o.said ≡ true) × IsAnother call o)
+
+abbrev pub IsOfRemoved : List Call → (key : ℕ) → Call → Option ℕ → Type 0
+IsOfRemoved calls key call by = IsUsedLate calls key call by ⊎ IsRemovedTwice calls key call by
 
 -- no call that removed the key began before this one ended, or one that used its value began after that
 abbrev pub StaysThere : List Call → (key : ℕ) → Call → Type 0
@@ -96,8 +107,7 @@ abbrev pub ClashesOn : (passes guard_max : ℕ) → List Call → (key : ℕ) �
 ClashesOn passes guard_max calls key call why.NotNew by = IsInsertedTwice calls key call by
 ClashesOn passes guard_max calls key call why.NotIssued by = IsNeverIssued calls key call by
 ClashesOn passes guard_max calls key call why.OtherValue by = HasNoSuchInsert calls key call by
-ClashesOn passes guard_max calls key call why.AfterRemoval by =
-    IsUsedLate calls key call by ⊎ IsRemovedTwice calls key call by
+ClashesOn passes guard_max calls key call why.AfterRemoval by = IsOfRemoved calls key call by
 ClashesOn passes guard_max calls key call why.StillThere by = IsNotGone calls key call by
 ClashesOn passes guard_max calls key call why.NotCrowded by = IsUncrowded passes guard_max calls key call by
 ClashesOn passes guard_max calls key call why.NotHeld by = IsHeldByNone calls key call by
@@ -106,3 +116,19 @@ ClashesOn passes guard_max calls key call why.NotHeld by = IsHeldByNone calls ke
 pub record IsClash (passes guard_max : ℕ) (calls : List Call) (call : Call) (why : Why) (by : Option ℕ) : Type 0 where
   pub ended : is_ended call.times ≡ true
   pub clashes : ClashesOn passes guard_max calls (key_said call.said) call why by
+
+-- what is answered is a clash for this reason with a line for which the fact holds; or it holds for no line
+abbrev pub IsAnswer : Why → (Option ℕ → Type 0) → Option Clash → Type 0
+IsAnswer why Clashing None = (by : Option ℕ) → ¬ Clashing by
+IsAnswer why Clashing (Some clash) = (clash.why ≡ why) × Clashing clash.by
+
+-- the call clashes with no call of its key for this reason, or for none
+abbrev pub ClashesForNone : (passes guard_max : ℕ) → List Call → Call → Why → Type 0
+ClashesForNone passes guard_max calls call why = (by : Option ℕ) → ¬ IsClash passes guard_max calls call why by
+
+abbrev pub ClashesWithNone : (passes guard_max : ℕ) → List Call → Call → Type 0
+ClashesWithNone passes guard_max calls call = (why : Why) → ClashesForNone passes guard_max calls call why
+
+abbrev pub IsAnyAnswer : (passes guard_max : ℕ) → List Call → Call → Option Clash → Type 0
+IsAnyAnswer passes guard_max calls call None = ClashesWithNone passes guard_max calls call
+IsAnyAnswer passes guard_max calls call (Some clash) = IsClash passes guard_max calls call clash.why clash.by

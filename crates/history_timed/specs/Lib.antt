@@ -5,3 +5,4 @@ pub mod Clashes
 pub mod Placing
 pub mod Verdicts
 pub mod Courses
+pub mod Moments

@@ -1,5 +1,5 @@
 //! Answers, with the times of their calls.
-ghost use Rattle.std.specs.Prelude.{◌≡◌, ◌↔◌, ℕ, List, IsTrue};
+ghost use Rattle.std.specs.Prelude.{◌≡◌, ℕ, List};
 ghost use Rattle.std.specs.Option.{option_copied};
 ghost use Rattle.history_audit.specs.Followed.{Follows};
 ghost use Rattle.history_audit.specs.Lines.{entries_in};
@@ -7,7 +7,7 @@ ghost use Rattle.sh_history.specs.declared.entry.Entry.{Entry as Answer};
 ghost use Rattle.history_timed.specs.Calls.{entry_said, key_said, pass_said, inserts, uses, removes, finds, gets};
 ghost use Rattle.history_timed.specs.Calls.{releases, returned};
 ghost use Rattle.history_timed.specs.Calls.{gets_by, releases_by};
-ghost use Rattle.history_timed.specs.Clashes.{inserts_value, IsAnother};
+ghost use Rattle.history_timed.specs.Clashes.{inserts_value, is_another};
 
 use crate::span::Span;
 use history_audit::Audit;
@@ -187,7 +187,7 @@ impl Said {
 impl Call {
     /// Whether it ended, and is that of another line.
     pub fn is_another(&self, than: &Call) -> bool
-        ensures { IsTrue result ↔ IsAnother than.now self.now }
+        ensures { result ≡ is_another than.now self.now }
     {
         self.line != than.line && self.times.is_ended()
     }

@@ -1,81 +1,67 @@
 //! Lines that clash in each order.
-ghost use Rattle.std.specs.Prelude.{◌≡◌, ◌⊎◌, not, ◌||◌, ◌&&◌, IfSome, Some, None, true};
+ghost use Rattle.std.specs.Prelude.{◌≡◌, not, ◌||◌, ◌&&◌, IfSome, IfNone, Some, None, All, option_map};
 ghost use Rattle.std.specs.List.{list_all, list_any, Contains};
 ghost use Rattle.history_timed.specs.declared.call.Call.{Call as Other};
 ghost use Rattle.history_timed.specs.Times.{ends_before, is_ended};
 ghost use Rattle.history_timed.specs.Calls.{inserts, uses, removes, finds, gets, releases, gets_by, releases_by};
-ghost use Rattle.history_timed.specs.Clashes.{AtLine, IsAnother, inserts_value, IsClash};
-ghost use Rattle.history_timed.specs.Clashes.{most_before, least_before, IsInsertedTwice, IsNeverIssued};
-ghost use Rattle.history_timed.specs.Clashes.{HasNoSuchInsert, IsUsedLate, IsRemovedTwice, IsNotGone, IsHeldByNone};
-ghost use Rattle.history_timed.specs.Clashes.{IsUncrowded};
+ghost use Rattle.history_timed.specs.Clashes.{first_line, is_another, inserts_value, most_before, least_before};
+ghost use Rattle.history_timed.specs.Clashes.{IsAnswer, IsInsertedTwice, IsNeverIssued, HasNoSuchInsert};
+ghost use Rattle.history_timed.specs.Clashes.{IsOfRemoved, IsNotGone, IsHeldByNone, IsUncrowded, IsClash};
+ghost use Rattle.history_timed.specs.Clashes.{ClashesForNone, IsAnyAnswer};
 
 use crate::call::{Call, Said};
 use history_audit::Clash;
 use sh_history::{Entry, Why};
 use sh_value::Value;
 
-// The line of another call that inserted the key, and ended.
+// The line of the first other call that inserted the key, and ended.
 fn other_insert(calls: &[Call], key: u64, call: &Call) -> Option<u64>
-    ensures { IfSome result (λ line. AtLine calls.now (Some line)
-        (λ o. (inserts key o.said ≡ true) × IsAnother call.now o)) }
+    ensures { result ≡ first_line (λ (o : Other). inserts key o.said && is_another call.now o) calls.now }
 {
-    for other in calls {
-        if other.said.inserts(key) && other.is_another(call) {
-            return Some(other.line);
-        }
-    }
-    None
+    calls
+        .iter()
+        .find(|other| other.said.inserts(key) && other.is_another(call))
+        .map(|other| other.line)
 }
 
-// The line of a call that inserted the key.
+// The line of the first call that inserted the key.
 fn any_insert(calls: &[Call], key: u64) -> Option<u64>
-    ensures { IfSome result (λ line. AtLine calls.now (Some line) (λ o. inserts key o.said ≡ true)) }
+    ensures { result ≡ first_line (λ (o : Other). inserts key o.said) calls.now }
 {
-    for other in calls {
-        if other.said.inserts(key) {
-            return Some(other.line);
-        }
-    }
-    None
+    calls
+        .iter()
+        .find(|other| other.said.inserts(key))
+        .map(|other| other.line)
 }
 
-// The line of another call that removed the key, and ended.
+// The line of the first other call that removed the key, and ended.
 fn other_removal(calls: &[Call], key: u64, call: &Call) -> Option<u64>
-    ensures { IfSome result (λ line. AtLine calls.now (Some line)
-        (λ o. (removes key o.said ≡ true) × IsAnother call.now o)) }
+    ensures { result ≡ first_line (λ (o : Other). removes key o.said && is_another call.now o) calls.now }
 {
-    for other in calls {
-        if other.said.removes(key) && other.is_another(call) {
-            return Some(other.line);
-        }
-    }
-    None
+    calls
+        .iter()
+        .find(|other| other.said.removes(key) && other.is_another(call))
+        .map(|other| other.line)
 }
 
-// The line of a call that removed the key and ended before this one began.
+// The line of the first call that removed the key and ended before this one began.
 fn earlier_removal(calls: &[Call], key: u64, call: &Call) -> Option<u64>
-    ensures { IfSome result (λ line. AtLine calls.now (Some line)
-        (λ o. (removes key o.said ≡ true) × (ends_before o.times call.now.times ≡ true))) }
+    ensures { result ≡ first_line (λ (o : Other). removes key o.said && ends_before o.times call.now.times) calls.now }
 {
-    for other in calls {
-        if other.said.removes(key) && other.times.ends_before(&call.times) {
-            return Some(other.line);
-        }
-    }
-    None
+    calls
+        .iter()
+        .find(|other| other.said.removes(key) && other.times.ends_before(&call.times))
+        .map(|other| other.line)
 }
 
-// The line of a call that found the key and ended before this one began.
+// The line of the first call that found the key and ended before this one began.
 fn earlier_find(calls: &[Call], key: u64, call: &Call) -> Option<u64>
-    ensures { IfSome result (λ line. AtLine calls.now (Some line)
-        (λ o. (finds key o.said ≡ true) × (ends_before o.times call.now.times ≡ true))) }
+    ensures { result ≡ first_line (λ (o : Other). finds key o.said && ends_before o.times call.now.times) calls.now }
 {
-    for other in calls {
-        if other.said.finds(key) && other.times.ends_before(&call.times) {
-            return Some(other.line);
-        }
-    }
-    None
+    calls
+        .iter()
+        .find(|other| other.said.finds(key) && other.times.ends_before(&call.times))
+        .map(|other| other.line)
 }
 
 // Whether each call that inserted the key began after this one had ended.
@@ -153,11 +139,17 @@ fn all_releases_before(calls: &[Call], key: u64, call: &Call) -> usize
         .count()
 }
 
-// A clash of the call with that of a line.
-fn with_line(why: Why, by: u64) -> Clash
-    ensures { result ≡ record { why = why; by = Some by } }
+// A clash of the call with that of a line, if there is one.
+fn with_line(why: Why, by: Option<u64>) -> Option<Clash>
+    ensures { result ≡ option_map (λ line. record { why = why; by = Some line }) by }
 {
-    Clash { why, by: Some(by) }
+    match by {
+        Some(line) => Some(Clash {
+            why,
+            by: Some(line),
+        }),
+        None => None,
+    }
 }
 
 // A clash with what is missing.
@@ -168,19 +160,16 @@ fn missing(why: Why) -> Clash
 }
 
 fn not_new(calls: &[Call], key: u64, call: &Call) -> Option<Clash>
-    ensures { IfSome result (λ clash. (clash.why ≡ Why.NotNew)
-        × IsInsertedTwice calls.now key call.now clash.by) }
+    ensures { IsAnswer Why.NotNew (IsInsertedTwice calls.now key call.now) result }
 {
     if !call.said.inserts(key) {
         return None;
     }
-    let by = other_insert(calls, key, call)?;
-    Some(with_line(Why::NotNew, by))
+    with_line(Why::NotNew, other_insert(calls, key, call))
 }
 
 fn not_issued(calls: &[Call], key: u64, call: &Call) -> Option<Clash>
-    ensures { IfSome result (λ clash. (clash.why ≡ Why.NotIssued)
-        × IsNeverIssued calls.now key call.now clash.by) }
+    ensures { IsAnswer Why.NotIssued (IsNeverIssued calls.now key call.now) result }
 {
     let is_found = call.said.uses(key) || call.said.removes(key);
     if is_found && is_never_issued(calls, key, call) {
@@ -191,35 +180,31 @@ fn not_issued(calls: &[Call], key: u64, call: &Call) -> Option<Clash>
 }
 
 fn other_value(calls: &[Call], key: u64, call: &Call) -> Option<Clash>
-    ensures { IfSome result (λ clash. (clash.why ≡ Why.OtherValue)
-        × HasNoSuchInsert calls.now key call.now clash.by) }
+    ensures { IsAnswer Why.OtherValue (HasNoSuchInsert calls.now key call.now) result }
 {
-    let value = call.said.returned(key)?;
+    let Some(value) = call.said.returned(key) else {
+        return None;
+    };
     if !has_no_such_insert(calls, key, value) {
         return None;
     }
-    let by = any_insert(calls, key)?;
-    Some(with_line(Why::OtherValue, by))
+    with_line(Why::OtherValue, any_insert(calls, key))
 }
 
 fn after_removal(calls: &[Call], key: u64, call: &Call) -> Option<Clash>
-    ensures { IfSome result (λ clash. (clash.why ≡ Why.AfterRemoval)
-        × (IsUsedLate calls.now key call.now clash.by ⊎ IsRemovedTwice calls.now key call.now clash.by)) }
+    ensures { IsAnswer Why.AfterRemoval (IsOfRemoved calls.now key call.now) result }
 {
     if call.said.uses(key) {
-        let by = earlier_removal(calls, key, call)?;
-        return Some(with_line(Why::AfterRemoval, by));
+        return with_line(Why::AfterRemoval, earlier_removal(calls, key, call));
     }
     if call.said.removes(key) {
-        let by = other_removal(calls, key, call)?;
-        return Some(with_line(Why::AfterRemoval, by));
+        return with_line(Why::AfterRemoval, other_removal(calls, key, call));
     }
     None
 }
 
 fn still_there(calls: &[Call], key: u64, call: &Call) -> Option<Clash>
-    ensures { IfSome result (λ clash. (clash.why ≡ Why.StillThere)
-        × IsNotGone calls.now key call.now clash.by) }
+    ensures { IsAnswer Why.StillThere (IsNotGone calls.now key call.now) result }
 {
     let Said::Known(Entry::Gone(_, gone)) = &call.said else {
         return None;
@@ -228,13 +213,11 @@ fn still_there(calls: &[Call], key: u64, call: &Call) -> Option<Clash>
     if *gone != key || !stays {
         return None;
     }
-    let by = earlier_find(calls, key, call)?;
-    Some(with_line(Why::StillThere, by))
+    with_line(Why::StillThere, earlier_find(calls, key, call))
 }
 
 fn not_crowded(calls: &[Call], key: u64, call: &Call, passes: u32, guard_max: u32) -> Option<Clash>
-    ensures { IfSome result (λ clash. (clash.why ≡ Why.NotCrowded)
-        × IsUncrowded passes guard_max calls.now key call.now clash.by) }
+    ensures { IsAnswer Why.NotCrowded (IsUncrowded passes guard_max calls.now key call.now) result }
 {
     let Said::Known(Entry::Crowded(_, crowded)) = &call.said else {
         return None;
@@ -250,8 +233,7 @@ fn not_crowded(calls: &[Call], key: u64, call: &Call, passes: u32, guard_max: u3
 }
 
 fn not_held(calls: &[Call], key: u64, call: &Call) -> Option<Clash>
-    ensures { IfSome result (λ clash. (clash.why ≡ Why.NotHeld)
-        × IsHeldByNone calls.now key call.now clash.by) }
+    ensures { IsAnswer Why.NotHeld (IsHeldByNone calls.now key call.now) result }
 {
     let Said::Known(Entry::Released(pass, released)) = &call.said else {
         return None;
@@ -264,9 +246,9 @@ fn not_held(calls: &[Call], key: u64, call: &Call) -> Option<Clash>
     }
 }
 
-// The clash of a call, if for this reason no order of the calls that keeps to their times is legal.
+// The clash of a call for this reason.
 fn clash(calls: &[Call], call: &Call, why: Why, passes: u32, guard_max: u32) -> Option<Clash>
-    ensures { IfSome result (λ clash. IsClash passes guard_max calls.now call.now clash.why clash.by) }
+    ensures { IsAnswer why (IsClash passes guard_max calls.now call.now why) result }
 {
     if !call.times.is_ended() {
         return None;
@@ -281,6 +263,41 @@ fn clash(calls: &[Call], call: &Call, why: Why, passes: u32, guard_max: u32) -> 
         Why::NotCrowded => not_crowded(calls, key, call, passes, guard_max),
         Why::NotHeld => not_held(calls, key, call),
     }
+}
+
+// The clash of a call, for the first of these reasons for which it clashes.
+fn first_clash(
+    reasons: &[Why],
+    calls: &[Call],
+    call: &Call,
+    passes: u32,
+    guard_max: u32,
+) -> Option<Clash>
+    ensures some { IfSome result (λ clash. IsClash passes guard_max calls.now call.now clash.why clash.by) }
+    ensures none { IfNone result (All (ClashesForNone passes guard_max calls.now call.now) reasons.now) }
+{
+    for why in reasons {
+        if let Some(clash) = clash(calls, call, *why, passes, guard_max) {
+            return Some(clash);
+        }
+    }
+    None
+}
+
+/// The clash of a call, for the first reason of the order of `Why` for which it clashes. `None` if it does not clash.
+pub fn any_clash(calls: &[Call], call: &Call, passes: u32, guard_max: u32) -> Option<Clash>
+    ensures { IsAnyAnswer passes guard_max calls.now call.now result }
+{
+    let reasons = [
+        Why::NotNew,
+        Why::NotIssued,
+        Why::OtherValue,
+        Why::AfterRemoval,
+        Why::StillThere,
+        Why::NotCrowded,
+        Why::NotHeld,
+    ];
+    first_clash(&reasons, calls, call, passes, guard_max)
 }
 
 // The last call that inserted the key.

@@ -2,8 +2,8 @@
 //!
 //! The insert is as late as it may be: at the first end of a call that found the key. A get is as early as it may be,
 //! and a release as late. The removal is as early as it may be: after each use of the value. So if keys are never
-//! crowded, and some order is legal and keeps to the times, this one is and does. No contract says that: each order
-//! that is tried is judged.
+//! crowded, and some order is legal and keeps to the times, this one is and does. No contract says that. It is proved
+//! that this is the order that is tried, and that it is judged rightly.
 ghost use Rattle.std.specs.Prelude.{◌≡◌, ◌&&◌, ℕ, IfOk, OnOk, OnErr};
 ghost use Rattle.history_timed.specs.Times.{is_ended};
 ghost use Rattle.history_timed.specs.Calls.{uses, finds};

@@ -1,6 +1,8 @@
 //! When keys may have had enough holds for a refusal as crowded: a get is as early as it may be, and a release as late.
 //!
-//! This only helps to find an order, so nothing is proved of it: each order that is tried is judged.
+//! This only helps to find an order, so little is proved of it: each order that is tried is judged.
+ghost use Rattle.std.specs.Prelude.{◌≤◌, IfSome};
+
 use crate::call::{Call, Said};
 use crate::course::Courses;
 use sh_history::Entry;
@@ -114,7 +116,9 @@ impl Holding {
     }
 
     /// The first moment from this one on at which the key has enough holds, if there is one.
-    pub fn first_from(&self, key: u64, from: u64) -> Option<u64> {
+    pub fn first_from(&self, key: u64, from: u64) -> Option<u64>
+        ensures { IfSome result (λ moment. from ≤ moment) }
+    {
         let place = self
             .periods
             .partition_point(|period| (period.key, period.end) < (key, from));

@@ -1,11 +1,11 @@
 //! The verdict on calls with times.
 ghost use Rattle.std.specs.Prelude.{IfOk, IfErr, map};
-ghost use Rattle.std.specs.List.{Contains};
 ghost use Rattle.history_timed.specs.Placing.{call_of};
-ghost use Rattle.history_timed.specs.Verdicts.{IsVerdictOn, HasLegalHistory};
+ghost use Rattle.history_timed.specs.Verdicts.{IsVerdictOn, HasLegalHistory, IsRefusedAt};
 
 use crate::call::Call;
 use crate::clashing::refusal;
+use crate::finding::findings;
 use crate::order::{Placed, in_order};
 use crate::verdict::Verdict;
 use history_audit::Audit;
@@ -23,7 +23,7 @@ fn audited<'a>(
     ensures legal { IfOk result (λ found. IfOk found
         (HasLegalHistory passes guard_max (map call_of placed.now))) }
     ensures not_allowed { IfOk result (λ found. IfErr found
-        (λ fault. Contains (map call_of placed.now) fault.0.now)) }
+        (λ fault. IsRefusedAt passes guard_max (map call_of placed.now) fault.0.now fault.1)) }
 {
     let mut audit = Audit::new(alloc, passes, guard_max);
     for at in placed {
@@ -36,8 +36,8 @@ fn audited<'a>(
 }
 
 /// Judges calls by their answers and times: whether some order of them that keeps to the times is legal, of a map with
-/// this number of passes. A key may have at most `guard_max` holds. Calls that never ended may be left out. Refused if
-/// memory is.
+/// this number of passes. A key may have at most `guard_max` holds. Calls that never ended may be left out. It stays
+/// undecided only if the order that is tried is not legal, and no call clashes. Refused if memory is.
 pub fn judge(
     alloc: Global,
     calls: &[Call],
@@ -52,8 +52,11 @@ pub fn judge(
         Ok(keys) => return Ok(Verdict::Legal(placed.len() as u64, keys)),
         Err(fault) => fault,
     };
-    match refusal(calls, call, why, passes, guard_max) {
-        Some((clashing, clash)) => Ok(Verdict::Broken(clashing.line, clash)),
+    if let Some((clashing, clash)) = refusal(calls, call, why, passes, guard_max) {
+        return Ok(Verdict::Broken(clashing.line, clash));
+    }
+    match findings(alloc, calls, passes, guard_max)?.first() {
+        Some(finding) => Ok(Verdict::Broken(finding.line, finding.clash)),
         None => Ok(Verdict::Undecided(call.line, why)),
     }
 }

@@ -2,12 +2,14 @@
 //! by `history_audit`.
 //!
 //! `course`, `holding` and `moment` give each call a moment within its times, `order` sorts by it, and `judging` audits
-//! that order. It is proved that a legal order was found, or that there is none by the lines named, or it stays open.
+//! that order. It is proved that this order is legal, or that there is none by the lines named. It stays open only if no
+//! call clashes with others of its key (`clashing`, `finding`).
 #![tactic(auto)]
 
 pub mod call;
 pub mod clashing;
 mod course;
+pub mod finding;
 mod holding;
 pub mod judging;
 pub mod law;
@@ -17,6 +19,7 @@ pub mod span;
 pub mod verdict;
 
 pub use call::{Call, Said};
+pub use finding::{Finding, findings};
 pub use judging::judge;
 pub use law::clashes_forbid;
 pub use span::Span;

@@ -1,6 +1,8 @@
 //! The moment of a call, by the course of its key.
-ghost use Rattle.std.specs.Prelude.{◌≡◌, MatchOption, false};
+ghost use Rattle.std.specs.Prelude.{◌≡◌, ◌≤◌, MatchOption, true, false};
 ghost use Rattle.history_timed.specs.Times.{IsWithin, is_ended};
+ghost use Rattle.history_timed.specs.Courses.{insert_moment, removal_moment};
+ghost use Rattle.history_timed.specs.Moments.{gone_wish, inserted_at, IsWish, IsPoint, is_left_out};
 
 use crate::call::{Call, Said};
 use crate::course::Course;
@@ -37,7 +39,9 @@ pub struct Point {
 
 // The wish of an answer that the key is gone: before the insert if the call had begun by then, and otherwise after the
 // removal.
-fn gone(course: &Course, begin: u64) -> (u64, Rank) {
+fn gone(course: &Course, begin: u64) -> (u64, Rank)
+    ensures { result ≡ gone_wish (insert_moment course.now) (removal_moment course.now) begin }
+{
     match course.inserted() {
         Some(inserted) if inserted < begin => { (course.removed().unwrap_or(u64::MAX), Rank::Late) }
         _ => (begin, Rank::Early),
@@ -45,7 +49,9 @@ fn gone(course: &Course, begin: u64) -> (u64, Rank) {
 }
 
 // The wish of a refusal as crowded: the first moment in its times at which the key has enough holds, or its first one.
-fn crowded(course: &Course, holding: &Holding, call: &Call) -> u64 {
+fn crowded(course: &Course, holding: &Holding, call: &Call) -> u64
+    ensures { inserted_at course.now ≤ result }
+{
     let begun = call.times.begin().max(course.inserted().unwrap_or(0));
     match holding.first_from(call.said.key(), begun) {
         Some(moment) if moment == call.times.nearest(moment) => moment,
@@ -54,7 +60,9 @@ fn crowded(course: &Course, holding: &Holding, call: &Call) -> u64 {
 }
 
 // The moment that a call would have, if its times did not count, and its rank.
-fn wish(course: &Course, holding: &Holding, call: &Call) -> (u64, Rank) {
+fn wish(course: &Course, holding: &Holding, call: &Call) -> (u64, Rank)
+    ensures { IsWish course.now call.now.times.begin call.now.said result }
+{
     let inserted = course.inserted().unwrap_or(0);
     match &call.said {
         Said::Known(Entry::Insert(_, _, _)) => (inserted, Rank::Insert),
@@ -70,7 +78,8 @@ fn wish(course: &Course, holding: &Holding, call: &Call) -> (u64, Rank) {
 
 /// The point of a call in its times, or `None` if it never ended and is best left out.
 pub fn point_of(course: &Course, holding: &Holding, call: &Call) -> Option<Point>
-    ensures { MatchOption result (is_ended call.now.times ≡ false)
+    ensures is { MatchOption result (is_left_out course.now call.now ≡ true) (IsPoint course.now call.now) }
+    ensures within { MatchOption result (is_ended call.now.times ≡ false)
         (λ point. IsWithin call.now.times point.moment) }
 {
     if !call.times.is_ended() && !course.is_change(call.line) {

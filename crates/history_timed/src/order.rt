@@ -1,6 +1,6 @@
 //! The calls in the order of their moments.
 ghost use Rattle.std.specs.Prelude.{IfOk, map};
-ghost use Rattle.history_timed.specs.Placing.{call_of};
+ghost use Rattle.history_timed.specs.Placing.{call_of, IsTried};
 ghost use Rattle.history_timed.specs.Orders.{IsOrder};
 
 use crate::call::Call;
@@ -25,7 +25,8 @@ pub fn in_order<'a>(
     calls: &'a [Call],
     enough: u64,
 ) -> Result<Vec<Placed<'a>>, AllocError>
-    ensures { IfOk result (λ placed. IsOrder calls.now (map call_of placed.items)) }
+    ensures order { IfOk result (λ placed. IsOrder calls.now (map call_of placed.items)) }
+    ensures tried { IfOk result (λ placed. IsTried calls.now (map call_of placed.items)) }
 {
     let courses = Courses::new(alloc, calls)?;
     let holding = Holding::new(alloc, calls, &courses, enough)?;

@@ -1,6 +1,7 @@
 //! The times of a call.
 ghost use Rattle.std.specs.Prelude.{◌≡◌, ◌<◌, Some, None, MatchOption};
 ghost use Rattle.history_timed.specs.Times.{IsWithin, ends_before, is_ended};
+ghost use Rattle.history_timed.specs.Moments.{nearest};
 
 use std::marker::Model;
 
@@ -79,7 +80,8 @@ impl Span {
 
     /// The moment, if it is one of the times of the call; otherwise the one of them that is nearest.
     pub fn nearest(&self, moment: u64) -> u64
-        ensures { IsWithin self.now result }
+        ensures is { result ≡ nearest self.now moment }
+        ensures within { IsWithin self.now result }
     {
         let begun = moment.max(self.begin);
         match self.end {

@@ -11,7 +11,8 @@ pub enum Verdict {
     /// It is not legal: the line that is not allowed, counted from 1, and why. Without times it is the first that those
     /// before it do not allow. With times no order that keeps to them allows it.
     Broken(u64, Clash),
-    /// With times: the order that was tried does not allow this line, for this reason. Another order may be legal.
+    /// With times: the order that was tried does not allow this line, for this reason. No call clashes with others of
+    /// its key, so another order may be legal.
     Undecided(u64, Why),
 }
 

@@ -2,42 +2,16 @@
 //! is that of a map whose keys are never used again. This file joins the process to `history_lines`.
 #![tactic(auto)]
 
-use clap::{Command, Error};
-use history_lines::{Fault, Verdict, judge};
+mod options;
+mod shown;
+
+use crate::options::{Options, options_of};
+use crate::shown::write_found;
+use history_lines::{Fault, Found, Verdict, find_all, judge};
 use script_start::{show, with_words};
-use std::alloc::Global;
 use std::io;
-use std::io::{BufReader, Write};
+use std::io::{BufRead, BufReader, BufWriter, Write};
 use std::process::ExitCode;
-
-const AFTER_HELP: &str =
-    "The first line is `history PASSES HOLDS_MAX`, and each further line one answer, as
-`[BEGIN END] PASS ENTRY KEY [LENGTH WORD ..]`, with ENTRY one of Insert, Got, Seen,
-Gone, Crowded, Removed and Released. All lines have times or none has. Without times their
-order is judged. With times some order that keeps to them is looked for; END is `-`
-if the call never ended. docs/HISTORIES.md says more.
-
-Example, of a file in the folder examples/histories/:
-  tool_history < legal.history
-
-Exit status:
-  0  the history is legal, or help or the version was asked for
-  1  the history is not legal
-  2  the command line or a line of the history is wrong
-  3  memory was refused, or a read or a write failed
-  4  the lines have times, and whether an order of them is legal was not decided";
-
-// Reads the command line, which has nothing but the program's name.
-fn options(alloc: Global, words: &[&str]) -> Result<(), Error> {
-    let command = Command::new(alloc, "tool_history")
-        .about(
-            "Judges a recorded history of a map whose keys are never used again, from the standard input",
-        )
-        .version("0.2.0")
-        .after_help(AFTER_HELP);
-    let _matches = command.try_get_matches_from(words)?;
-    Ok(())
-}
 
 // The exit status of a fault: 2 if the history is at fault, and 3 otherwise.
 fn status_of(fault: Fault) -> u8 {
@@ -52,10 +26,8 @@ fn report(rt: &HostRuntime, fault: Fault) -> u8 {
     status_of(fault)
 }
 
-fn write_verdict(rt: &HostRuntime, verdict: &Verdict) -> u8 {
-    if println!(rt; "{verdict}").is_err() {
-        return report(rt, Fault::Io);
-    }
+// The exit status of a verdict.
+fn status_by(verdict: &Verdict) -> u8 {
     match verdict {
         Verdict::Legal(_, _) => 0,
         Verdict::Broken(_, _) => 1,
@@ -63,19 +35,57 @@ fn write_verdict(rt: &HostRuntime, verdict: &Verdict) -> u8 {
     }
 }
 
-fn judge_input(rt: &HostRuntime) -> u8 {
-    let Ok(mut input) = BufReader::new(rt.alloc(), rt.stdin()) else {
-        return report(rt, Fault::Memory);
-    };
-    match judge(rt.alloc(), &mut input) {
+fn write_verdict(rt: &HostRuntime, verdict: &Verdict) -> u8 {
+    if println!(rt; "{verdict}").is_err() {
+        return report(rt, Fault::Io);
+    }
+    status_by(verdict)
+}
+
+// Judges the input up to the first line that is not allowed.
+fn judge_input<R: BufRead>(rt: &HostRuntime, input: &mut R) -> u8 {
+    match judge(rt.alloc(), input) {
         Ok(verdict) => write_verdict(rt, &verdict),
         Err(fault) => report(rt, fault),
     }
 }
 
+fn write_search(rt: &HostRuntime, found: &Found, with_lines: bool) -> io::Result<()> {
+    let mut output = BufWriter::new(rt.alloc(), rt.stdout())?;
+    write_found(&mut output, found, with_lines)?;
+    output.flush()
+}
+
+// Finds each line of the input that is not allowed, of all keys or of one.
+fn search_input<R: BufRead>(rt: &HostRuntime, input: &mut R, only: Option<u64>) -> u8 {
+    let found = match find_all(rt.alloc(), input, only) {
+        Ok(found) => found,
+        Err(fault) => return report(rt, fault),
+    };
+    if write_search(rt, &found, only.is_some()).is_err() {
+        return report(rt, Fault::Io);
+    }
+    if found.findings.is_empty() {
+        status_by(&found.verdict)
+    } else {
+        1
+    }
+}
+
+fn run_with(rt: &HostRuntime, options: Options) -> u8 {
+    let Ok(mut input) = BufReader::new(rt.alloc(), rt.stdin()) else {
+        return report(rt, Fault::Memory);
+    };
+    if options.all || options.key.is_some() {
+        search_input(rt, &mut input, options.key)
+    } else {
+        judge_input(rt, &mut input)
+    }
+}
+
 fn run(rt: &HostRuntime, words: &[&str]) -> u8 {
-    match options(rt.alloc(), words) {
-        Ok(()) => judge_input(rt),
+    match options_of(rt.alloc(), words) {
+        Ok(options) => run_with(rt, options),
         Err(error) => show(&error, &mut rt.stdout(), &mut rt.stderr()),
     }
 }

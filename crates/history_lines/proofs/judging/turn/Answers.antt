@@ -1,19 +1,11 @@
-use Rattle.std.proofs.Common.{◌≡◌, ℕ, List, [], ◌∷◌, ◌++◌, length, refl, sym, ◌∙◌, ap, inl, inr}
+use Rattle.std.proofs.Common.{◌≡◌, [], refl, sym, ◌∙◌, inl, inr}
 use Rattle.std.specs.Io.BufRead.{drop_through}
-use Rattle.history_lines.proofs.TextLemmas.{through_none, bad_end, first_line}
+use Rattle.history_lines.proofs.TextLemmas.{through_none, bad_end, first_line, empty, newline_last}
 use Rattle.history_lines.proofs.judging.turn.Goals as goal
-
-nothing : (xs : List ℕ) → length xs ≡ 0 → xs ≡ []
-nothing [] e = refl
-nothing (x ∷ xs) e = absurd (let no : ⊥ = cc in no)
-
--- a line that was read with its newline
-newline_last : (text line : List ℕ) (last : ℕ) → text ≡ line ++ last ∷ [] → last ≡ 10 → text ≡ line ++ 10 ∷ []
-newline_last text line last e same = e ∙ ap (λ (b : ℕ). line ++ b ∷ []) same
 
 pub returns-in_default : goal.returns-in_default
 returns-in_default c = λ book rest is reads.
-    let none : rest ≡ [] = through_none rest (sym reads ∙ nothing _ c.in_default.ensures.cases) in
+    let none : rest ≡ [] = through_none rest (sym reads ∙ empty _ c.in_default.ensures.cases) in
     rw none (c.end.ensures book c.args.reading.now is)
 
 pub returns-then-last-ne10 : goal.returns-then-last-ne10
@@ -43,7 +35,7 @@ returns-in-Ok-Some c = λ book rest is reads. inl (
     c.in-Some.line.now,
     first_line rest c.in-Some.line.now
         (sym reads ∙ newline_last _ _ _ c.in-Some.ensures.cases.0 c.if-last-ne10.false),
-    rw c.in-Ok-Some.field-0-is at (c.in-Ok-Some.ensures book is),
+    (rw c.in-Ok-Some.field-0-is at (c.in-Ok-Some.ensures book is)).0,
   ),
 )
 
