@@ -14,6 +14,7 @@ pub mod keys;
 pub mod opening;
 pub mod passes;
 pub mod receipts;
+mod rooms;
 pub mod tags;
 pub mod taking;
 #[cfg(test)]

@@ -6,7 +6,8 @@ use Rattle.sh_value.specs.declared.refusal.Refusal.TheVariants as refusal
 use Rattle.sh_grown.specs.Chunks.{chunked, chunk_of, key_within}
 use Rattle.sh_pass.specs.Seats.{Heap}
 use Rattle.sh_pass.specs.Passes.{Caller, GetDoes, ReadDoes, RemoveDoes, ReleaseDoes}
-use Rattle.sh_member.specs.Readers.{FetchDoes, TakeFitsDoes}
+use Rattle.sh_pass.specs.Fetching.{FetchDoes}
+use Rattle.sh_member.specs.Readers.{TakeFitsDoes}
 use Rattle.sh_member.specs.Sides.{SeenSide, SideDoes, SideInserts, SidePrepares, SideCollects, SideAdopts, SideLeaves}
 use Rattle.sh_member.specs.Sides.{IsPass, IsOfHeap, IsReceiptBy}
 use Rattle.sh_grown.specs.declared.caller.Caller.{Caller as SeenCaller}

@@ -137,7 +137,7 @@
 //!     let growing = GrowingShare::open(alloc, 64, 256)?;      // passes, and chunks at most
 //!     let mut caller = growing.claim(alloc)?;                 // one for each thread
 //!     let key = caller.insert(alloc, &Value::of([7, 8]))?;    // opens a chunk if no open one has room
-//!     let value = caller.fetch(key)?;
+//!     let value = caller.look(key)?;
 //!     caller.remove(key)?;
 //!     let Ok(()) = caller.end() else {                        // leaves its shards: its number can be claimed again
 //!         return Err(Refusal::Waiting);

@@ -65,7 +65,7 @@ impl GrowingShare {
     /// let growing = GrowingShare::open(alloc, 64, 256)?;
     /// let mut caller = growing.claim(alloc)?;
     /// let key = caller.insert(alloc, &Value::from(7))?;
-    /// let value = caller.fetch(key)?;
+    /// let value = caller.look(key)?;
     /// ```
     #[tactic(auto, using(crate::proofs::Claims::claimed_alike, crate::proofs::OfChunks::claims_of))]
     pub fn claim(&self, alloc: Global) -> Result<Caller, Refusal>

@@ -1,6 +1,5 @@
 pub mod BatchSteps
 pub mod Ending
 pub mod Hearing
-pub mod Holding
 pub mod KeyWalks
 pub mod TakingInto

@@ -2,7 +2,7 @@
 use crate::reader::Reader;
 use sh_key::KeyLayout;
 use sh_pass::pass::PassOn;
-use sh_pass::{Glance, KeepsHeap, Receipt};
+use sh_pass::{KeepsHeap, Receipt};
 use sh_value::{Hold, Refusal, Value};
 
 impl<L: KeyLayout, H: KeepsHeap<L>> Reader for PassOn<L, H> {
@@ -18,8 +18,8 @@ impl<L: KeyLayout, H: KeepsHeap<L>> Reader for PassOn<L, H> {
         PassOn::warm_value(self, key);
     }
 
-    fn glance(&mut self, key: u64, value: &mut Value) -> Result<Glance, Refusal> {
-        PassOn::glance(self, key, value)
+    fn look_into(&mut self, key: u64, value: &mut Value) -> Result<(), Refusal> {
+        PassOn::look_into(self, key, value)
     }
 
     fn get(&mut self, key: u64) -> Result<Hold, Refusal> {

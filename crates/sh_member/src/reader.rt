@@ -1,18 +1,20 @@
 //! What a pass and a shard have in common.
 ghost use Rattle.std.specs.Prelude.{◌≡◌, ℕ, Result, length};
 ghost use Rattle.sh_key.specs.Layout.{Layout};
-ghost use Rattle.sh_pass.specs.Passes.{Caller, GetDoes, ReadDoes, ReadIntoDoes, RemoveDoes, ReleaseDoes, GlanceDoes};
+ghost use Rattle.sh_pass.specs.Fetching.{FetchDoes};
+ghost use Rattle.sh_pass.specs.Rooms.{FillsRoom, becomes};
+ghost use Rattle.sh_pass.specs.Passes.{Caller, GetDoes, ReadDoes, ReadIntoDoes, RemoveDoes, ReleaseDoes};
 ghost use Rattle.sh_pass.specs.Receipts.{heeded, receipt_by};
 ghost use Rattle.sh_member.specs.Batches.{GetsEach, FetchesEach, RemainsAfter};
 ghost use Rattle.sh_pass.specs.Remaining.{Remains};
-ghost use Rattle.sh_member.specs.Readers.{FetchDoes, FetchIntoDoes, WithDoes, TakeDoes, TakeIntoDoes};
+ghost use Rattle.sh_member.specs.Readers.{WithDoes, TakeDoes, TakeIntoDoes};
 ghost use Rattle.std.specs.Fn.{FnOnceReturnsAt};
 
 use crate::batches::{fetch_each, get_each};
-use crate::fetching::{fetch, fetch_into, with};
+use crate::fetching::{fetch, with};
 use crate::taking::take;
 use crate::taking_into::take_into;
-use sh_pass::{Glance, Receipt};
+use sh_pass::Receipt;
 use sh_value::{Hold, Refusal, Value};
 
 /// A caller that may look keys up: a pass, or a shard by its owner's pass.
@@ -40,11 +42,11 @@ pub trait Reader {
     /// has one.
     fn warm_value(&self, key: u64);
 
-    /// Looks at a key once, in loads alone: at most w + 4 for a value of w words. A value that it sees replaces the
-    /// caller's; otherwise the caller's value stays. Refused as `BadKey`. `look_into` is this, and a get where this
-    /// decides nothing.
-    fn glance(&mut self, key: u64, value: &mut Value) -> Result<Glance, Refusal>
-        ensures does { GlanceDoes layout key (caller self.old) value.old result value.new (caller self.new) }
+    /// The value of a key into a value of the caller's, replacing what that was: as `look`. A refusal leaves the
+    /// caller's value as it was.
+    fn look_into(&mut self, key: u64, value: &mut Value) -> Result<(), Refusal>
+        ensures does { FillsRoom becomes (λ answer. FetchDoes layout key (caller self.old) answer (caller self.new))
+            value.old result value.new }
         ensures remains { Remains layout (caller self.old) (caller self.new) };
 
     /// Takes a hold on a key, so that its value stays readable. Refused as `BadKey`, `HoldsFull`, `Gone` or `Crowded`,
@@ -106,16 +108,6 @@ pub trait Reader {
         fetch(self, key)
     }
 
-    /// The same into a value of the caller's, replacing what that was. A refusal leaves the caller's value as it was.
-    final fn look_into(&mut self, key: u64, value: &mut Value) -> Result<(), Refusal>
-    where
-        Self: Sized,
-        ensures does { FetchIntoDoes layout key (caller self.old) value.old result value.new (caller self.new) }
-        ensures remains { Remains layout (caller self.old) (caller self.new) }
-    {
-        fetch_into(self, key, value)
-    }
-
     /// The value of a key: the same as `look`.
     final fn fetch(&mut self, key: u64) -> Result<Value, Refusal>
     where
@@ -130,10 +122,11 @@ pub trait Reader {
     final fn fetch_into(&mut self, key: u64, value: &mut Value) -> Result<(), Refusal>
     where
         Self: Sized,
-        ensures does { FetchIntoDoes layout key (caller self.old) value.old result value.new (caller self.new) }
+        ensures does { FillsRoom becomes (λ answer. FetchDoes layout key (caller self.old) answer (caller self.new))
+            value.old result value.new }
         ensures remains { Remains layout (caller self.old) (caller self.new) }
     {
-        fetch_into(self, key, value)
+        self.look_into(key, value)
     }
 
     /// What a call returns for the value of a key, as `pass.with(key, |value| value.words().len())`: a look whose value

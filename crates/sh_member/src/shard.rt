@@ -1,7 +1,7 @@
 // A shard reads, by its owner's pass.
 use crate::reader::Reader;
 use sh_key::KeyLayout;
-use sh_pass::{Glance, KeepsHeap, Receipt};
+use sh_pass::{KeepsHeap, Receipt};
 use sh_shard::shard::ShardOn;
 use sh_value::{Hold, Refusal, Value};
 
@@ -18,8 +18,8 @@ impl<L: KeyLayout, H: KeepsHeap<L>> Reader for ShardOn<L, H> {
         ShardOn::warm_value(self, key);
     }
 
-    fn glance(&mut self, key: u64, value: &mut Value) -> Result<Glance, Refusal> {
-        ShardOn::glance(self, key, value)
+    fn look_into(&mut self, key: u64, value: &mut Value) -> Result<(), Refusal> {
+        ShardOn::look_into(self, key, value)
     }
 
     fn get(&mut self, key: u64) -> Result<Hold, Refusal> {

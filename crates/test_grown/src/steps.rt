@@ -34,5 +34,5 @@ fn an_insert_into_a_small_heap_takes_at_most_9538_steps(rt: HostRuntime) {
     let key = caller
         .insert(rt.alloc(), &Value::from(7))
         .expect(&rt, "a key");
-    agree(&rt, caller.fetch(key), Ok(Value::from(7)));
+    agree(&rt, caller.look(key), Ok(Value::from(7)));
 }

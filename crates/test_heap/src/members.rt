@@ -37,9 +37,9 @@ fn fetches<L: KeyLayout, H: KeepsHeap<L>>(
     key: u64,
     wanted: Result<u64, Refusal>,
 ) {
-    agree(rt, member.fetch(key), wanted.map(Value::from));
+    agree(rt, member.look(key), wanted.map(Value::from));
     let mut value = Value::from(5);
-    agree(rt, member.fetch_into(key, &mut value), wanted.map(|_| ()));
+    agree(rt, member.look_into(key, &mut value), wanted.map(|_| ()));
     agree(rt, value, Value::from(wanted.unwrap_or(5)));
 }
 

@@ -2,7 +2,6 @@
 //! with as many holds as there may be.
 use super::*;
 use sh_member::Reader;
-use sh_pass::Glance;
 use sh_shard::Shard;
 use sh_value::Value;
 
@@ -33,33 +32,26 @@ fn sees<R: Reader>(rt: &impl Abort, reader: &mut R, key: u64, words: &[u64]) {
     agree(rt, reader.look_into(key, &mut seen), Ok(()));
     agree(rt, seen.words(), words);
     let mut seen = Value::from(5);
-    agree(rt, reader.glance(key, &mut seen), Ok(Glance::Seen));
+    agree(rt, reader.look_into(key, &mut seen), Ok(()));
     agree(rt, seen.words(), words);
 }
 
-// A glance has this answer and each other look this refusal. The caller's value stays.
-fn sees_nothing<R: Reader>(
-    rt: &impl Abort,
-    reader: &mut R,
-    key: u64,
-    answer: Result<Glance, Refusal>,
-    refusal: Refusal,
-) {
+// Each look at the key is refused so. The caller's value stays.
+fn sees_nothing<R: Reader>(rt: &impl Abort, reader: &mut R, key: u64, refusal: Refusal) {
     agree(rt, reader.look(key), Err(refusal));
     let mut kept = Value::of([5, 6]);
     agree(rt, reader.look_into(key, &mut kept), Err(refusal));
-    agree(rt, reader.glance(key, &mut kept), answer);
     agree(rt, kept.words(), [5, 6].as_slice());
 }
 
 // The key was removed.
 fn is_gone<R: Reader>(rt: &impl Abort, reader: &mut R, key: u64) {
-    sees_nothing(rt, reader, key, Ok(Glance::Gone), Refusal::Gone);
+    sees_nothing(rt, reader, key, Refusal::Gone);
 }
 
 // The key was never issued: the look goes on to a get, which is refused.
 fn is_early<R: Reader>(rt: &impl Abort, reader: &mut R, key: u64, refusal: Refusal) {
-    sees_nothing(rt, reader, key, Ok(Glance::Early), refusal);
+    sees_nothing(rt, reader, key, refusal);
 }
 
 // A value of these words is seen by both until one removes it.
