@@ -47,14 +47,14 @@ pub live_by_one_test : (g found : ℕ) → (found / 2 ^ 30 == g * 4 + 1) ≡ liv
 unfolding fields_of
 live_by_one_test g found = go (bit_at found 30 == 1) (bit_at found 31 == 1) (found / 2 ^ 32 == g)
     (found / 2 ^ 30 == g * 4 + 1) refl refl refl refl where
-  go : (present marked same test : Bool) → (bit_at found 30 == 1) ≡ present → (bit_at found 31 == 1) ≡ marked
-      → (found / 2 ^ 32 == g) ≡ same → (found / 2 ^ 30 == g * 4 + 1) ≡ test
-      → test ≡ (present && not marked && same)
-  go true false true true p m s t = refl
-  go true false true false p m s t = absurd (grind (arith, nat_tests))
-  go true false false true p m s t = absurd (grind (arith, nat_tests))
-  go true false false false p m s t = refl
-  go true true same true p m s t = absurd (grind (arith, nat_tests))
-  go true true same false p m s t = refl
-  go false marked same true p m s t = absurd (grind (arith, nat_tests))
-  go false marked same false p m s t = refl
+      go : (present marked same test : Bool) → (bit_at found 30 == 1) ≡ present → (bit_at found 31 == 1) ≡ marked
+          → (found / 2 ^ 32 == g) ≡ same → (found / 2 ^ 30 == g * 4 + 1) ≡ test
+          → test ≡ (present && not marked && same)
+      go true false true true p m s t = refl
+      go true false true false p m s t = absurd (grind (arith, nat_tests))
+      go true false false true p m s t = absurd (grind (arith, nat_tests))
+      go true false false false p m s t = refl
+      go true true same true p m s t = absurd (grind (arith, nat_tests))
+      go true true same false p m s t = refl
+      go false marked same true p m s t = absurd (grind (arith, nat_tests))
+      go false marked same false p m s t = refl

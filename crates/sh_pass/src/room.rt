@@ -4,7 +4,7 @@ ghost use Rattle.sh_pass.specs.Rooms.{becomes};
 
 use sh_value::Value;
 
-/// What a value that is looked at goes into, as a `Value` or the words of a caller in C: its words are copied there from
+/// What a value that is looked at goes into, as a `Value` or the words of a caller in C. Its words are copied there from
 /// the heap, with no value of 136 bytes in between.
 ///
 /// A look puts a value only once it is sure of it, so a refused look leaves the room as it was.

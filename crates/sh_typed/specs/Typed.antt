@@ -92,3 +92,9 @@ GivesBack given (Err Crowded) = Unit {0}
 GivesBack given (Err HoldsFull) = Unit {0}
 GivesBack given (Err Memory) = Unit {0}
 GivesBack given (Err _) = ⊥
+
+-- the same of a look
+abbrev pub SeesBack : {R : Type 0} → R → Result R Refusal → Type 0
+SeesBack given (Ok found) = found ≡ given
+SeesBack given (Err WrongKind) = ⊥
+SeesBack given (Err _) = Unit {0}

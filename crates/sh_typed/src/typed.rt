@@ -4,7 +4,7 @@ ghost use Rattle.std.specs.List.{Contains};
 ghost use Rattle.sh_plain.specs.Entry.TheVariants.{Insert};
 ghost use Rattle.sh_plain.specs.LogEntry.TheVariants.{Known};
 ghost use Rattle.sh_plain.specs.Store.{IsBook, InsertLeaves, LookLeaves, RemoveLeaves, ReleaseLeaves};
-ghost use Rattle.sh_typed.specs.Typed.{AsRecord, FetchesRecord, GivesBack, RecordLeaves, record_in};
+ghost use Rattle.sh_typed.specs.Typed.{AsRecord, FetchesRecord, GivesBack, RecordLeaves, SeesBack, record_in};
 
 use crate::fetch::fetch_record;
 use crate::look::look_record;
@@ -68,9 +68,14 @@ impl<S: Lookup, R: Record> Typed<S, R> {
 
     /// The record of a key, with no hold: `let session = sessions.look(key)?;`. Refused as the store refuses a look, and
     /// as `WrongKind` if the key's value is of another kind or does not decode.
+    ///
+    /// A record whose insert is in the book is given back, or the look is refused as the store refuses a look.
     pub fn look(&mut self, key: u64) -> Result<R, Refusal>
         ensures leaves { AsRecord (record_in R.KIND R.record_of)
             (λ answer. LookLeaves (S.setting self.old) key (S.book self.old) answer (S.book self.new)) result }
+        ensures given { (pass : ℕ) (value : List ℕ) (given : R)
+            → Contains (S.book self.old) (Known (Insert pass key value))
+            → record_in R.KIND R.record_of value ≡ Some given → SeesBack given result }
         ensures stands { IsBook (S.setting self.new) (S.book self.new) }
         ensures same { S.setting self.new ≡ S.setting self.old }
         ensures exact { AsRecord (record_in R.KIND R.record_of) (λ answer. S.looks self.old key answer self.new)

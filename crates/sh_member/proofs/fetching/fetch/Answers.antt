@@ -1,4 +1,8 @@
+use Rattle.std.proofs.Common.{List, ℕ}
+use Rattle.std.specs.Prelude.{Result}
 use Rattle.std.proofs.lemmas.Result.{err_from_is_err_and}
+use Rattle.sh_value.specs.declared.refusal.Refusal.{Refusal}
+use Rattle.sh_pass.specs.Fetching.{FetchDoes}
 use Rattle.sh_pass.proofs.Fetched.{value_filled}
 use Rattle.sh_member.proofs.fetching.fetch.Goals as goal
 
@@ -8,4 +12,7 @@ returns-in_err-look_into-clause-does g c =
     rw (p.1, p.2) c.in_err-look_into.ensures.does.0
 
 pub returns-clause-does : goal.returns-clause-does
-returns-clause-does g c = value_filled _ _ _ c.in_ok-look_into.ensures.does
+returns-clause-does g c =
+    let does : Result (List ℕ) Refusal → Type 0 = λ r. FetchDoes g.R.Reader.layout c.args.key (g.R.Reader.caller c.args.reader.now) r
+    (g.R.Reader.caller c.look_into.new.self) in
+    value_filled does c.from-value.result c.look_into.new.value c.in_ok-look_into.ensures.does

@@ -6,10 +6,24 @@ use Rattle.sh_value.specs.declared.hold.Hold.{Hold}
 use Rattle.sh_value.specs.declared.refusal.Refusal.{Refusal}
 use Rattle.sh_pass.specs.Fetching.{GetsAndReads}
 use Rattle.sh_pass.specs.Owners.{CallLeaves}
-use Rattle.sh_pass.specs.Passes.{GetDoes, ReleaseDoes, caller_of}
+use Rattle.sh_pass.specs.Passes.{GetDoes, ReadIntoDoes, ReleaseDoes, caller_of}
 use Rattle.sh_pass.proofs.Fetched.{fetch_does, held_after, read_not_refused, release_not_refused}
 use Rattle.sh_pass.proofs.OwnCalls.{leaves_then}
 use Rattle.sh_pass.proofs.fetching.get_and_read.Goals as goal
+
+-- what was got is held, so its read is not refused
+pub unreachable-requires : goal.unreachable-requires
+unreachable-requires g c =
+    let layout = g.L.KeyLayout.layout in
+    let v = caller_of c.args.seat.now in
+    let a = caller_of c.get_key-got.new.seat in
+    let b = caller_of c.read_key.new.seat in
+    let got = subst (λ (r : Result Hold Refusal). GetDoes layout c.args.key v r a) c.in-Ok.is c.get_key-got.ensures.does
+    in
+    let read = subst (λ (r : Result (Unit {0}) Refusal). ReadIntoDoes c.in-Ok.hold.key a c.from-value.result r
+    c.read_key.new.value b) c.in_default.is c.read_key.ensures.does in
+    read_not_refused c.in-Ok.hold.key c.from-value.result c.read_key.new.value c.in_default.field-0 a b read
+    (held_after layout c.args.key c.in-Ok.hold v a got)
 
 pub put-requires : goal.put-requires
 put-requires g c = subst (λ (ws : List ℕ). length ws ≤ 16) (sym c.words.ensures.words) c.words.ensures.few

@@ -25,8 +25,12 @@ returns-then-not-is_live-clause-grows g c =
     (sym c.is_live.ensures ∙ c.if-not-is_live.true) refl in
     let P : Glance → Type 0 = λ a. LookFills g.M.Room.takes (λ value. LookGrows c.args.key a value
     c.args.seat.now.me.0 c.look_first-before.new.seat.me.0) a c.args.room.now c.args.room.now in
-    subst P (sym c.off_live.ensures) ([], off.0, off_stays g.M.Room.takes
-    (past_at c.args.name.generation c.look_first-before.result) c.args.room.now)
+    subst P (sym c.off_live.ensures) (
+      [],
+      off.0,
+      off_stays g.M.Room.takes
+          (past_at c.args.name.generation c.look_first-before.result) c.args.room.now,
+    )
 
 pub returns-then-not-is_live-clause-decides : goal.returns-then-not-is_live-clause-decides
 returns-then-not-is_live-clause-decides g c =
@@ -88,8 +92,7 @@ look_at_words-requires-clause-slot g c =
 
 pub returns-then-count-eq1-clause-grows : goal.returns-then-count-eq1-clause-grows
 returns-then-count-eq1-clause-grows g c =
-    let live = sym c.is_live.ensures ∙ c.if-not-is_live.false in
-    (
+    let live = sym c.is_live.ensures ∙ c.if-not-is_live.false in (
       c.look_at_word.ensures.does.0,
       (c.look_at_word.ensures.does.1.ends c.args.seat.now.me.0 (one_word c.args.key c.args.name
           c.look_class-class_word.result
@@ -99,7 +102,6 @@ returns-then-count-eq1-clause-grows g c =
           c.if-count-eq1.true)).0,
       c.look_at_word.ensures.does.2,
     )
-
 
 pub returns-then-count-eq1-clause-decides : goal.returns-then-count-eq1-clause-decides
 returns-then-count-eq1-clause-decides g c =
@@ -113,15 +115,13 @@ returns-then-count-eq1-clause-decides g c =
 
 pub returns-else-class_word-eq-ONE_WORD-clause-grows : goal.returns-else-class_word-eq-ONE_WORD-clause-grows
 returns-else-class_word-eq-ONE_WORD-clause-grows g c =
-    let live = sym c.is_live.ensures ∙ c.if-not-is_live.false in
-    (
+    let live = sym c.is_live.ensures ∙ c.if-not-is_live.false in (
       c.look_at_words.ensures.does.0,
       (c.look_at_words.ensures.does.1.ends c.args.seat.now.me.0 (measured c.args.key c.args.name c.look_first-before.result
           c.look_class-class_word.result c.look_length-count.result c.look_first-before.ensures live
           c.look_class-class_word.ensures c.look_length-count.ensures)).0,
       c.look_at_words.ensures.does.2,
     )
-
 
 pub returns-else-class_word-eq-ONE_WORD-clause-decides : goal.returns-else-class_word-eq-ONE_WORD-clause-decides
 returns-else-class_word-eq-ONE_WORD-clause-decides g c =
