@@ -3,4 +3,6 @@ pub mod Ending
 pub mod Hearing
 pub mod Holding
 pub mod KeyWalks
+pub mod PlaceWalks
+pub mod OnePlace
 pub mod TakingInto

@@ -25,8 +25,10 @@ mod shard;
 pub mod taking;
 pub mod taking_into;
 pub mod told_keys;
+pub mod walking;
 
 pub use member::{Member, Side};
 pub use own_keys::next_own_key;
 pub use reader::Reader;
 pub use told_keys::{ToldKey, fetch_told, insert_told};
+pub use walking::{NextHeld, NextLive};

@@ -2,7 +2,7 @@
 use crate::reader::Reader;
 use sh_key::KeyLayout;
 use sh_pass::pass::PassOn;
-use sh_pass::{Glance, KeepsHeap, Receipt};
+use sh_pass::{Glance, KeepsHeap, Receipt, heap_places};
 use sh_value::{Hold, Refusal, Value};
 
 impl<L: KeyLayout, H: KeepsHeap<L>> Reader for PassOn<L, H> {
@@ -20,6 +20,14 @@ impl<L: KeyLayout, H: KeepsHeap<L>> Reader for PassOn<L, H> {
 
     fn glance(&mut self, key: u64, value: &mut Value) -> Result<Glance, Refusal> {
         PassOn::glance(self, key, value)
+    }
+
+    fn heap_places(&self) -> u64 {
+        heap_places(PassOn::shape(self))
+    }
+
+    fn peek(&mut self, place: u64) -> Option<u64> {
+        PassOn::peek(self, place)
     }
 
     fn get(&mut self, key: u64) -> Result<Hold, Refusal> {

@@ -1,0 +1,22 @@
+// A peek at a slot of the heap by the owner of a shard.
+ghost use Rattle.std.specs.Prelude.{◌*◌, ◌<◌};
+ghost use Rattle.sh_pass.specs.Peeks.{PeekDoes};
+ghost use Rattle.sh_pass.specs.Places.{all_pages, slot_places};
+ghost use Rattle.sh_shard.specs.Shards.{StaysOwner, MovesNothing};
+
+use crate::shard::ShardOn;
+use sh_key::KeyLayout;
+use sh_pass::KeepsHeap;
+
+impl<L: KeyLayout, H: KeepsHeap<L>> ShardOn<L, H> {
+    /// The key that is live at a place of the heap, or `None` if none is, as a pass finds it.
+    #[inline(always)]
+    pub fn peek(&mut self, place: u64) -> Option<u64>
+        requires { place < all_pages self.old.pages.owner.heap.shape * slot_places }
+        ensures does { PeekDoes L.layout place self.old.pages.owner result self.new.pages.owner }
+        ensures moved { MovesNothing self.old self.new }
+        ensures stays { StaysOwner L.layout self.old self.new }
+    {
+        self.pages.peek(place)
+    }
+}
