@@ -1,7 +1,6 @@
 -- A walk over one place: a peek, and a look or a get of the key that it found.
 use Rattle.std.proofs.Common.{◌≡◌, ◌≢◌, ℕ, zero, suc, ◌+◌, ◌-◌, ◌*◌, ◌<◌, ◌≤◌, ◌⊎◌, inl, inr, List, [], ◌∷◌, ◌++◌, map, length}
 use Rattle.std.proofs.Common.{refl, sym, ◌∙◌, ap, subst, arith, append_assoc, append-nil, Option, Some, None, Result, Ok, Err}
-use Rattle.std.specs.List.{All}
 use Rattle.std.proofs.Math.Nat.{mul-add}
 use Rattle.std.proofs.lemmas.List.{map-append}
 use Rattle.std.proofs.lemmas.Nat.{mul-le}
@@ -13,7 +12,7 @@ use Rattle.sh_pass.specs.Plans.{Plan, plan_of}
 use Rattle.sh_table.specs.Entry.TheVariants as entry
 use Rattle.sh_table.specs.LogEntry.{LogEntry}
 use Rattle.sh_table.specs.LogEntry.TheVariants.{Known, Unread}
-use Rattle.sh_table.specs.Views.{HeardOfInsert}
+use Rattle.sh_table.specs.Views.{Each, HeardOfInsert}
 use Rattle.sh_value.specs.declared.hold.Hold.{Hold}
 use Rattle.sh_value.specs.declared.refusal.Refusal.{Refusal}
 use Rattle.sh_value.specs.declared.refusal.Refusal.TheVariants as refusal
@@ -26,6 +25,7 @@ use Rattle.sh_pass.specs.Missing.{MissesKeysOf}
 use Rattle.sh_pass.specs.Peeks.{PeekDoes, Peeked, slot_at}
 use Rattle.sh_pass.proofs.DecidedLaws.{stepped_then}
 use Rattle.sh_pass.proofs.SameTales.{later_same, same_now}
+use Rattle.sh_pass.proofs.Zips.{each_append}
 use Rattle.sh_member.specs.declared.walking.NextHeld.{NextHeld}
 use Rattle.sh_member.specs.declared.walking.NextLive.{NextLive}
 use Rattle.sh_member.specs.Walks.{IsKeyBetween, Meets, MissesBetween, NextHeldDoes, NextLiveDoes}
@@ -75,7 +75,7 @@ module _ (layout : Layout) (place key : ℕ) (v a : Caller) (p : PeekDoes layout
   -- and the next steps, which added these entries in at most so many steps, missed it
   missed : (each most : ℕ) (gone : List ℕ) (w : Caller) (IsSo : List Footstep → Type 0)
       → ((ys : List Footstep) → IsSo ys → Misses (plan_for layout a) v.view key ys)
-      → All (IsKeyBetween plan place (place + 1)) gone
+      → Each (IsKeyBetween plan place (place + 1)) gone
       → CallAdds (gone_entries a.view.pass gone) (holds a) most IsSo a w → most + 1 ≤ each
       → Skips layout each place (place + 1) v w
   missed each most gone w IsSo misses there adds fits = record {
@@ -94,7 +94,7 @@ module _ (layout : Layout) (place key : ℕ) (v a : Caller) (p : PeekDoes layout
         let times : each * (place + 1 - place) ≡ each * 1 = ap (λ n. each * n) one in
         omega arith
 
-  one_gone : All (IsKeyBetween plan place (place + 1)) (key ∷ [])
+  one_gone : Each (IsKeyBetween plan place (place + 1)) (key ∷ [])
   one_gone = ((place, omega arith, omega arith, its), tt)
 
   -- and then it was found

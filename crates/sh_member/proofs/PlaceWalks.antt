@@ -1,9 +1,8 @@
 -- Walks, one place after the other.
 use Rattle.std.proofs.Common.{◌≡◌, ◌≢◌, ℕ, zero, suc, ◌+◌, ◌-◌, ◌*◌, ◌<◌, ◌≤◌, ◌⊎◌, inl, inr, List, [], ◌∷◌, ◌++◌, map, length}
 use Rattle.std.proofs.Common.{refl, sym, ◌∙◌, ap, subst, arith, append_assoc, append-nil, Option, Some, None, Result, Ok, Err}
-use Rattle.std.specs.List.{All}
 use Rattle.std.specs.Prelude.{min}
-use Rattle.std.proofs.Math.Nat.{mul-add}
+use Rattle.std.proofs.Math.Nat.{min-eq_left, min-eq_right, min-le_left, mul-add}
 use Rattle.std.proofs.lemmas.List.{map-append}
 use Rattle.std.proofs.lemmas.Nat.{mul-le}
 use Rattle.sh_key.specs.Layout.{Layout}
@@ -14,7 +13,7 @@ use Rattle.sh_pass.specs.Plans.{Plan, plan_of}
 use Rattle.sh_table.specs.Entry.TheVariants as entry
 use Rattle.sh_table.specs.LogEntry.{LogEntry}
 use Rattle.sh_table.specs.LogEntry.TheVariants.{Known, Unread}
-use Rattle.sh_table.specs.Views.{HeardOfInsert}
+use Rattle.sh_table.specs.Views.{Each, HeardOfInsert}
 use Rattle.sh_value.specs.declared.hold.Hold.{Hold}
 use Rattle.sh_value.specs.declared.refusal.Refusal.{Refusal}
 use Rattle.sh_value.specs.declared.refusal.Refusal.TheVariants as refusal
@@ -26,6 +25,7 @@ use Rattle.sh_pass.specs.Missing.{MissesKeysOf}
 use Rattle.sh_pass.specs.Peeks.{PeekDoes, Peeked, slot_at}
 use Rattle.sh_pass.proofs.DecidedLaws.{stepped_then}
 use Rattle.sh_pass.proofs.SameTales.{later_same, same_now}
+use Rattle.sh_pass.proofs.Zips.{each_append}
 use Rattle.sh_member.specs.declared.walking.NextHeld.{NextHeld}
 use Rattle.sh_member.specs.declared.walking.NextLive.{NextLive}
 use Rattle.sh_member.specs.Walks.{IsKeyBetween, Meets, MissesBetween, NextHeldDoes, NextLiveDoes}
@@ -80,15 +80,6 @@ same_plan layout v a same = ap (λ h. plan_of layout h.shape) same
 
 -- ---- places
 
-below_or_at : (n place : ℕ) → n ≤ place → (n < place) ⊎ (n ≡ place)
-below_or_at zero zero l = inr refl
-below_or_at zero (suc m) l = inl (omega arith)
-below_or_at (suc n) zero l = absurd (omega arith)
-below_or_at (suc n) (suc m) l = up (below_or_at n m (omega arith)) where
-  up : (n < m) ⊎ (n ≡ m) → (suc n < suc m) ⊎ (suc n ≡ suc m)
-  up (inl less) = inl (omega arith)
-  up (inr same) = inr (ap suc same)
-
 below_or_from : (n mid : ℕ) → (n < mid) ⊎ (mid ≤ n)
 below_or_from n zero = inr (omega arith)
 below_or_from zero (suc m) = inl (omega arith)
@@ -101,8 +92,16 @@ below_or_from (suc n) (suc m) = up (below_or_from n m) where
 pub ends : (before places place : ℕ) → min before places ≤ place → (before ≤ place) ⊎ (places ≤ place)
 ends before places place past = by (below_or_from before places) where
   by : (before < places) ⊎ (places ≤ before) → (before ≤ place) ⊎ (places ≤ place)
-  by (inl less) = inl (omega arith)
-  by (inr more) = inr (omega arith)
+  by (inl less) = inl (subst (λ n. n ≤ place) (min-eq_left (omega arith)) past)
+  by (inr more) = inr (subst (λ n. n ≤ place) (min-eq_right more) past)
+
+pub within : (before places end place : ℕ) → end ≡ min before places → place < end → place < before
+within before places end place is less = let low = min-le_left before places in omega arith
+
+pub reaches : (before places end place from : ℕ) → end ≡ min before places → (place ≤ end) ⊎ (place ≡ from)
+    → (place ≤ before) ⊎ (place ≡ from)
+reaches before places end place from is (inl low) = inl (let most = min-le_left before places in omega arith)
+reaches before places end place from is (inr same) = inr same
 
 -- steps for each of some places, and for each of those after them
 each_more : (each from mid before last : ℕ) → from ≤ mid → mid ≤ before
@@ -114,28 +113,19 @@ each_more each from mid before last low high =
     omega arith
 
 module _ (plan : Plan) where
-  between_wider : (from before more : ℕ) (keys : List ℕ) → before ≤ more → All (IsKeyBetween plan from before) keys
-      → All (IsKeyBetween plan from more) keys
+  between_wider : (from before more : ℕ) (keys : List ℕ) → before ≤ more → Each (IsKeyBetween plan from before) keys
+      → Each (IsKeyBetween plan from more) keys
   between_wider from before more [] wider all = tt
   between_wider from before more (k ∷ ks) wider all =
       let low = all.0.2 in
       ((all.0.0, all.0.1, omega arith, all.0.3), between_wider from before more ks wider all.1)
 
-  between_from : (from mid before : ℕ) (keys : List ℕ) → from ≤ mid → All (IsKeyBetween plan mid before) keys
-      → All (IsKeyBetween plan from before) keys
+  between_from : (from mid before : ℕ) (keys : List ℕ) → from ≤ mid → Each (IsKeyBetween plan mid before) keys
+      → Each (IsKeyBetween plan from before) keys
   between_from from mid before [] low all = tt
   between_from from mid before (k ∷ ks) low all =
       let at = all.0.1 in
       ((all.0.0, omega arith, all.0.2, all.0.3), between_from from mid before ks low all.1)
-
-  none_between : (from before : ℕ) (keys : List ℕ) → before ≤ from → All (IsKeyBetween plan from before) keys
-      → keys ≡ []
-  none_between from before [] past all = refl
-  none_between from before (k ∷ ks) past all = let low = all.0.1 in let high = all.0.2 in absurd (omega arith)
-
-both : {P : ℕ → Type 0} (xs ys : List ℕ) → All P xs → All P ys → All P (xs ++ ys)
-both [] ys a b = b
-both (x ∷ xs) ys a b = (a.0, both xs ys a.1 b)
 
 gone_on : (pass : ℕ) (xs ys : List ℕ) → gone_entries pass (xs ++ ys) ≡ gone_entries pass xs ++ gone_entries pass ys
 gone_on pass xs ys = map-append (λ key. Known (entry.Gone pass key)) xs ys
@@ -158,13 +148,10 @@ misses_more : (layout : Layout) (from mid before : ℕ) (v a : Caller) (es : Lis
     → MissesBetween (plan_for layout a) a.view mid before ys
     → MissesBetween (plan_for layout v) v.view from before (xs ++ ys)
 misses_more layout from mid before v a es IsSo p xs ys x y n low high = by (below_or_from n mid) where
-  plan : Plan
-  plan = plan_for layout v
-
-  by : (n < mid) ⊎ (mid ≤ n) → MissesKeysOf plan v.view (slot_at n) (xs ++ ys)
-  by (inl less) = misses_keys_on plan v.view (slot_at n) xs ys (x n low less)
-  by (inr more) = misses_keys_after plan v.view (slot_at n) xs ys
-      (misses_keys_from plan v.view a.view es (slot_at n) ys p.same p.log
+  by : (n < mid) ⊎ (mid ≤ n) → MissesKeysOf (plan_for layout v) v.view (slot_at n) (xs ++ ys)
+  by (inl less) = misses_keys_on (plan_for layout v) v.view (slot_at n) xs ys (x n low less)
+  by (inr more) = misses_keys_after (plan_for layout v) v.view (slot_at n) xs ys
+      (misses_keys_from (plan_for layout v) v.view a.view es (slot_at n) ys p.same p.log
       (subst (λ (q : Plan). MissesKeysOf q a.view (slot_at n) ys) (same_plan layout v a p.heap) (y n more high)))
 
 -- places, and those after them
@@ -172,15 +159,15 @@ pub skips_on : (layout : Layout) (each from mid before : ℕ) (v a w : Caller) �
     → from ≤ mid → mid ≤ before → Skips layout each mid before a w → Skips layout each from before v w
 skips_on layout each from mid before v a w p low high q =
     let plan : Plan = plan_for layout v in
-    let there : All (IsKeyBetween plan mid before) q.gone = subst
-    (λ (z : Plan). All (IsKeyBetween z mid before) q.gone) (same_plan layout v a p.adds.heap) q.there in
+    let there : Each (IsKeyBetween plan mid before) q.gone = subst
+    (λ (z : Plan). Each (IsKeyBetween z mid before) q.gone) (same_plan layout v a p.adds.heap) q.there in
     let last : CallAdds (gone_entries v.view.pass q.gone) (holds v) (each * (before - mid))
     (MissesBetween (plan_for layout a) a.view mid before) a w = subst (λ (z : ℕ × List ℕ). CallAdds
     (gone_entries z.0 q.gone) z.1 (each * (before - mid)) (MissesBetween (plan_for layout a) a.view mid before) a w)
     (λ i. (p.adds.same.pass i, p.adds.holds i)) q.adds in
     record {
       gone = p.gone ++ q.gone;
-      there = both p.gone q.gone (between_wider plan from mid before p.gone high p.there)
+      there = each_append (IsKeyBetween plan from before) p.gone q.gone (between_wider plan from mid before p.gone high p.there)
           (between_from plan from mid before q.gone low there);
       adds = subst (λ (es : List LogEntry). CallAdds es (holds v) (each * (before - from))
           (MissesBetween plan v.view from before) v w) (sym (gone_on v.view.pass p.gone q.gone))
@@ -200,8 +187,8 @@ meets_on layout each from mid before more key behind last E K v a w p low wider 
     let same : plan_for layout a ≡ plan = same_plan layout v a p.adds.heap in
     let at : mid ≤ m.place = m.from_there in
     let inside : m.place < before = m.inside in
-    let there : All (IsKeyBetween plan mid m.place) m.gone = subst
-    (λ (z : Plan). All (IsKeyBetween z mid m.place) m.gone) same m.there in
+    let there : Each (IsKeyBetween plan mid m.place) m.gone = subst
+    (λ (z : Plan). Each (IsKeyBetween z mid m.place) m.gone) same m.there in
     let Then : List Footstep → Type 0 = MissesBetween (plan_for layout a) a.view mid m.place in
     let next : CallAdds (gone_entries v.view.pass m.gone ++ E v.view.pass) (K (holds v)) (each * (m.place - mid) + last)
     Then a w = subst (λ (z : ℕ × List ℕ). CallAdds (gone_entries z.0 m.gone ++ E z.0) (K z.1)
@@ -213,7 +200,7 @@ meets_on layout each from mid before more key behind last E K v a w p low wider 
       inside = omega arith;
       names = subst (λ (z : Plan). IsKeyOfSlot z (slot_at m.place) key) same m.names;
       gone = p.gone ++ m.gone;
-      there = both p.gone m.gone (between_wider plan from mid m.place p.gone at p.there)
+      there = each_append (IsKeyBetween plan from m.place) p.gone m.gone (between_wider plan from mid m.place p.gone at p.there)
           (between_from plan from mid m.place m.gone low there);
       adds = subst (λ (es : List LogEntry). CallAdds es (K (holds v)) (each * (m.place - from) + last)
           (MissesBetween plan v.view from m.place) v w)
@@ -229,7 +216,7 @@ meets_on layout each from mid before more key behind last E K v a w p low wider 
 -- a walk that came to its end, or to that of the heap, or began behind it
 module _ (layout : Layout) (each from place before : ℕ) (v w : Caller)
     (past : (before ≤ place) ⊎ (all_pages v.heap.shape * 48 ≤ place)) (reached : (place ≤ before) ⊎ (place ≡ from)) where
-  plan : Plan
+  abbrev plan : Plan
   plan = plan_for layout v
 
   few_places : place - from ≤ before - from
@@ -238,7 +225,7 @@ module _ (layout : Layout) (each from place before : ℕ) (v w : Caller)
     by (inl low) = omega arith
     by (inr is) = omega arith
 
-  there_all : (keys : List ℕ) → All (IsKeyBetween plan from place) keys → All (IsKeyBetween plan from before) keys
+  there_all : (keys : List ℕ) → Each (IsKeyBetween plan from place) keys → Each (IsKeyBetween plan from before) keys
   there_all [] all = tt
   there_all (k ∷ ks) all = ((all.0.0, all.0.1, below reached, all.0.3), there_all ks all.1) where
     below : (place ≤ before) ⊎ (place ≡ from) → all.0.0 < before
@@ -253,12 +240,11 @@ module _ (layout : Layout) (each from place before : ℕ) (v w : Caller)
     by (inr more) (inl end) = absurd (omega arith)
     by (inr more) (inr end) = λ k name named at. absurd (none_behind layout v.heap.shape n k name (omega arith) named at)
 
-  pub adds_all : {es : List LogEntry} {kept : List ℕ} (each : ℕ)
-      → CallAdds es kept (each * (place - from)) (MissesBetween plan v.view from place) v w
-      → CallAdds es kept (each * (before - from)) (MissesBetween plan v.view from before) v w
-  adds_all each adds = adds_to (MissesBetween plan v.view from place) (MissesBetween plan v.view from before)
-      (each * (before - from)) v w adds (mul-le each (place - from) each (before - from) (omega arith) few_places)
-      misses_all
+  pub adds_all : {es : List LogEntry} {kept : List ℕ} (n : ℕ)
+      → CallAdds es kept (n * (place - from)) (MissesBetween plan v.view from place) v w
+      → CallAdds es kept (n * (before - from)) (MissesBetween plan v.view from before) v w
+  adds_all n adds = adds_to (MissesBetween plan v.view from place) (MissesBetween plan v.view from before)
+      (n * (before - from)) v w adds (mul-le n (place - from) n (before - from) (omega arith) few_places) misses_all
 
   pub skips_all : Skips layout each from place v w → Skips layout each from before v w
   skips_all p = record { gone = p.gone; there = there_all p.gone p.there; adds = adds_all each p.adds }

@@ -1,7 +1,6 @@
 -- What a walk over the places of a heap does: which key it meets next, and which keys it misses.
 use Rattle.std.specs.Prelude.{◌≡◌, ℕ, ◌+◌, ◌-◌, ◌*◌, ◌<◌, ◌≤◌, List, [], ◌∷◌, ◌++◌, map, length}
 use Rattle.std.specs.Prelude.{Option, Some, None, Result, Ok, Err}
-use Rattle.std.specs.List.{All}
 use Rattle.sh_key.specs.Layout.{Layout}
 use Rattle.sh_pass.specs.Footstep.{Footstep}
 use Rattle.sh_pass.specs.Missing.{MissesKeysOf}
@@ -10,6 +9,7 @@ use Rattle.sh_pass.specs.Passes.{Caller, CallAdds, holds, plan_for}
 use Rattle.sh_pass.specs.Peeks.{slot_at}
 use Rattle.sh_pass.specs.Plans.{Plan}
 use Rattle.sh_pass.specs.View.{View}
+use Rattle.sh_pass.specs.Views.{Each}
 use Rattle.sh_table.specs.Entry.TheVariants as entry
 use Rattle.sh_table.specs.LogEntry.{LogEntry}
 use Rattle.sh_table.specs.LogEntry.TheVariants.{Known, Unread}
@@ -36,7 +36,7 @@ gone_entries pass = map (λ key. Known (entry.Gone pass key))
 -- each key of these places was missed, in at most `each` steps a place
 pub record Skips (layout : Layout) (each from before : ℕ) (v w : Caller) : Type 0 where
   pub gone : List ℕ
-  pub there : All (IsKeyBetween (plan_for layout v) from before) gone
+  pub there : Each (IsKeyBetween (plan_for layout v) from before) gone
   pub adds : CallAdds (gone_entries v.view.pass gone) (holds v) (each * (before - from))
       (MissesBetween (plan_for layout v) v.view from before) v w
 
@@ -50,7 +50,7 @@ pub record Meets (layout : Layout) (each from before key behind : ℕ) (es : Lis
   pub inside : place < before
   pub names : IsKeyOfSlot (plan_for layout v) (slot_at place) key
   pub gone : List ℕ
-  pub there : All (IsKeyBetween (plan_for layout v) from place) gone
+  pub there : Each (IsKeyBetween (plan_for layout v) from place) gone
   pub adds : CallAdds (gone_entries v.view.pass gone ++ es) kept (each * (place - from) + last)
       (MissesBetween (plan_for layout v) v.view from place) v w
 

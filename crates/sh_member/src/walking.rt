@@ -36,7 +36,9 @@ fn live_at<R: Reader>(reader: &mut R, place: u64) -> Option<NextLive>
     ensures does { NextLiveDoes R.layout place (place + 1) (R.caller reader.old) result (R.caller reader.new) }
     ensures remains { Remains R.layout (R.caller reader.old) (R.caller reader.new) }
 {
-    let key = reader.peek(place)?;
+    let Some(key) = reader.peek(place) else {
+        return None;
+    };
     // (The initial value has one word, as most values have: reading a value of one word into it is one store.)
     let mut value = Value::from(0);
     match reader.glance(key, &mut value) {
@@ -45,7 +47,9 @@ fn live_at<R: Reader>(reader: &mut R, place: u64) -> Option<NextLive>
             value,
             behind: place + 1,
         }),
-        _ => None,
+        Ok(Glance::Gone) => None,
+        Ok(Glance::Early) => None,
+        Err(_) => None,
     }
 }
 
@@ -71,17 +75,23 @@ fn held_at<R: Reader>(reader: &mut R, place: u64) -> Result<Option<NextHeld>, Re
     let Some(key) = reader.peek(place) else {
         return Ok(None);
     };
-    let hold = match reader.get(key) {
-        Ok(hold) => Some(hold),
-        Err(Refusal::Crowded) => None,
-        Err(Refusal::Gone) => return Ok(None),
-        Err(refusal) => return Err(refusal),
-    };
-    Ok(Some(NextHeld {
-        key,
-        hold,
-        behind: place + 1,
-    }))
+    let behind = place + 1;
+    match reader.get(key) {
+        Ok(hold) => Ok(Some(NextHeld {
+            key,
+            hold: Some(hold),
+            behind,
+        })),
+        Err(refusal) => match refusal {
+            Refusal::Crowded => Ok(Some(NextHeld {
+                key,
+                hold: None,
+                behind,
+            })),
+            Refusal::Gone => Ok(None),
+            _ => Err(refusal),
+        },
+    }
 }
 
 /// The first live key at a place from `from` on and before `before`, with a hold on it.

@@ -1,6 +1,6 @@
 -- Steps that miss keys: those of a peek, and of a look or a get of the key that it found.
 use Rattle.std.proofs.Common.{◌≡◌, ◌≢◌, ℕ, ◌==◌, ◌&&◌, ◌⊎◌, inl, inr, Bool, true, false, List, [], ◌∷◌, ◌++◌, Option, Some}
-use Rattle.std.proofs.Common.{None, refl, ap, subst, sym, ◌∙◌, append_assoc, eqb-true, eq-eqb, arith}
+use Rattle.std.proofs.Common.{None, refl, ap, subst, sym, ◌∙◌, append_assoc, eqb-true, eq-eqb, arith, map}
 use Rattle.std.specs.Prelude.{cond, not}
 use Rattle.std.specs.List.{Contains}
 use Rattle.std.proofs.lemmas.List.Elements.{Contains-append_left, Contains-append_right, Contains-append_cases}
@@ -220,7 +220,7 @@ module _ (layout : Layout) (shape : Numbers) (v : View) (x : SlotRef) where
   abbrev plan : Plan
   plan = plan_of layout shape
 
-  place : SlotRef → Place
+  abbrev place : SlotRef → Place
   place y = State y.page y.slot
 
   -- the step of a peek missed the key of this name

@@ -4,7 +4,7 @@ use Rattle.sh_slots.specs.declared.hand.KeyRef.{KeyRef}
 use Rattle.sh_slots.specs.declared.hand.SlotRef.{SlotRef}
 use Rattle.sh_slots.specs.Slots.{live_at, past_at, slot_ref_of}
 use Rattle.sh_step.specs.declared.action.Action.{Action}
-use Rattle.sh_step.specs.declared.action.Action.TheVariants as action
+use Rattle.sh_step.specs.declared.action.Action.TheVariants.{EnterGet}
 use Rattle.sh_step.specs.declared.footstep.Footstep.{Footstep}
 use Rattle.sh_step.specs.Moves.{place_named}
 use Rattle.sh_step.specs.Plans.{Plan}
@@ -21,7 +21,7 @@ pub record StepMisses (v : View) (k : ℕ) (name : KeyRef) (new : List Footstep)
   pub later : List Footstep
   pub steps : new ≡ earlier ++ step_at_slot action name found ∷ later
   pub absent : live_at name.generation found ≡ false
-  pub removed : HeardOfInsert v k → (past_at name.generation found ≡ true) ⊎ (action ≡ action.EnterGet k)
+  pub removed : HeardOfInsert v k → (past_at name.generation found ≡ true) ⊎ (action ≡ EnterGet k)
 
 -- each key of the slot was missed
 abbrev pub MissesKeysOf : Plan → View → SlotRef → List Footstep → Type 0

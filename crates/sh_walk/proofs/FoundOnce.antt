@@ -268,7 +268,8 @@ pub staying_is_met : StayingIsMet
 staying_is_met plan es a before new v k x trail named stays m =
     let f = missed_is_absent plan es a before new v k x trail named m in
     let there : IsSome (map_of plan (run plan f.early).words k) = stays f.early f.late f.events f.after in
-    subst (λ (o : Option (List ℕ)). IsSome o) f.absent there
+    let none : IsSome {T = List ℕ} None = subst (λ (o : Option (List ℕ)). IsSome o) f.absent there in
+    cc
 
 pub heard_is_removed : HeardIsRemoved
 heard_is_removed layout shape lawful is_shape fits es a before new v k x trail named m other heard =

@@ -5,6 +5,7 @@ mod filling;
 mod gathering;
 mod growing;
 mod hearing;
+mod meeting;
 mod owning;
 mod reading;
 mod shaping;
