@@ -1,18 +1,14 @@
 -- A walk over one place: a peek, and a look or a get of the key that it found.
-use Rattle.std.proofs.Common.{◌≡◌, ◌≢◌, ℕ, zero, suc, ◌+◌, ◌-◌, ◌*◌, ◌<◌, ◌≤◌, ◌⊎◌, inl, inr, List, [], ◌∷◌, ◌++◌, map, length}
-use Rattle.std.proofs.Common.{refl, sym, ◌∙◌, ap, subst, arith, append_assoc, append-nil, Option, Some, None, Result, Ok, Err}
-use Rattle.std.proofs.Math.Nat.{mul-add}
-use Rattle.std.proofs.lemmas.List.{map-append}
-use Rattle.std.proofs.lemmas.Nat.{mul-le}
+use Rattle.std.proofs.Common.{◌≡◌, ◌≢◌, ℕ, ◌+◌, ◌-◌, ◌*◌, ◌≤◌, List, [], ◌∷◌, ◌++◌, length}
+use Rattle.std.proofs.Common.{refl, sym, ◌∙◌, ap, subst, arith, Some, None, Result, Ok, Err}
 use Rattle.sh_key.specs.Layout.{Layout}
-use Rattle.sh_pass.specs.Places.{all_pages}
 use Rattle.sh_pass.specs.Footstep.{Footstep}
 use Rattle.sh_pass.specs.Moves.{place_named}
-use Rattle.sh_pass.specs.Plans.{Plan, plan_of}
+use Rattle.sh_pass.specs.Plans.{Plan}
 use Rattle.sh_table.specs.Entry.TheVariants as entry
 use Rattle.sh_table.specs.LogEntry.{LogEntry}
 use Rattle.sh_table.specs.LogEntry.TheVariants.{Known, Unread}
-use Rattle.sh_table.specs.Views.{Each, HeardOfInsert}
+use Rattle.sh_table.specs.Views.{Each}
 use Rattle.sh_value.specs.declared.hold.Hold.{Hold}
 use Rattle.sh_value.specs.declared.refusal.Refusal.{Refusal}
 use Rattle.sh_value.specs.declared.refusal.Refusal.TheVariants as refusal
@@ -23,17 +19,11 @@ use Rattle.sh_pass.specs.Passes.{Caller, CallAdds, GetDoes, GlanceDoes, holds, p
 use Rattle.sh_pass.specs.Deciding.{InOneStep, LookDecided}
 use Rattle.sh_pass.specs.Missing.{MissesKeysOf}
 use Rattle.sh_pass.specs.Peeks.{PeekDoes, Peeked, slot_at}
-use Rattle.sh_pass.proofs.DecidedLaws.{stepped_then}
-use Rattle.sh_pass.proofs.SameTales.{later_same, same_now}
-use Rattle.sh_pass.proofs.Zips.{each_append}
-use Rattle.sh_member.specs.declared.walking.NextHeld.{NextHeld}
-use Rattle.sh_member.specs.declared.walking.NextLive.{NextLive}
-use Rattle.sh_member.specs.Walks.{IsKeyBetween, Meets, MissesBetween, NextHeldDoes, NextLiveDoes}
-use Rattle.sh_member.specs.Walks.{PeeksIfFull, Skips, gone_entries, holds_with, live_entry}
+use Rattle.sh_member.specs.Walks.{IsKeyBetween, Meets, MissesBetween, NextHeldDoes}
+use Rattle.sh_member.specs.Walks.{Skips, gone_entries}
 use Rattle.sh_member.proofs.PlaceWalks.{adds_to, along, same_plan}
 use Rattle.sh_pass.proofs.MissedLaws.{Misses, early_by_look, gone_by_get, gone_by_look, live_missed}
-use Rattle.sh_pass.proofs.MissedLaws.{misses_keys_after, misses_keys_from, misses_keys_on, none_live, still_heard}
-use Rattle.sh_pass.proofs.PeekLaws.{none_behind}
+use Rattle.sh_pass.proofs.MissedLaws.{none_live, still_heard}
 
 -- the place was missed
 at_place : (layout : Layout) (place : ℕ) (v : Caller) (new : List Footstep)
@@ -180,10 +170,15 @@ module _ (layout : Layout) (place key : ℕ) (v a : Caller) (p : PeekDoes layout
   get_refused refusal.BadKey w g gone crowded = absurd (not_bad g.0)
   get_refused refusal.HoldsFull w g gone crowded = (
     sym same_room ∙ g.1,
-    (place, omega arith, omega arith, subst (λ (c : Caller). CallAdds [] (holds v) (place + 1 - place)
-    (MissesBetween plan v.view place place) v c) (sym g.2)
-    (adds_to (Peeked plan v.view (slot_at place) (Some key)) (MissesBetween plan v.view place place)
-    (place + 1 - place) v a p (omega arith) (λ xs so n low high. absurd (omega arith)))),
+    (
+      place,
+      omega arith,
+      omega arith,
+      subst (λ (c : Caller). CallAdds [] (holds v) (place + 1 - place)
+          (MissesBetween plan v.view place place) v c) (sym g.2)
+          (adds_to (Peeked plan v.view (slot_at place) (Some key)) (MissesBetween plan v.view place place)
+          (place + 1 - place) v a p (omega arith) (λ xs so n low high. absurd (omega arith))),
+    ),
   )
   get_refused _ w g gone crowded = absurd g
 
@@ -195,4 +190,3 @@ held_none layout place v w p = (
       (MissesBetween (plan_for layout v) v.view place (place + 1)) (place + 1 - place) v w p (omega arith)
       (λ xs so. at_place layout place v xs (none_live layout v.heap.shape v.view (slot_at place) xs so)),
 )
-

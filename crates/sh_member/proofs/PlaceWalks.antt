@@ -1,6 +1,6 @@
 -- Walks, one place after the other.
-use Rattle.std.proofs.Common.{◌≡◌, ◌≢◌, ℕ, zero, suc, ◌+◌, ◌-◌, ◌*◌, ◌<◌, ◌≤◌, ◌⊎◌, inl, inr, List, [], ◌∷◌, ◌++◌, map, length}
-use Rattle.std.proofs.Common.{refl, sym, ◌∙◌, ap, subst, arith, append_assoc, append-nil, Option, Some, None, Result, Ok, Err}
+use Rattle.std.proofs.Common.{◌≡◌, ℕ, zero, suc, ◌+◌, ◌-◌, ◌*◌, ◌<◌, ◌≤◌, ◌⊎◌, inl, inr, List, [], ◌∷◌, ◌++◌, length}
+use Rattle.std.proofs.Common.{refl, sym, ◌∙◌, ap, subst, arith, append_assoc, append-nil, Some, None, Ok, Err}
 use Rattle.std.specs.Prelude.{min}
 use Rattle.std.proofs.Math.Nat.{min-eq_left, min-eq_right, min-le_left, mul-add}
 use Rattle.std.proofs.lemmas.List.{map-append}
@@ -8,30 +8,24 @@ use Rattle.std.proofs.lemmas.Nat.{mul-le}
 use Rattle.sh_key.specs.Layout.{Layout}
 use Rattle.sh_pass.specs.Places.{all_pages}
 use Rattle.sh_pass.specs.Footstep.{Footstep}
-use Rattle.sh_pass.specs.Moves.{place_named}
 use Rattle.sh_pass.specs.Plans.{Plan, plan_of}
 use Rattle.sh_table.specs.Entry.TheVariants as entry
 use Rattle.sh_table.specs.LogEntry.{LogEntry}
-use Rattle.sh_table.specs.LogEntry.TheVariants.{Known, Unread}
-use Rattle.sh_table.specs.Views.{Each, HeardOfInsert}
-use Rattle.sh_value.specs.declared.hold.Hold.{Hold}
+use Rattle.sh_table.specs.LogEntry.TheVariants.{Known}
+use Rattle.sh_table.specs.Views.{Each}
 use Rattle.sh_value.specs.declared.refusal.Refusal.{Refusal}
 use Rattle.sh_value.specs.declared.refusal.Refusal.TheVariants as refusal
-use Rattle.sh_pass.specs.declared.looking.Glance.{Glance}
-use Rattle.sh_pass.specs.declared.looking.Glance.TheVariants as glance
 use Rattle.sh_pass.specs.Owners.{IsKeyOfSlot}
-use Rattle.sh_pass.specs.Passes.{Caller, CallAdds, GetDoes, GlanceDoes, holds, plan_for}
+use Rattle.sh_pass.specs.Passes.{Caller, CallAdds, holds, plan_for}
 use Rattle.sh_pass.specs.Missing.{MissesKeysOf}
-use Rattle.sh_pass.specs.Peeks.{PeekDoes, Peeked, slot_at}
+use Rattle.sh_pass.specs.Peeks.{slot_at}
 use Rattle.sh_pass.proofs.DecidedLaws.{stepped_then}
 use Rattle.sh_pass.proofs.SameTales.{later_same, same_now}
 use Rattle.sh_pass.proofs.Zips.{each_append}
 use Rattle.sh_member.specs.declared.walking.NextHeld.{NextHeld}
-use Rattle.sh_member.specs.declared.walking.NextLive.{NextLive}
-use Rattle.sh_member.specs.Walks.{IsKeyBetween, Meets, MissesBetween, NextHeldDoes, NextLiveDoes}
+use Rattle.sh_member.specs.Walks.{IsKeyBetween, Meets, MissesBetween, NextHeldDoes}
 use Rattle.sh_member.specs.Walks.{PeeksIfFull, Skips, gone_entries, holds_with, live_entry}
-use Rattle.sh_pass.proofs.MissedLaws.{Misses, early_by_look, gone_by_get, gone_by_look, live_missed}
-use Rattle.sh_pass.proofs.MissedLaws.{misses_keys_after, misses_keys_from, misses_keys_on, none_live, still_heard}
+use Rattle.sh_pass.proofs.MissedLaws.{misses_keys_after, misses_keys_from, misses_keys_on}
 use Rattle.sh_pass.proofs.PeekLaws.{none_behind}
 
 -- ---- one call after the other
@@ -300,10 +294,15 @@ held_refused layout from place before refusal.HoldsFull v a w p low inside m =
     (λ (n : ℕ). CallAdds [] (holds a) (n + 1 - place) (MissesBetween (plan_for layout a) a.view place n) a w) at
     m.1.3 in (
       full,
-      (place, low, inside, subst
-      (λ (n : ℕ). CallAdds [] (holds v) n (MissesBetween (plan_for layout v) v.view from place) v w)
-      (let e : place - from + (place + 1 - place) ≡ place + 1 - from = omega arith in e)
-      (full_then layout from place place (place + 1 - place) v a w p.1 low full q)),
+      (
+        place,
+        low,
+        inside,
+        subst
+            (λ (n : ℕ). CallAdds [] (holds v) n (MissesBetween (plan_for layout v) v.view from place) v w)
+            (let e : place - from + (place + 1 - place) ≡ place + 1 - from = omega arith in e)
+            (full_then layout from place place (place + 1 - place) v a w p.1 low full q),
+      ),
     )
 held_refused layout from place before _ v a w p low inside m = absurd m
 

@@ -11,9 +11,8 @@ use Rattle.sh_shape.specs.declared.places.Place.TheVariants.{State}
 use Rattle.sh_slots.specs.declared.enter.GetAnswer.TheVariants.{Got, Crowded, Gone}
 use Rattle.sh_slots.specs.declared.hand.KeyRef.{KeyRef}
 use Rattle.sh_slots.specs.declared.hand.SlotRef.{SlotRef}
-use Rattle.sh_slots.specs.Slots.{answer_to_get, has_room, live_at, past_at, slot_ref_of}
+use Rattle.sh_slots.specs.Slots.{has_room, live_at, past_at, slot_ref_of}
 use Rattle.sh_step.specs.Conditions.{slot_name}
-use Rattle.sh_step.specs.declared.action.Action.{Action}
 use Rattle.sh_step.specs.declared.action.Action.TheVariants as action
 use Rattle.sh_step.specs.declared.footstep.Footstep.{Footstep}
 use Rattle.sh_step.specs.Moves.{place_named}
@@ -35,7 +34,7 @@ use Rattle.sh_pass.specs.declared.looking.Glance.TheVariants as glance
 use Rattle.sh_pass.specs.Deciding.{DecidedByEntry, EntryDecides, FirstFinds, LastFinds, LookDecided, LooksDecide}
 use Rattle.sh_pass.specs.Deciding.{IsEarly, IsPast, step_at_slot}
 use Rattle.sh_pass.specs.Growing.{SameTale}
-use Rattle.sh_pass.specs.Peeks.{Peeked, SaysLive}
+use Rattle.sh_pass.specs.Peeks.{Peeked}
 use Rattle.sh_pass.specs.Missing.{StepMisses, MissesKeysOf}
 
 -- ---- what was heard of stays heard of

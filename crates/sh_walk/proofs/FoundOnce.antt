@@ -1,5 +1,5 @@
 -- The word that a step of a trail found stood there at a moment of the run, and the pass had done the steps before.
-use Rattle.std.proofs.Common.{◌≡◌, ◌≢◌, ℕ, zero, suc, ◌+◌, ◌≤◌, ◌==◌, Bool, true, false, List, [], ◌∷◌, ◌++◌, length, refl}
+use Rattle.std.proofs.Common.{◌≡◌, ℕ, suc, ◌+◌, ◌≤◌, ◌==◌, Bool, true, false, List, [], ◌∷◌, ◌++◌, length, refl}
 use Rattle.std.proofs.Common.{ap, inl, inr, sym, ◌∙◌, subst, arith, Option, Some, None, append_assoc, append-nil, ◌⊎◌}
 use Rattle.std.specs.Prelude.{cond, IsSome, nat_lt, ◌&&◌}
 use Rattle.std.proofs.lemmas.List.{append_cancel_left, length-append}
@@ -11,7 +11,6 @@ use Rattle.sh_core.specs.Event.{Event}
 use Rattle.sh_core.specs.Footstep.{Footstep}
 use Rattle.sh_core.specs.Footsteps.{footstep_of}
 use Rattle.sh_core.specs.KeyRef.{KeyRef}
-use Rattle.sh_core.specs.Layout.{Layout, IsLayout}
 use Rattle.sh_core.specs.Moves.{place_named}
 use Rattle.sh_core.specs.Operation.{Operation}
 use Rattle.sh_core.specs.Operation.TheVariants.{FetchAdd, FetchSub, FetchOr, Swap, Store, CompareExchange, Load}
@@ -19,16 +18,14 @@ use Rattle.sh_core.specs.Operations.{answer}
 use Rattle.sh_core.specs.Outcomes.{row_of_event}
 use Rattle.sh_core.specs.Plans.{Plan, heap_pages, plan_of}
 use Rattle.sh_core.specs.Rows.{Row}
-use Rattle.sh_core.specs.Shape.{Numbers, IsShape, Fits}
 use Rattle.sh_core.specs.Slots.{live_at, past_at}
-use Rattle.sh_core.specs.Trails.{trail_from, trail_of, trodden}
+use Rattle.sh_core.specs.Trails.{trail_from, trail_of}
 use Rattle.sh_core.specs.Words.{read}
 use Rattle.sh_core.specs.Worlds.{World, run, run_from, step, open_world, value_at}
 use Rattle.sh_pass.specs.Deciding.{step_at_slot}
 use Rattle.sh_pass.specs.Missing.{StepMisses}
 use Rattle.sh_pass.specs.View.{View}
-use Rattle.sh_pass.specs.Views.{HeardOfInsert}
-use Rattle.sh_walk.specs.Laws.{HeardIsRemoved, IsAbsentOnce, IsRemovedOnce, MissedIsAbsent, Stays, StayingIsMet}
+use Rattle.sh_walk.specs.Laws.{HeardIsRemoved, MissedIsAbsent, StayingIsMet}
 
 -- what an event adds to a trail, by the row of the event
 abbrev added : World → Event → ℕ → List Footstep → Option Row → List Footstep

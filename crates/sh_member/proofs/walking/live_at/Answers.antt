@@ -1,4 +1,4 @@
-use Rattle.std.proofs.Common.{◌≡◌, Ok, Err, subst, arith}
+use Rattle.std.proofs.Common.{Ok, Err, subst, arith}
 use Rattle.sh_pass.specs.declared.looking.Glance.{Glance}
 use Rattle.sh_pass.specs.declared.looking.Glance.TheVariants as glance
 use Rattle.sh_pass.specs.Passes.{GlanceDoes}

@@ -1,4 +1,4 @@
-use Rattle.std.proofs.Common.{◌+◌, ◌*◌, ◌≤◌, None, Ok, Option, ap, arith, inl, inr, refl, subst, ◌∙◌}
+use Rattle.std.proofs.Common.{◌+◌, ◌*◌, ◌≤◌, Ok, Option, ap, arith, inl, inr, refl, subst, ◌∙◌}
 use Rattle.std.specs.Prelude.{min}
 use Rattle.std.proofs.lemmas.Result.{err_from_is_err_and}
 use Rattle.sh_pass.specs.Places.{all_pages}
