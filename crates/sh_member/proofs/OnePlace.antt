@@ -19,9 +19,10 @@ use Rattle.sh_pass.specs.Passes.{Caller, CallAdds, GetDoes, GlanceDoes, holds, p
 use Rattle.sh_pass.specs.Deciding.{InOneStep, LookDecided}
 use Rattle.sh_pass.specs.Missing.{MissesKeysOf}
 use Rattle.sh_pass.specs.Peeks.{PeekDoes, Peeked, slot_at}
+use Rattle.sh_member.specs.OwnKeys.{gone_entries}
 use Rattle.sh_member.specs.Walks.{IsKeyBetween, Meets, MissesBetween, NextHeldDoes}
-use Rattle.sh_member.specs.Walks.{Skips, gone_entries}
-use Rattle.sh_member.proofs.PlaceWalks.{adds_to, along, same_plan}
+use Rattle.sh_member.specs.Walks.{Skips}
+use Rattle.sh_member.proofs.PlaceWalks.{adds_to, adds_along, same_plan}
 use Rattle.sh_pass.proofs.MissedLaws.{Misses, early_by_look, gone_by_get, gone_by_look, live_missed}
 use Rattle.sh_pass.proofs.MissedLaws.{none_live, still_heard}
 
@@ -73,7 +74,7 @@ module _ (layout : Layout) (place key : ℕ) (v a : Caller) (p : PeekDoes layout
     there = there;
     adds = subst (λ (z : ℕ × List ℕ). CallAdds (gone_entries z.0 gone) z.1 (each * (place + 1 - place))
         (MissesBetween plan v.view place (place + 1)) v w) (λ i. (p.same.pass i, p.holds i))
-        (along (Peeked plan v.view (slot_at place) (Some key)) IsSo (MissesBetween plan v.view place (place + 1))
+        (adds_along (Peeked plan v.view (slot_at place) (Some key)) IsSo (MissesBetween plan v.view place (place + 1))
         (each * (place + 1 - place)) v a w p adds bound
         (λ xs ys x y. at_place layout place v (xs ++ ys) (live_missed layout v.heap.shape v.view (slot_at place) key
         xs ys x (subst (λ (z : Plan). Misses z v.view key ys) same (misses ys y)))));
@@ -101,7 +102,7 @@ module _ (layout : Layout) (place key : ℕ) (v a : Caller) (p : PeekDoes layout
     there = tt;
     adds = subst (λ (z : ℕ × List ℕ). CallAdds (E z.0 ∷ []) (K z.1) (each * (place - place) + (most + 1))
         (MissesBetween plan v.view place place) v w) (λ i. (p.same.pass i, p.holds i))
-        (along (Peeked plan v.view (slot_at place) (Some key)) IsSo (MissesBetween plan v.view place place)
+        (adds_along (Peeked plan v.view (slot_at place) (Some key)) IsSo (MissesBetween plan v.view place place)
         (each * (place - place) + (most + 1)) v a w p adds (omega arith)
         (λ xs ys x y n low high. absurd (omega arith)));
   }

@@ -23,17 +23,18 @@ use Rattle.sh_pass.proofs.DecidedLaws.{stepped_then}
 use Rattle.sh_pass.proofs.SameTales.{later_same, same_now}
 use Rattle.sh_pass.proofs.Zips.{each_append}
 use Rattle.sh_member.specs.declared.walking.NextHeld.{NextHeld}
+use Rattle.sh_member.specs.OwnKeys.{gone_entries}
 use Rattle.sh_member.specs.Walks.{IsKeyBetween, Meets, MissesBetween, NextHeldDoes}
-use Rattle.sh_member.specs.Walks.{PeeksIfFull, Skips, gone_entries, holds_with, live_entry}
+use Rattle.sh_member.specs.Walks.{PeeksIfFull, Skips, holds_with, live_entry}
 use Rattle.sh_pass.proofs.MissedLaws.{misses_keys_after, misses_keys_from, misses_keys_on}
-use Rattle.sh_pass.proofs.PeekLaws.{none_behind}
+use Rattle.sh_pass.proofs.PeekLaws.{past_the_heap}
 
 -- ---- one call after the other
 
-pub along : {es fs : List LogEntry} {hs ks : List ℕ} {m n : ℕ} (P Q R : List Footstep → Type 0) (most : ℕ)
+pub adds_along : {es fs : List LogEntry} {hs ks : List ℕ} {m n : ℕ} (P Q R : List Footstep → Type 0) (most : ℕ)
     (v a b : Caller) → CallAdds es hs m P v a → CallAdds fs ks n Q a b → m + n ≤ most
     → ((xs ys : List Footstep) → P xs → Q ys → R (xs ++ ys)) → CallAdds (es ++ fs) ks most R v b
-along {es} {fs} P Q R most v a b x y fits on = record {
+adds_along {es} {fs} P Q R most v a b x y fits on = record {
   heap = y.heap ∙ x.heap;
   same = later_same x.same y.same;
   log = y.log ∙ (ap (λ (l : List LogEntry). l ++ fs) x.log ∙ append_assoc v.view.own.log es fs);
@@ -165,7 +166,7 @@ skips_on layout each from mid before v a w p low high q =
           (between_from plan from mid before q.gone low there);
       adds = subst (λ (es : List LogEntry). CallAdds es (holds v) (each * (before - from))
           (MissesBetween plan v.view from before) v w) (sym (gone_on v.view.pass p.gone q.gone))
-          (along (MissesBetween plan v.view from mid) (MissesBetween (plan_for layout a) a.view mid before)
+          (adds_along (MissesBetween plan v.view from mid) (MissesBetween (plan_for layout a) a.view mid before)
           (MissesBetween plan v.view from before) (each * (before - from)) v a w p.adds last
           (let more = each_more each from mid before 0 low high in omega arith)
           (misses_more layout from mid before v a _ _ p.adds));
@@ -200,7 +201,7 @@ meets_on layout each from mid before more key behind last E K v a w p low wider 
           (MissesBetween plan v.view from m.place) v w)
           (sym (ap (λ (l : List LogEntry). l ++ E v.view.pass) (gone_on v.view.pass p.gone m.gone)
           ∙ append_assoc (gone_entries v.view.pass p.gone) (gone_entries v.view.pass m.gone) (E v.view.pass)))
-          (along (MissesBetween plan v.view from mid) Then (MissesBetween plan v.view from m.place)
+          (adds_along (MissesBetween plan v.view from mid) Then (MissesBetween plan v.view from m.place)
           (each * (m.place - from) + last) v a w p.adds next (each_more each from mid m.place last low at)
           (misses_more layout from mid m.place v a _ _ p.adds));
     }
@@ -210,8 +211,8 @@ meets_on layout each from mid before more key behind last E K v a w p low wider 
 -- a walk that came to its end, or to that of the heap, or began behind it
 module _ (layout : Layout) (each from place before : ℕ) (v w : Caller)
     (past : (before ≤ place) ⊎ (all_pages v.heap.shape * 48 ≤ place)) (reached : (place ≤ before) ⊎ (place ≡ from)) where
-  abbrev plan : Plan
-  plan = plan_for layout v
+  abbrev over : Plan
+  over = plan_for layout v
 
   few_places : place - from ≤ before - from
   few_places = by reached where
@@ -219,25 +220,25 @@ module _ (layout : Layout) (each from place before : ℕ) (v w : Caller)
     by (inl low) = omega arith
     by (inr is) = omega arith
 
-  there_all : (keys : List ℕ) → Each (IsKeyBetween plan from place) keys → Each (IsKeyBetween plan from before) keys
+  there_all : (keys : List ℕ) → Each (IsKeyBetween over from place) keys → Each (IsKeyBetween over from before) keys
   there_all [] all = tt
   there_all (k ∷ ks) all = ((all.0.0, all.0.1, below reached, all.0.3), there_all ks all.1) where
     below : (place ≤ before) ⊎ (place ≡ from) → all.0.0 < before
     below (inl low) = let at = all.0.2 in omega arith
     below (inr is) = let low = all.0.1 in let at = all.0.2 in absurd (omega arith)
 
-  misses_all : (xs : List Footstep) → MissesBetween plan v.view from place xs → MissesBetween plan v.view from before xs
+  misses_all : (xs : List Footstep) → MissesBetween over v.view from place xs → MissesBetween over v.view from before xs
   misses_all xs so n low inside = by (below_or_from n place) past where
     by : (n < place) ⊎ (place ≤ n) → (before ≤ place) ⊎ (all_pages v.heap.shape * 48 ≤ place)
-        → MissesKeysOf plan v.view (slot_at n) xs
+        → MissesKeysOf over v.view (slot_at n) xs
     by (inl less) e = so n low less
     by (inr more) (inl end) = absurd (omega arith)
-    by (inr more) (inr end) = λ k name named at. absurd (none_behind layout v.heap.shape n k name (omega arith) named at)
+    by (inr more) (inr end) = λ k name named at. absurd (past_the_heap layout v.heap.shape n k name (omega arith) named at)
 
   pub adds_all : {es : List LogEntry} {kept : List ℕ} (n : ℕ)
-      → CallAdds es kept (n * (place - from)) (MissesBetween plan v.view from place) v w
-      → CallAdds es kept (n * (before - from)) (MissesBetween plan v.view from before) v w
-  adds_all n adds = adds_to (MissesBetween plan v.view from place) (MissesBetween plan v.view from before)
+      → CallAdds es kept (n * (place - from)) (MissesBetween over v.view from place) v w
+      → CallAdds es kept (n * (before - from)) (MissesBetween over v.view from before) v w
+  adds_all n adds = adds_to (MissesBetween over v.view from place) (MissesBetween over v.view from before)
       (n * (before - from)) v w adds (mul-le n (place - from) n (before - from) (omega arith) few_places) misses_all
 
   pub skips_all : Skips layout each from place v w → Skips layout each from before v w
@@ -255,7 +256,7 @@ full_then : (layout : Layout) (from mid before most : ℕ) (v a w : Caller) → 
     → CallAdds [] (holds v) (mid - from + most) (MissesBetween (plan_for layout v) v.view from before) v w
 full_then layout from mid before most v a w p low full q =
     let first = p full in
-    along (MissesBetween (plan_for layout v) v.view from mid) (MissesBetween (plan_for layout a) a.view mid before)
+    adds_along (MissesBetween (plan_for layout v) v.view from mid) (MissesBetween (plan_for layout a) a.view mid before)
     (MissesBetween (plan_for layout v) v.view from before) (mid - from + most) v a w first
     (subst (λ (hs : List ℕ). CallAdds [] hs most (MissesBetween (plan_for layout a) a.view mid before) a w) first.holds q)
     (omega arith) (misses_more layout from mid before v a _ _ first)
@@ -313,15 +314,15 @@ held_all layout from place before v w p past reached = (
   skips_all layout 8 from place before v w past reached p.0,
   λ full. ones (adds_all layout 8 from place before v w past reached 1 (ones_of (p.1 full))),
 ) where
-  plan : Plan
-  plan = plan_for layout v
+  over : Plan
+  over = plan_for layout v
 
-  ones_of : CallAdds [] (holds v) (place - from) (MissesBetween plan v.view from place) v w
-      → CallAdds [] (holds v) (1 * (place - from)) (MissesBetween plan v.view from place) v w
-  ones_of c = subst (λ (n : ℕ). CallAdds [] (holds v) n (MissesBetween plan v.view from place) v w)
+  ones_of : CallAdds [] (holds v) (place - from) (MissesBetween over v.view from place) v w
+      → CallAdds [] (holds v) (1 * (place - from)) (MissesBetween over v.view from place) v w
+  ones_of c = subst (λ (n : ℕ). CallAdds [] (holds v) n (MissesBetween over v.view from place) v w)
       (let e : place - from ≡ 1 * (place - from) = omega arith in e) c
 
-  ones : CallAdds [] (holds v) (1 * (before - from)) (MissesBetween plan v.view from before) v w
-      → CallAdds [] (holds v) (before - from) (MissesBetween plan v.view from before) v w
-  ones c = subst (λ (n : ℕ). CallAdds [] (holds v) n (MissesBetween plan v.view from before) v w)
+  ones : CallAdds [] (holds v) (1 * (before - from)) (MissesBetween over v.view from before) v w
+      → CallAdds [] (holds v) (before - from) (MissesBetween over v.view from before) v w
+  ones c = subst (λ (n : ℕ). CallAdds [] (holds v) n (MissesBetween over v.view from before) v w)
       (let e : 1 * (before - from) ≡ before - from = omega arith in e) c

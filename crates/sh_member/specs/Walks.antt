@@ -1,5 +1,5 @@
 -- What a walk over the places of a heap does: which key it meets next, and which keys it misses.
-use Rattle.std.specs.Prelude.{◌≡◌, ℕ, ◌+◌, ◌-◌, ◌*◌, ◌<◌, ◌≤◌, List, [], ◌∷◌, ◌++◌, map, length}
+use Rattle.std.specs.Prelude.{◌≡◌, ℕ, ◌+◌, ◌-◌, ◌*◌, ◌<◌, ◌≤◌, List, [], ◌∷◌, ◌++◌, length}
 use Rattle.std.specs.Prelude.{Option, Some, None, Result, Ok, Err}
 use Rattle.sh_key.specs.Layout.{Layout}
 use Rattle.sh_pass.specs.Footstep.{Footstep}
@@ -16,6 +16,7 @@ use Rattle.sh_table.specs.LogEntry.TheVariants.{Known, Unread}
 use Rattle.sh_value.specs.declared.hold.Hold.{Hold}
 use Rattle.sh_value.specs.declared.refusal.Refusal.{Refusal}
 use Rattle.sh_value.specs.declared.refusal.Refusal.TheVariants as refusal
+use Rattle.sh_member.specs.OwnKeys.{gone_entries}
 use Rattle.sh_member.specs.declared.walking.NextHeld.{NextHeld}
 use Rattle.sh_member.specs.declared.walking.NextLive.{NextLive}
 
@@ -28,10 +29,6 @@ MissesBetween plan v from before new = (place : ℕ) → from ≤ place → plac
 abbrev pub IsKeyBetween : Plan → (from before : ℕ) → ℕ → Type 0
 IsKeyBetween plan from before key = (place : ℕ) × (from ≤ place) × (place < before)
     × IsKeyOfSlot plan (slot_at place) key
-
--- each of these keys was found live, and was gone by the next step
-abbrev pub gone_entries : (pass : ℕ) → List ℕ → List LogEntry
-gone_entries pass = map (λ key. Known (entry.Gone pass key))
 
 -- each key of these places was missed, in at most `each` steps a place
 pub record Skips (layout : Layout) (each from before : ℕ) (v w : Caller) : Type 0 where

@@ -26,8 +26,8 @@ impl<L: KeyLayout, H: KeepsHeap<L>> Reader for PassOn<L, H> {
         heap_places(PassOn::shape(self))
     }
 
-    fn peek(&mut self, place: u64) -> Option<u64> {
-        PassOn::peek(self, place)
+    fn peek_at(&mut self, place: u64) -> Option<u64> {
+        PassOn::peek_at(self, place)
     }
 
     fn get(&mut self, key: u64) -> Result<Hold, Refusal> {

@@ -57,7 +57,7 @@ pub trait Reader {
         ensures rest { Remains layout (caller self.now) (caller self.now) };
 
     /// The key that is live at a place of the heap, or `None` if none is: one load of the slot's state word.
-    fn peek(&mut self, place: u64) -> Option<u64>
+    fn peek_at(&mut self, place: u64) -> Option<u64>
         requires { place < all_pages (caller self.old).heap.shape * slot_places }
         ensures does { PeekDoes layout place (caller self.old) result (caller self.new) }
         ensures remains { Remains layout (caller self.old) (caller self.new) };
@@ -192,8 +192,8 @@ pub trait Reader {
     /// `heap_places` places, and there is no key behind them.
     ///
     /// A walk meets the live keys in the order of their places, each place once. A key that is live from its begin to
-    /// its end is met; one that is inserted or removed meanwhile is met or not, and a key that is met was live at that
-    /// moment. A key whose insert the caller did or heard of by a receipt is met unless it was removed.
+    /// its end is met. One that is inserted or removed meanwhile is met or not. A key that is met was live at that
+    /// moment. A key whose insert the caller did or heard of by a receipt is met, unless it was removed.
     ///
     /// ```text
     /// let mut place = 0;

@@ -26,8 +26,8 @@ impl<L: KeyLayout, H: KeepsHeap<L>> Reader for ShardOn<L, H> {
         heap_places(ShardOn::shape(self))
     }
 
-    fn peek(&mut self, place: u64) -> Option<u64> {
-        ShardOn::peek(self, place)
+    fn peek_at(&mut self, place: u64) -> Option<u64> {
+        ShardOn::peek_at(self, place)
     }
 
     fn get(&mut self, key: u64) -> Result<Hold, Refusal> {

@@ -36,7 +36,7 @@ fn live_at<R: Reader>(reader: &mut R, place: u64) -> Option<NextLive>
     ensures does { NextLiveDoes R.layout place (place + 1) (R.caller reader.old) result (R.caller reader.new) }
     ensures remains { Remains R.layout (R.caller reader.old) (R.caller reader.new) }
 {
-    let Some(key) = reader.peek(place) else {
+    let Some(key) = reader.peek_at(place) else {
         return None;
     };
     // (The initial value has one word, as most values have: reading a value of one word into it is one store.)
@@ -72,7 +72,7 @@ fn held_at<R: Reader>(reader: &mut R, place: u64) -> Result<Option<NextHeld>, Re
     ensures does { NextHeldDoes R.layout place (place + 1) (R.caller reader.old) result (R.caller reader.new) }
     ensures remains { Remains R.layout (R.caller reader.old) (R.caller reader.new) }
 {
-    let Some(key) = reader.peek(place) else {
+    let Some(key) = reader.peek_at(place) else {
         return Ok(None);
     };
     let behind = place + 1;

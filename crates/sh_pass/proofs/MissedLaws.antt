@@ -216,36 +216,36 @@ other_off a b g true true on ne = refl
 other_off a b g false m on ne = refl
 
 module _ (layout : Layout) (shape : Numbers) (v : View) (x : SlotRef) where
-  abbrev plan : Plan
-  plan = plan_of layout shape
+  abbrev numbered : Plan
+  numbered = plan_of layout shape
 
   abbrev place : SlotRef → Place
   place y = State y.page y.slot
 
   -- the step of a peek missed the key of this name
-  peek_misses : (key : Option ℕ) (new : List Footstep) (p : Peeked plan v x key new) (k : ℕ) (n : KeyRef)
-      → place_named plan k ≡ Some n → slot_ref_of n ≡ x → live_at n.generation p.word ≡ false → StepMisses v k n new
+  peek_misses : (key : Option ℕ) (new : List Footstep) (p : Peeked numbered v x key new) (k : ℕ) (n : KeyRef)
+      → place_named numbered k ≡ Some n → slot_ref_of n ≡ x → live_at n.generation p.word ≡ false → StepMisses v k n new
   peek_misses key new p k n named at off = record {
-    action = action.Peek (slot_name plan x);
+    action = action.Peek (slot_name numbered x);
     found = p.word;
     earlier = [];
     later = [];
     steps = p.steps ∙ ap (λ (q : Place). record {
-      action = action.Peek (slot_name plan x);
+      action = action.Peek (slot_name numbered x);
       place = q;
       answer = Some p.word;
     } ∷ []) (ap place (sym at));
     absent = off;
-    removed = λ heard. inl (p.heard k n (place_is plan k n named).unpacks (ap place (sym at)) heard off);
+    removed = λ heard. inl (p.heard k n (place_is numbered k n named).unpacks (ap place (sym at)) heard off);
   }
 
   -- no key is live: each key of the slot was missed
-  pub none_live : (new : List Footstep) → Peeked plan v x None new → MissesKeysOf plan v x new
+  pub none_live : (new : List Footstep) → Peeked numbered v x None new → MissesKeysOf numbered v x new
   none_live new p k n named at = peek_misses None new p k n named at (p.says k n named at)
 
   -- a key is live, and the next steps missed it: each key of the slot was missed
-  pub live_missed : (key : ℕ) (xs ys : List Footstep) → Peeked plan v x (Some key) xs → Misses plan v key ys
-      → MissesKeysOf plan v x (xs ++ ys)
+  pub live_missed : (key : ℕ) (xs ys : List Footstep) → Peeked numbered v x (Some key) xs → Misses numbered v key ys
+      → MissesKeysOf numbered v x (xs ++ ys)
   live_missed key xs ys p (m, its, missed) k n named at = go (n.generation == m.generation) refl where
     same : p.says.0 ≡ m
     same = let both : Some p.says.0 ≡ Some m = sym p.says.1 ∙ its in cc

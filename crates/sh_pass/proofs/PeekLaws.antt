@@ -95,15 +95,17 @@ names_key layout shape p x g k is shard page slot generation below inside =
     } in
     is_place (plan_of layout shape) k n named ∙ ap (λ (m : KeyRef). Some m) same
 
--- what parts name within the heap are the parts of that name
-named_parts : (shards pages : ℕ) (p : Parts) (n : KeyRef) → name_in shards pages p ≡ Some n → p ≡ parts_of pages n
-named_parts shards pages p n h = go (nat_lt p.shard shards) (nat_lt p.page pages) refl h where
+-- a number that is packed from parts which name this is packed from the parts of this
+packed_from : (layout : Layout) (shards pages k : ℕ) (p : Parts) (n : KeyRef) → name_in shards pages p ≡ Some n
+    → packed layout p ≡ k → packed layout (parts_of pages n) ≡ k
+packed_from layout shards pages k p n h is = go (nat_lt p.shard shards) (nat_lt p.page pages) refl h where
   name : KeyRef
   name = record { page = p.shard * pages + p.page; slot = p.slot; generation = p.generation }
 
-  go : (a b : Bool) → nat_lt p.page pages ≡ b → cond (a && b) (Some name) None ≡ Some n → p ≡ parts_of pages n
+  go : (a b : Bool) → nat_lt p.page pages ≡ b → cond (a && b) (Some name) None ≡ Some n
+      → packed layout (parts_of pages n) ≡ k
   go true true below h =
-      let is : name ≡ n = cc in
+      let named : name ≡ n = cc in
       let page = ltb-true p.page pages below in
       let shard = div-mul-add p.shard pages p.page page in
       let local = mod-mul-add p.shard pages p.page page in
@@ -113,7 +115,7 @@ named_parts shards pages p n h = go (nat_lt p.shard shards) (nat_lt p.page pages
         page = sym local i;
         slot = p.slot;
       } in
-      same ∙ ap (parts_of pages) is
+      subst (λ (q : Parts). packed layout q ≡ k) (same ∙ ap (parts_of pages) named) is
   go true false below h = absurd (let no : ⊥ = cc in no)
   go false b below h = absurd (let no : ⊥ = cc in no)
 
@@ -125,8 +127,7 @@ packed_of layout shape k n named = go (unpacked layout k) refl (place_is (plan_o
   go : (o : Option Parts) → unpacked layout k ≡ o → (elim o as (λ _. Option KeyRef)
       [ Some p ↦ name_in shape.shards (pages_of shape) p | None ↦ None ]) ≡ Some n
       → packed layout (parts_of (pages_of shape) n) ≡ k
-  go (Some p) e h = subst (λ (q : Parts). packed layout q ≡ k)
-      (named_parts shape.shards (pages_of shape) p n h) (unpacked_is layout k p e).is
+  go (Some p) e h = packed_from layout shape.shards (pages_of shape) k p n h (unpacked_is layout k p e).is
   go None e h = absurd (let no : ⊥ = cc in no)
 
 -- so two keys do not name the same
@@ -193,13 +194,13 @@ says_named layout shape x word None on none = λ k n named at. not_named layout 
 pub page_in : (shape : Numbers) (place : ℕ) → place < all_pages shape * 48 → place / 48 < all_pages shape
 page_in shape place below = omega arith
 
-pub slot_in : (place : ℕ) → place % 48 < 48
-slot_in place = mod_below place 48 (omega arith)
+pub slot_below : (place : ℕ) → place % 48 < 48
+slot_below place = mod_below place 48 (omega arith)
 
 -- no key names a slot behind the last page
-pub none_behind : (layout : Layout) (shape : Numbers) (place key : ℕ) (name : KeyRef) → all_pages shape * 48 ≤ place
+pub past_the_heap : (layout : Layout) (shape : Numbers) (place key : ℕ) (name : KeyRef) → all_pages shape * 48 ≤ place
     → place_named (plan_of layout shape) key ≡ Some name → slot_ref_of name ≡ slot_at place → ⊥
-none_behind layout shape place key name past named at =
+past_the_heap layout shape place key name past named at =
     let below : name.page < all_pages shape = (place_is (plan_of layout shape) key name named).page in
     let page : name.page ≡ place / 48 = ap (λ (x : SlotRef). x.page) at in
     let high : all_pages shape ≤ place / 48 = omega arith in

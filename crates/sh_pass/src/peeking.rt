@@ -1,5 +1,5 @@
-//! Peeking: a load of a slot's state word, as a step of its own, tells which key of the slot is live. A walk over the
-//! places of a heap consists of these.
+//! Peeking: a load of a slot's state word, as a step of its own, says which key of the slot is live. A walk over the
+//! places of a heap begins with one at each place.
 ghost use Rattle.std.specs.Prelude.{◌≡◌, ◌*◌, ◌<◌, None};
 ghost use Rattle.sh_shape.specs.Places.{all_pages, slot_places};
 ghost use Rattle.sh_slots.specs.declared.hand.Hand.TheVariants.{Idle};
@@ -91,7 +91,7 @@ fn live_key<L: KeyLayout>(shape: &Shape, slot_ref: SlotRef, word: u64) -> Option
 
 // The key that is live at a place at the step of this call, if any.
 #[inline(always)]
-fn peek_at<L: KeyLayout>(table: &HeapTable<L>, seat: &mut PassSeat, place: u64) -> Option<u64>
+fn peek_slot<L: KeyLayout>(table: &HeapTable<L>, seat: &mut PassSeat, place: u64) -> Option<u64>
     requires seat { IsSeat L.layout table.now seat.old }
     requires idle { seat.old.me.0.own.body.hand ≡ Idle }
     requires place { place < all_pages table.now.shape * slot_places }
@@ -109,13 +109,13 @@ fn peek_at<L: KeyLayout>(table: &HeapTable<L>, seat: &mut PassSeat, place: u64) 
 impl<L: KeyLayout> PassState<L> {
     /// The key that is live at a place of the heap, as `PassOn` says.
     #[inline(always)]
-    pub fn peek(&mut self, heap: &Heap<L>, place: u64) -> Option<u64>
+    pub fn peek_at(&mut self, heap: &Heap<L>, place: u64) -> Option<u64>
         requires heap { self.old.heap ≡ heap.now }
         requires place { place < all_pages heap.now.shape * slot_places }
         ensures does { PeekDoes L.layout place self.old result self.new }
         ensures remains { Remains L.layout self.old self.new }
     {
-        peek_at(&heap.table, &mut self.seated.seat, place)
+        peek_slot(&heap.table, &mut self.seated.seat, place)
     }
 }
 
@@ -123,19 +123,19 @@ impl<L: KeyLayout, H: KeepsHeap<L>> PassOn<L, H> {
     /// The key that is live at a place of the heap, or `None` if none is: one load of the slot's state word, which is a
     /// step. Another pass may remove the key at once.
     #[inline(always)]
-    pub fn peek(&mut self, place: u64) -> Option<u64>
+    pub fn peek_at(&mut self, place: u64) -> Option<u64>
         requires { place < all_pages self.old.heap.shape * slot_places }
         ensures does { PeekDoes L.layout place self.old result self.new }
         ensures remains { Remains L.layout self.old self.new }
     {
-        self.state.peek(self.heap.kept(), place)
+        self.state.peek_at(self.heap.kept(), place)
     }
 }
 
 impl<L: KeyLayout, H: KeepsHeap<L>> OwnerOn<L, H> {
     /// The key that is live at a place of the heap, as a pass finds it.
     #[inline(always)]
-    pub fn peek(&mut self, place: u64) -> Option<u64>
+    pub fn peek_at(&mut self, place: u64) -> Option<u64>
         requires idle { (own_body self.old).hand ≡ Idle }
         requires place { place < all_pages self.old.heap.shape * slot_places }
         ensures does { PeekDoes L.layout place self.old result self.new }
@@ -143,6 +143,6 @@ impl<L: KeyLayout, H: KeepsHeap<L>> OwnerOn<L, H> {
         ensures remains { Remains L.layout self.old self.new }
     {
         let heap = self.heap.kept();
-        peek_at(&heap.table, &mut self.seated.seat, place)
+        peek_slot(&heap.table, &mut self.seated.seat, place)
     }
 }

@@ -4,6 +4,7 @@ use Rattle.std.proofs.Common.{ap, inl, inr, sym, ◌∙◌, subst, arith, Option
 use Rattle.std.specs.Prelude.{cond, IsSome, nat_lt, ◌&&◌}
 use Rattle.std.proofs.lemmas.List.{append_cancel_left, length-append}
 use Rattle.sh_core.proofs.AtomicMap.{states_tell}
+use Rattle.sh_core.proofs.Words.Steps.{run_none}
 use Rattle.sh_core.specs.Action.{Action}
 use Rattle.sh_core.specs.Action.TheVariants as action
 use Rattle.sh_core.specs.AtomicMap.{map_of}
@@ -49,10 +50,6 @@ ran : (plan : Plan) (w : World) (e : Event) (es : List Event) → run_from plan 
     ≡ run_from plan (step plan w e) es
 unfolding run_from
 ran plan w e es = refl
-
-ran_none : (plan : Plan) (w : World) → run_from plan w [] ≡ w
-unfolding run_from
-ran_none plan w = refl
 
 -- an event either leaves a trail, or adds a step to it that found its word in the world
 abbrev AddsOne : Plan → World → Event → ℕ → List Footstep → Type 0
@@ -183,7 +180,7 @@ module _ (plan : Plan) (w : World) (a : ℕ) (steps : List Footstep) (e : Event)
           late = e ∷ es;
           events = refl;
           trail = ended plan w a steps ∙ (sym (append-nil steps) ∙ ap (λ (l : List Footstep). steps ++ l) nil);
-          there = ap (λ (z : World). read z.words t.place) (ran_none plan w) ∙ at;
+          there = ap (λ (z : World). read z.words t.place) (run_none plan w) ∙ at;
         }
     which (c ∷ cs) some =
         let h = heads u c then.0 (cs ++ t ∷ after)

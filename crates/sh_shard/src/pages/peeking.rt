@@ -12,13 +12,13 @@ use sh_pass::KeepsHeap;
 impl<L: KeyLayout, H: KeepsHeap<L>> PagesOn<L, H> {
     // The key that is live at a place of the heap, as a pass finds it.
     #[inline(always)]
-    pub(crate) fn peek(&mut self, place: u64) -> Option<u64>
+    pub(crate) fn peek_at(&mut self, place: u64) -> Option<u64>
         requires { place < all_pages self.old.owner.heap.shape * slot_places }
         ensures does { PeekDoes L.layout place self.old.owner result self.new.owner }
         ensures gained { GainsSlot None self.old self.new }
         ensures holds { HoldsPages L.layout self.new }
         ensures remains { Remains L.layout self.old.owner self.new.owner }
     {
-        self.owner.peek(place)
+        self.owner.peek_at(place)
     }
 }

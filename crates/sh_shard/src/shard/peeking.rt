@@ -11,12 +11,12 @@ use sh_pass::KeepsHeap;
 impl<L: KeyLayout, H: KeepsHeap<L>> ShardOn<L, H> {
     /// The key that is live at a place of the heap, or `None` if none is, as a pass finds it.
     #[inline(always)]
-    pub fn peek(&mut self, place: u64) -> Option<u64>
+    pub fn peek_at(&mut self, place: u64) -> Option<u64>
         requires { place < all_pages self.old.pages.owner.heap.shape * slot_places }
         ensures does { PeekDoes L.layout place self.old.pages.owner result self.new.pages.owner }
         ensures moved { MovesNothing self.old self.new }
         ensures stays { StaysOwner L.layout self.old self.new }
     {
-        self.pages.peek(place)
+        self.pages.peek_at(place)
     }
 }
