@@ -195,9 +195,7 @@ pub use sh_grown::{
     Caller, Chunk, Growing, GrowingShare, GrownGuard, GrownReceipt, GrownTotals, NotTold,
 };
 pub use sh_key::{Deep, KeyLayout, Tagged, Tiny, Wide};
-pub use sh_member::{
-    NextHeld, NextLive, Reader, ToldKey, fetch_told, insert_told, next_own_key,
-};
+pub use sh_member::{NextHeld, NextLive, Reader, ToldKey, fetch_told, insert_told, next_own_key};
 pub use sh_pass::{Guard, Heap, NextKey, Pass, Receipt, Seats, remove_then_get};
 pub use sh_plain::{Lookup, Store};
 pub use sh_shape::Shape;
