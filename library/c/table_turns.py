@@ -1,9 +1,9 @@
 #!/usr/bin/env python3
 """Runs threads of a table that take turns under seeds: library/c/table_turns.py OUT SEEDS OBJECT..
 
-It compiles table_turns.c with library/src/table.c to the folder OUT, links the objects and archives, and runs it: nothing
-may be found under as many seeds. Then it plants each fault of FAULTS in places.h beside a copy of table.c: it must be
-found, as what it is, under at least half of 20 seeds.
+It compiles table_turns.c with library/src/table.c to the folder OUT, links the objects and archives, and runs it:
+nothing may be found under as many seeds. Then it plants each fault of FAULTS in places.h beside a copy of table.c: it
+must be found, as what it is, under at least half of 20 seeds.
 """
 import pathlib
 import shutil
@@ -32,8 +32,8 @@ FAULTS = [
 
 def compiled(source, program, objects):
     with_source = f'-DTABLE="{source / "table.c"}"'
-    subprocess.run(["gcc", *FLAGS, *WARNINGS, with_source, TOP / "library/c/table_turns.c", *objects, WRAPS, "-lpthread",
-                    "-o", program], check=True)
+    sources = [TOP / "library/c/table_turns.c", *objects]
+    subprocess.run(["gcc", *FLAGS, *WARNINGS, with_source, *sources, WRAPS, "-lpthread", "-o", program], check=True)
     return program
 
 

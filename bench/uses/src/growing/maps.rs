@@ -1,5 +1,5 @@
-//! What is compared: a plain heap, heaps that grow, a table over one, and `sharded_slab`. One caller inserts and removes.
-//! Of a heap another one gets and reads, which owns no shard.
+//! What is compared: a plain heap, heaps that grow, a table over one, and `sharded_slab`. One caller inserts and
+//! removes. Of a heap another one gets and reads, which owns no shard.
 use super::place::Place;
 use gearlongan::{table, Caller, Error, Growing, Heap, Key, Layout, Pass, Room, Shard, Table, Value};
 use sharded_slab::Slab;

@@ -96,8 +96,8 @@ impl Opening {
 mod tests {
     use super::*;
 
-    // A segment has 8 pages of 195 words. Other tests free memory of the process meanwhile, so one opening of ten has to
-    // show it.
+    // A segment has 8 pages of 195 words. Other tests free memory of the process meanwhile, so one opening of ten has
+    // to show it.
     #[test]
     fn a_heap_takes_the_bytes_of_its_words() {
         let shows = |opening: Opening| opening.bytes >= 8 * 8 * 195 && opening.nanoseconds > 0.0;
