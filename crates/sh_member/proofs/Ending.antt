@@ -1,6 +1,6 @@
--- What is left after a get, a read and a release in a row.
-use Rattle.std.proofs.Common.{◌≡◌, ℕ, ◌+◌, true, cond, List, [], ◌∷◌, ◌++◌, map, length, refl, sym, ◌∙◌, ap}
-use Rattle.std.proofs.Common.{subst, arith, eq-eqb, append_assoc, inr, Option, None, IsSome}
+-- What is left after a get, a removal, a read and a release in a row.
+use Rattle.std.proofs.Common.{◌≡◌, ℕ, ◌+◌, true, List, [], ◌∷◌, ◌++◌, map, length, sym, ◌∙◌, ap}
+use Rattle.std.proofs.Common.{subst, arith, append_assoc, inr, Option, None, IsSome}
 use Rattle.std.specs.Prelude.{◌==◌, Ok, Err, false}
 use Rattle.std.proofs.lemmas.List.{map-append}
 use Rattle.sh_table.specs.Entry.TheVariants as entry
@@ -21,8 +21,10 @@ use Rattle.sh_pass.specs.Deciding.{InOneStep, DropsHold, RemovalDecided}
 use Rattle.sh_pass.specs.Passes.{Caller, holds, CallAdds, CallReads, GetDoes, ReadDoes, ReleaseDoes, RemoveDoes}
 use Rattle.sh_pass.specs.Passes.{plan_for}
 use Rattle.sh_pass.specs.Remaining.{Remains}
-use Rattle.sh_member.specs.Readers.{ReadsAndAdds, GetsAndReads, TakeDoes}
-use Rattle.sh_member.proofs.Holding.{without_first}
+use Rattle.sh_pass.specs.Fetching.{ReadsAndAdds}
+use Rattle.sh_member.specs.Readers.{TakeDoes}
+use Rattle.sh_pass.proofs.Fetched.{got_read, has_behind}
+use Rattle.sh_pass.proofs.FirstHold.{without_first}
 
 pub remains_along : (layout : Layout) (u v w : Caller) → Remains layout u v → Remains layout v w → Remains layout u w
 remains_along layout u v w before last = record {
@@ -33,52 +35,6 @@ remains_along layout u v w before last = record {
   stood = before.stood;
   stands = last.stands;
 }
-
--- entries that have the value, and one more after them that has it
-pub has_behind : (k : ℕ) (value : List ℕ) (es : List LogEntry) (e : LogEntry) → AllHaveValue k value es
-    → AllHaveValue k value (e ∷ []) → AllHaveValue k value (es ++ e ∷ [])
-has_behind k value [] e h last = last
-has_behind k value (x ∷ es) e h last = (h.0, has_behind k value es e h.1 last)
-
--- the get that is read, and known entries after it
-filled_first : (a k : ℕ) (value : List ℕ) → filled k value (Unread a k) ≡ Known (entry.Got a k value)
-filled_first a k value = ap (λ b. cond b (Known (entry.Got a k value)) (Unread a k)) (eq-eqb k k refl)
-
--- the log once the get's value is read
-pub got_read : (a k : ℕ) (value : List ℕ) (es : List LogEntry) → map (filled k value) (es ++ Unread a k ∷ [])
-    ≡ map (filled k value) es ++ Known (entry.Got a k value) ∷ []
-got_read a k value es =
-    map-append (filled k value) es (Unread a k ∷ [])
-    ∙ ap (λ e. map (filled k value) es ++ e ∷ []) (filled_first a k value)
-
--- a get, a read and a release
-pub fetches : (k : ℕ) (value : List ℕ) (First Last : List Footstep → Type 0) (v a b c : Caller)
-    → CallAdds (Unread v.view.pass k ∷ []) (k ∷ holds v) 1 First v a → CallReads k value a b
-    → CallAdds (Known (entry.Released b.view.pass k) ∷ []) (without (λ n. n == k) (holds b)) 6 Last b c
-    → ReadsAndAdds k value (Known (entry.Got v.view.pass k value) ∷ Known (entry.Released v.view.pass k) ∷ [])
-    (length value + 9) v c
-fetches k value First Last v a b c got read released =
-    let pass : b.view.pass ≡ v.view.pass = read.same.pass ∙ got.same.pass in
-    let log : b.view.own.log ≡ map (filled k value) v.view.own.log ++ Known (entry.Got v.view.pass k value) ∷ [] =
-    read.log ∙ (ap (map (filled k value)) got.log ∙ got_read v.view.pass k value v.view.own.log) in
-    let P : List LogEntry → Type 0 = λ l. AllHaveValue k value l in
-    let first = got.steps in
-    let then = read.steps in
-    let last = released.steps in
-    record {
-      same = later_same got.same (later_same read.same released.same);
-      log = released.log
-          ∙ (ap (λ l. l ++ Known (entry.Released b.view.pass k) ∷ []) log
-          ∙ (ap (λ p. (map (filled k value) v.view.own.log ++ Known (entry.Got v.view.pass k value) ∷ [])
-          ++ Known (entry.Released p k) ∷ []) pass
-          ∙ append_assoc (map (filled k value) v.view.own.log) (Known (entry.Got v.view.pass k value) ∷ [])
-          (Known (entry.Released v.view.pass k) ∷ [])));
-      value_is = subst P (sym released.log)
-          (has_behind k value b.view.own.log (Known (entry.Released b.view.pass k)) read.value_is (tt, tt));
-      holds = released.holds
-          ∙ (ap (without (λ n. n == k)) (read.holds ∙ got.holds) ∙ without_first k (holds v));
-      steps = omega arith;
-    }
 
 -- a get, a removal that was lost or won, a read and a release
 takes : (k : ℕ) (value : List ℕ) (E : ℕ → Entry) (First Mid Last : List Footstep → Type 0) (v a b c d : Caller)
@@ -118,19 +74,6 @@ takes k value E First Mid Last v a b c d got removed read released =
           ∙ (ap (without (λ n. n == k)) (read.holds ∙ (removed.holds ∙ got.holds)) ∙ without_first k (holds v));
       steps = omega arith;
     }
-
-pub fetch_does : (layout : Layout) (k : ℕ) (hold : Hold) (value : List ℕ) (v a b c : Caller)
-    → GetDoes layout k v (Ok hold) a → ReadDoes hold.key a (Ok value) b → ReleaseDoes layout hold.key b (Ok tt) c
-    → GetsAndReads layout k v (Ok value) c
-fetch_does layout k hold value v a b c got read released =
-    let R : ℕ → Type 0 = λ n. ReadDoes n a (Ok value) b in
-    let S : ℕ → Type 0 = λ n. ReleaseDoes layout n b (Ok tt) c in
-    let reads : ReadDoes k a (Ok value) b = subst R got.0 read in
-    let releases : ReleaseDoes layout k b (Ok tt) c = subst S got.0 released in (
-      (got.1, got.2),
-      fetches k value (InOneStep (plan_for layout v) k) (DropsHold (plan_for layout b) k) v a b c got.3 reads.1
-          releases.1,
-    )
 
 pub take_does : (layout : Layout) (k : ℕ) (hold : Hold) (value : List ℕ) (v a b c d : Caller)
     → GetDoes layout k v (Ok hold) a → RemoveDoes layout k a (Ok tt) b → ReadDoes hold.key b (Ok value) c

@@ -23,7 +23,7 @@ use Rattle.sh_table.specs.Views.{HeardOfInsert, done_by, order_of, heard_in}
 use Rattle.sh_pass.specs.Growing.{SameTale}
 use Rattle.sh_pass.specs.Passes.{Caller}
 use Rattle.sh_pass.specs.Receipts.{receipt_by, heeded}
-use Rattle.sh_member.specs.Readers.{FetchDoes, LookDoes}
+use Rattle.sh_pass.specs.Fetching.{FetchDoes, LookDoes}
 use Rattle.sh_member.specs.ToldKeys.{CoversInsert, TellsOfInsert, IsAsInserted, GoneIfRemoved, GoneAfterRemoval}
 use Rattle.sh_pass.proofs.SameTales.{later_same}
 

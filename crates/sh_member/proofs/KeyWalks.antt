@@ -21,7 +21,7 @@ use Rattle.sh_shard.specs.Shards.{Sharded, StaysOwner}
 use Rattle.sh_member.specs.OwnKeys.{Adds, AreBetween, AreOfLive, FindsKey, PassesOver, StepsForPlaces}
 use Rattle.sh_member.specs.OwnKeys.{gone_entries}
 use Rattle.sh_member.proofs.Ending.{remains_along}
-use Rattle.sh_member.proofs.Holding.{without_first}
+use Rattle.sh_pass.proofs.FirstHold.{without_first}
 use Rattle.sh_pass.proofs.SameTales.{later_same}
 
 -- a get and a release

@@ -1,6 +1,7 @@
 pub mod BatchSteps
 pub mod Ending
 pub mod Hearing
-pub mod Holding
 pub mod KeyWalks
+pub mod PlaceWalks
+pub mod OnePlace
 pub mod TakingInto

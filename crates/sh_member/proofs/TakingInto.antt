@@ -18,9 +18,11 @@ use Rattle.sh_value.specs.declared.refusal.Refusal.TheVariants as refusal
 use Rattle.sh_pass.specs.Deciding.{InOneStep, DropsHold, RemovalDecided}
 use Rattle.sh_pass.specs.Passes.{Caller, holds, CallAdds, CallReads, GetDoes, ReadDoes, ReleaseDoes, RemoveDoes}
 use Rattle.sh_pass.specs.Passes.{plan_for}
-use Rattle.sh_member.specs.Readers.{ReadsAndAdds, TakeDoes, TakeFitsDoes, TakeIntoDoes}
-use Rattle.sh_member.proofs.Ending.{got_read, has_behind, no_key}
-use Rattle.sh_member.proofs.Holding.{without_first}
+use Rattle.sh_pass.specs.Fetching.{ReadsAndAdds}
+use Rattle.sh_member.specs.Readers.{TakeDoes, TakeFitsDoes, TakeIntoDoes}
+use Rattle.sh_pass.proofs.Fetched.{got_read, has_behind}
+use Rattle.sh_pass.proofs.FirstHold.{without_first}
+use Rattle.sh_member.proofs.Ending.{no_key}
 use Rattle.sh_pass.proofs.SameTales.{later_same}
 
 -- a get, a read, a removal that was lost or won, and a release

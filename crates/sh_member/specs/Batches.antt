@@ -5,7 +5,7 @@ use Rattle.sh_value.specs.declared.hold.Hold.{Hold}
 use Rattle.sh_value.specs.declared.refusal.Refusal.{Refusal}
 use Rattle.sh_pass.specs.Passes.{Caller, GetDoes}
 use Rattle.sh_pass.specs.Remaining.{Remains}
-use Rattle.sh_member.specs.Readers.{FetchDoes}
+use Rattle.sh_pass.specs.Fetching.{FetchDoes}
 
 -- a call for each key, in order, whatever the calls before it returned; there is one result for each key
 abbrev pub DoesEach : {K S A : Type 0} → (K → S → A → S → Type 0) → List K → S → List A → S → Type 0

@@ -4,6 +4,7 @@ pub mod Readers
 pub mod SideBounds
 pub mod Sides
 pub mod ToldKeys
+pub mod Walks
 pub use Rattle.sh_shard.specs.Bounds
 pub use Rattle.sh_shard.specs.Leaving
 pub use Rattle.sh_shard.specs.Pages

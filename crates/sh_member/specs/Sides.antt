@@ -59,8 +59,7 @@ SideIsValid layout Moving = ⊥
 
 -- a call that keeps the kind: a pass does as `does` says, and so does the owner of a shard, which it stays; heap and
 -- shard are as before, and all that is known is true
-abbrev pub SideDoes : {A : Type 0} → Layout → (Caller → Result A Refusal → Caller → Type 0) → SeenSide
-    → Result A Refusal → SeenSide → Type 0
+abbrev pub SideDoes : {A : Type 0} → Layout → (Caller → A → Caller → Type 0) → SeenSide → A → SeenSide → Type 0
 SideDoes layout does (Pass v) answer (Pass w) = does v answer w × Remains layout v w
 SideDoes layout does (Pass v) answer (Shard n) = ⊥
 SideDoes layout does (Pass v) answer Moving = ⊥

@@ -2,9 +2,9 @@
 ghost use Rattle.std.specs.Prelude.{◌≡◌, length};
 ghost use Rattle.sh_member.specs.Batches.{GetsEach, FetchesEach, RemainsAfter};
 ghost use Rattle.sh_pass.specs.Remaining.{Remains};
-ghost use Rattle.sh_member.specs.Readers.{FetchDoes};
+ghost use Rattle.sh_pass.specs.Fetching.{FetchDoes};
 
-use crate::fetching::{fetch, fetch_into};
+use crate::fetching::fetch;
 use crate::reader::Reader;
 use sh_value::{Hold, Refusal, Value};
 
@@ -47,7 +47,7 @@ fn fetch_to<R: Reader>(reader: &mut R, key: u64, place: &mut Result<Value, Refus
 {
     match place {
         Ok(value) => {
-            if let Err(refusal) = fetch_into(reader, key, value) {
+            if let Err(refusal) = reader.look_into(key, value) {
                 *place = Err(refusal);
             }
         }

@@ -1,6 +1,6 @@
 //! What passes and shards have in common: the trait `Reader`, and the type `Member`. `Reader` has the calls on keys
-//! that a pass and the owner of a shard do alike: glance, get, read, remove, release and receipts. Its other calls
-//! (look, take, with and batches) end what they begin, so that no hold is left behind. `next_own_key` finds an owner's
+//! that a pass and the owner of a shard do alike: look, get, read, remove, release and receipts. Its other calls
+//! (take, with and batches) end what they begin, so that no hold is left behind. `next_own_key` finds an owner's
 //! keys one after the other, and a `ToldKey` goes to another thread with the receipt of its insert. A `Member` is a
 //! pass or the shard that it owns: it adopts and leaves in place, as a handle needs which others hold by its address.
 //! `src/member` has a file for each kind of its calls.
@@ -10,8 +10,7 @@
 //! refused.
 //!
 //! ```text
-//! look = glance; if that decides nothing: get, read, release      with = look, your closure
-//! take = get, read, remove, release
+//! with = look, your closure      take = get, read, remove, release
 //! ```
 #![tactic(auto)]
 
@@ -25,8 +24,10 @@ mod shard;
 pub mod taking;
 pub mod taking_into;
 pub mod told_keys;
+pub mod walking;
 
 pub use member::{Member, Side};
 pub use own_keys::next_own_key;
 pub use reader::Reader;
 pub use told_keys::{ToldKey, fetch_told, insert_told};
+pub use walking::{NextHeld, NextLive};

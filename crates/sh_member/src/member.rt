@@ -12,6 +12,7 @@ mod moving;
 mod own_keys;
 mod receipts;
 mod taking;
+mod walking;
 mod warming;
 
 use sh_key::KeyLayout;

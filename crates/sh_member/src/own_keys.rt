@@ -9,7 +9,7 @@ use sh_shard::shard::ShardOn;
 use sh_value::Refusal;
 
 // Whether the key is live, by a get and a release. A key that is crowded is live, too.
-#[tactic(auto, using(crate::proofs::Holding::has_first, crate::proofs::Holding::without_first))]
+#[tactic(auto, using(sh_pass::proofs::FirstHold::has_first, sh_pass::proofs::FirstHold::without_first))]
 fn is_live<L: KeyLayout, H: KeepsHeap<L>>(
     owner: &mut ShardOn<L, H>,
     key: u64,

@@ -2,7 +2,7 @@
 use crate::reader::Reader;
 use sh_key::KeyLayout;
 use sh_pass::pass::PassOn;
-use sh_pass::{Glance, KeepsHeap, Receipt};
+use sh_pass::{Glance, KeepsHeap, Receipt, heap_places};
 use sh_value::{Hold, Refusal, Value};
 
 impl<L: KeyLayout, H: KeepsHeap<L>> Reader for PassOn<L, H> {
@@ -20,6 +20,18 @@ impl<L: KeyLayout, H: KeepsHeap<L>> Reader for PassOn<L, H> {
 
     fn glance(&mut self, key: u64, value: &mut Value) -> Result<Glance, Refusal> {
         PassOn::glance(self, key, value)
+    }
+
+    fn look_into(&mut self, key: u64, value: &mut Value) -> Result<(), Refusal> {
+        PassOn::look_into(self, key, value)
+    }
+
+    fn heap_places(&self) -> u64 {
+        heap_places(PassOn::shape(self))
+    }
+
+    fn peek_at(&mut self, place: u64) -> Option<u64> {
+        PassOn::peek_at(self, place)
     }
 
     fn get(&mut self, key: u64) -> Result<Hold, Refusal> {

@@ -1,17 +1,23 @@
 //! What a pass and a shard have in common.
-ghost use Rattle.std.specs.Prelude.{◌≡◌, ℕ, Result, length};
+ghost use Rattle.std.specs.Prelude.{◌≡◌, ◌*◌, ◌<◌, Result, length};
 ghost use Rattle.sh_key.specs.Layout.{Layout};
-ghost use Rattle.sh_pass.specs.Passes.{Caller, GetDoes, ReadDoes, ReadIntoDoes, RemoveDoes, ReleaseDoes, GlanceDoes};
+ghost use Rattle.sh_pass.specs.Fetching.{FetchDoes};
+ghost use Rattle.sh_pass.specs.Rooms.{FillsRoom, becomes};
+ghost use Rattle.sh_pass.specs.Passes.{Caller, GetDoes, GlanceDoes, ReadDoes, ReadIntoDoes, RemoveDoes, ReleaseDoes};
+ghost use Rattle.sh_pass.specs.Peeks.{PeekDoes};
+ghost use Rattle.sh_pass.specs.Places.{all_pages, slot_places};
 ghost use Rattle.sh_pass.specs.Receipts.{heeded, receipt_by};
 ghost use Rattle.sh_member.specs.Batches.{GetsEach, FetchesEach, RemainsAfter};
 ghost use Rattle.sh_pass.specs.Remaining.{Remains};
-ghost use Rattle.sh_member.specs.Readers.{FetchDoes, FetchIntoDoes, WithDoes, TakeDoes, TakeIntoDoes};
+ghost use Rattle.sh_member.specs.Readers.{WithDoes, TakeDoes, TakeIntoDoes};
+ghost use Rattle.sh_member.specs.Walks.{NextHeldDoes, NextLiveDoes};
 ghost use Rattle.std.specs.Fn.{FnOnceReturnsAt};
 
 use crate::batches::{fetch_each, get_each};
-use crate::fetching::{fetch, fetch_into, with};
+use crate::fetching::{fetch, with};
 use crate::taking::take;
 use crate::taking_into::take_into;
+use crate::walking::{NextHeld, NextLive, next_held, next_live};
 use sh_pass::{Glance, Receipt};
 use sh_value::{Hold, Refusal, Value};
 
@@ -40,11 +46,28 @@ pub trait Reader {
     /// has one.
     fn warm_value(&self, key: u64);
 
-    /// Looks at a key once, in loads alone: at most w + 4 for a value of w words. A value that it sees replaces the
-    /// caller's; otherwise the caller's value stays. Refused as `BadKey`. `look_into` is this, and a get where this
-    /// decides nothing.
+    /// Looks at a key once, in loads alone: at most w + 4 for a value of w words. Only a value that it sees replaces
+    /// the caller's. Refused as `BadKey`. `look_into` is this, and a get where this decides nothing.
     fn glance(&mut self, key: u64, value: &mut Value) -> Result<Glance, Refusal>
-        ensures does { GlanceDoes layout key (caller self.old) value.old result value.new (caller self.new) }
+        ensures does { GlanceDoes becomes layout key (caller self.old) value.old result value.new (caller self.new) }
+        ensures remains { Remains layout (caller self.old) (caller self.new) };
+
+    /// The value of a key into a value of the caller's, replacing what that was: as `look`. A refusal leaves the
+    /// caller's value as it was.
+    fn look_into(&mut self, key: u64, value: &mut Value) -> Result<(), Refusal>
+        ensures does { FillsRoom becomes (λ answer. FetchDoes layout key (caller self.old) answer (caller self.new))
+            value.old result value.new }
+        ensures remains { Remains layout (caller self.old) (caller self.new) };
+
+    /// How many places the heap has: 48 for each page, in the order of its pages, those of one shard side by side.
+    fn heap_places(&self) -> u64
+        ensures is { result ≡ all_pages (caller self.now).heap.shape * slot_places }
+        ensures rest { Remains layout (caller self.now) (caller self.now) };
+
+    /// The key that is live at a place of the heap, or `None` if none is: one load of the slot's state word.
+    fn peek_at(&mut self, place: u64) -> Option<u64>
+        requires { place < all_pages (caller self.old).heap.shape * slot_places }
+        ensures does { PeekDoes layout place (caller self.old) result (caller self.new) }
         ensures remains { Remains layout (caller self.old) (caller self.new) };
 
     /// Takes a hold on a key, so that its value stays readable. Refused as `BadKey`, `HoldsFull`, `Gone` or `Crowded`,
@@ -106,16 +129,6 @@ pub trait Reader {
         fetch(self, key)
     }
 
-    /// The same into a value of the caller's, replacing what that was. A refusal leaves the caller's value as it was.
-    final fn look_into(&mut self, key: u64, value: &mut Value) -> Result<(), Refusal>
-    where
-        Self: Sized,
-        ensures does { FetchIntoDoes layout key (caller self.old) value.old result value.new (caller self.new) }
-        ensures remains { Remains layout (caller self.old) (caller self.new) }
-    {
-        fetch_into(self, key, value)
-    }
-
     /// The value of a key: the same as `look`.
     final fn fetch(&mut self, key: u64) -> Result<Value, Refusal>
     where
@@ -130,10 +143,11 @@ pub trait Reader {
     final fn fetch_into(&mut self, key: u64, value: &mut Value) -> Result<(), Refusal>
     where
         Self: Sized,
-        ensures does { FetchIntoDoes layout key (caller self.old) value.old result value.new (caller self.new) }
+        ensures does { FillsRoom becomes (λ answer. FetchDoes layout key (caller self.old) answer (caller self.new))
+            value.old result value.new }
         ensures remains { Remains layout (caller self.old) (caller self.new) }
     {
-        fetch_into(self, key, value)
+        self.look_into(key, value)
     }
 
     /// What a call returns for the value of a key, as `pass.with(key, |value| value.words().len())`: a look whose value
@@ -171,6 +185,43 @@ pub trait Reader {
         ensures remains { Remains layout (caller self.old) (caller self.new) }
     {
         take_into(self, key, most, value)
+    }
+
+    /// The first live key at a place from `from` on and before `before`, with its value, or `None`. A heap has
+    /// `heap_places` places, and there is no key behind them.
+    ///
+    /// A walk meets the live keys in the order of their places, each place once. A key that is live from its begin to
+    /// its end is met. One that is inserted or removed meanwhile is met or not. A key that is met was live at that
+    /// moment. A key whose insert the caller did or heard of by a receipt is met, unless it was removed.
+    ///
+    /// ```text
+    /// let mut place = 0;
+    /// while let Some(next) = pass.next_live(place, u64::MAX) {
+    ///     place = next.behind;    // next.key was live, with next.value
+    /// }
+    /// ```
+    ///
+    /// It takes at most 21 loads a place, one in a place without a live key, and w + 5 to read a value of w words. It
+    /// writes nothing to shared memory, and leaves no hold.
+    final fn next_live(&mut self, from: u64, before: u64) -> Option<NextLive>
+    where
+        Self: Sized,
+        ensures does { NextLiveDoes layout from before (caller self.old) result (caller self.new) }
+        ensures remains { Remains layout (caller self.old) (caller self.new) }
+    {
+        next_live(self, from, before)
+    }
+
+    /// The same with a hold on the key, in place of its value. There is no hold if the key has as many as it may have.
+    /// Refused as `HoldsFull` if a key is met and the caller has 16 holds: then a call from the same place on, after a
+    /// release, goes on. It takes at most 8 steps a place, one in a place without a live key.
+    final fn next_held(&mut self, from: u64, before: u64) -> Result<Option<NextHeld>, Refusal>
+    where
+        Self: Sized,
+        ensures does { NextHeldDoes layout from before (caller self.old) result (caller self.new) }
+        ensures remains { Remains layout (caller self.old) (caller self.new) }
+    {
+        next_held(self, from, before)
     }
 
     /// A get of each key, in order; `results[i]` is what the get of `keys[i]` returned. A refused get stops nothing.

@@ -1,7 +1,7 @@
 // A shard reads, by its owner's pass.
 use crate::reader::Reader;
 use sh_key::KeyLayout;
-use sh_pass::{Glance, KeepsHeap, Receipt};
+use sh_pass::{Glance, KeepsHeap, Receipt, heap_places};
 use sh_shard::shard::ShardOn;
 use sh_value::{Hold, Refusal, Value};
 
@@ -20,6 +20,18 @@ impl<L: KeyLayout, H: KeepsHeap<L>> Reader for ShardOn<L, H> {
 
     fn glance(&mut self, key: u64, value: &mut Value) -> Result<Glance, Refusal> {
         ShardOn::glance(self, key, value)
+    }
+
+    fn look_into(&mut self, key: u64, value: &mut Value) -> Result<(), Refusal> {
+        ShardOn::look_into(self, key, value)
+    }
+
+    fn heap_places(&self) -> u64 {
+        heap_places(ShardOn::shape(self))
+    }
+
+    fn peek_at(&mut self, place: u64) -> Option<u64> {
+        ShardOn::peek_at(self, place)
     }
 
     fn get(&mut self, key: u64) -> Result<Hold, Refusal> {

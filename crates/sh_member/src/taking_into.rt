@@ -7,7 +7,7 @@ use sh_value::{Refusal, Value};
 
 /// The value of a key that this call removes, replacing what the caller's value was. A value of more than `most` words
 /// goes there too, but its key is not removed. Refused as `take` is. No hold is left behind, whatever it returns.
-#[tactic(auto, using(crate::proofs::Holding::has_first, crate::proofs::Holding::without_first))]
+#[tactic(auto, using(sh_pass::proofs::FirstHold::has_first, sh_pass::proofs::FirstHold::without_first))]
 pub fn take_into<R: Reader>(
     reader: &mut R,
     key: u64,

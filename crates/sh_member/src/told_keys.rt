@@ -3,7 +3,7 @@ ghost use Rattle.std.specs.Prelude.{◌≡◌, IfOk};
 ghost use Rattle.sh_pass.specs.Receipts.{heeded, receipt_by};
 ghost use Rattle.sh_shard.specs.Shards.{InsertServes, StaysOwner, value_class};
 ghost use Rattle.sh_pass.specs.Remaining.{Remains};
-ghost use Rattle.sh_member.specs.Readers.{FetchDoes, LookDoes};
+ghost use Rattle.sh_pass.specs.Fetching.{FetchDoes, LookDoes};
 ghost use Rattle.sh_member.specs.ToldKeys.{CoversInsert, TellsOfInsert, IsAsInserted, GoneIfRemoved, key_told};
 
 use crate::reader::Reader;

@@ -1,12 +1,14 @@
 -- The words of live slots, and what a get learns from them.
 use Rattle.std.proofs.Common.{◌≡◌, ◌∙◌, ℕ, ◌+◌, ◌-◌, ◌%◌, ◌^◌, ◌<◌, ◌≤◌, ◌==◌, ◌&&◌, Bool, true, false, cond, ap}
 use Rattle.std.proofs.Common.{refl, arith, eq-eqb, lt-ltb}
-use Rattle.std.specs.Prelude.{nat_lt, not}
+use Rattle.std.proofs.lemmas.Bool.Decides.{nat_tests}
+use Rattle.std.specs.Int.{bit_at}
+use Rattle.std.specs.Prelude.{◌/◌, ◌*◌, nat_lt, not}
 use Rattle.sh_word.specs.Fields.{Fields, fields_of, word_of}
 use Rattle.sh_word.proofs.Words.{fields_of-word_of}
 use Rattle.sh_slots.specs.declared.enter.GetAnswer.{GetAnswer}
 use Rattle.sh_slots.specs.declared.enter.GetAnswer.TheVariants.{Got, Crowded, Gone}
-use Rattle.sh_slots.specs.Slots.{answer_to_get}
+use Rattle.sh_slots.specs.Slots.{answer_to_get, live_at}
 use Rattle.sh_key.specs.Layout.{Layout, IsLayout}
 use Rattle.sh_step.specs.Plans.{keys_of}
 
@@ -39,3 +41,20 @@ few_holds layout n lawful is =
     let fits = lawful.guards_fit in
     let same : n ≡ layout.guard_max = is 1 1 in
     omega arith
+
+-- the bits above the count say at once whether the slot is live in the generation
+pub live_by_one_test : (g found : ℕ) → (found / 2 ^ 30 == g * 4 + 1) ≡ live_at g found
+unfolding fields_of
+live_by_one_test g found = go (bit_at found 30 == 1) (bit_at found 31 == 1) (found / 2 ^ 32 == g)
+    (found / 2 ^ 30 == g * 4 + 1) refl refl refl refl where
+      go : (present marked same test : Bool) → (bit_at found 30 == 1) ≡ present → (bit_at found 31 == 1) ≡ marked
+          → (found / 2 ^ 32 == g) ≡ same → (found / 2 ^ 30 == g * 4 + 1) ≡ test
+          → test ≡ (present && not marked && same)
+      go true false true true p m s t = refl
+      go true false true false p m s t = absurd (grind (arith, nat_tests))
+      go true false false true p m s t = absurd (grind (arith, nat_tests))
+      go true false false false p m s t = refl
+      go true true same true p m s t = absurd (grind (arith, nat_tests))
+      go true true same false p m s t = refl
+      go false marked same true p m s t = absurd (grind (arith, nat_tests))
+      go false marked same false p m s t = refl

@@ -33,6 +33,7 @@ use Rattle.sh_pass.specs.declared.looking.Glance.TheVariants.{Seen, Gone, Early}
 use Rattle.sh_pass.specs.Deciding.{Stepped, FirstFinds, LastFinds, LooksDecide, IsLive, IsPast, IsEarly}
 use Rattle.sh_pass.specs.Growing.{Grows}
 use Rattle.sh_pass.specs.Looking.{IsLooking, LookGrows}
+use Rattle.sh_pass.specs.Rooms.{TakesSeen}
 use Rattle.sh_pass.proofs.DecidedLaws.{stepped, stepped_then, stepped_on, begins_on}
 use Rattle.sh_pass.proofs.GrowthLaws.{grew, grows_as, grows_on, grows_after, grows_to}
 
@@ -96,6 +97,12 @@ module _ {layout : Layout} {heap : Heap} {t u : Seat (Unit {0}) View} (k : ℕ) 
       let z : false ≡ true = sym past
       ∙ d.heard refl k x (place_is (plan_of layout t.me.0.shape) k x named).unpacks refl heard live in cc
 
+-- a look that ends there leaves the room as it was
+pub off_stays : {M : Type 0} (takes : M → List ℕ → M → Type 0) (past : Bool) (room : M)
+    → TakesSeen takes (cond past Gone Early) room [] room
+off_stays takes true room = refl
+off_stays takes false room = refl
+
 -- a load in between
 pub looks_on : {layout : Layout} {heap : Heap} {v : View} {t u : Seat (Unit {0}) View} (k : ℕ) (x : KeyRef) (s : Sight)
     (n i : ℕ) → IsLooking k x s i v t.me.0 → Did layout heap action.LookOn (move.LookOn k x s) n t u
@@ -123,13 +130,6 @@ pub one_word : {v w : View} (k : ℕ) (x : KeyRef) (c m : ℕ) → IsLooking k x
     → IsLooking k x (Measured 1 1 []) 3 v w
 one_word {v = v} {w = w} k x c m r one only = subst (λ n. IsLooking k x (Measured 1 n []) 3 v w) only
     (subst (λ d. IsLooking k x (Measured d m []) 3 v w) one r)
-
-pub only_word : {layout : Layout} {heap : Heap} {v : View} {t u : Seat (Unit {0}) View} (k : ℕ) (x : KeyRef) (n : ℕ)
-    (words : List ℕ) → IsLooking k x (Measured 1 1 []) 3 v t.me.0
-    → Did layout heap action.LookOn (move.LookOn k x (Measured 1 1 [])) n t u → words ≡ n ∷ []
-    → IsLooking k x (Measured 1 1 words) 4 v u.me.0
-only_word {v = v} {u = u} k x n words r d are =
-    subst (λ ws. IsLooking k x (Measured 1 1 ws) 4 v u.me.0) (sym are) (looks_on k x (Measured 1 1 []) n 3 r d)
 
 -- what was read with one more word of the value
 pub sight_more : (c m n : ℕ) (u : List ℕ) → length u < 16 → sight_with (Measured c m u) n ≡ Measured c m (u ++ n ∷ [])

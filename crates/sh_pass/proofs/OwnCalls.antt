@@ -4,6 +4,7 @@ use Rattle.std.proofs.Common.{None, List, ◌∷◌, refl, ap, ◌∙◌, sym, s
 use Rattle.std.proofs.lemmas.Bool.{false≢true}
 use Rattle.sh_table.specs.LogEntry.{LogEntry}
 use Rattle.sh_key.specs.Layout.{Layout}
+use Rattle.sh_shape.specs.Places.{pages_of, page_number}
 use Rattle.sh_shape.specs.Shape.{Numbers}
 use Rattle.sh_slots.specs.declared.hand.Hand.TheVariants.{Idle}
 use Rattle.sh_slots.specs.declared.hand.SlotRef.{SlotRef}
@@ -24,8 +25,10 @@ use Rattle.sh_step.proofs.PageLaws.{shards_have_pages}
 use Rattle.sh_table.specs.Tales.{OwnerIsValid, ViewIsValid}
 use Rattle.sh_pass.specs.Growing.{Grows, SameTale, SameOwn, CallsAlone, IsOfShard, is_of_call, with_slot}
 use Rattle.sh_pass.specs.Passes.{Caller}
-use Rattle.sh_pass.specs.Owners.{CallLeaves, SlotCame, SameBells, SeenPage, own_body, seen_page, page_with}
+use Rattle.sh_pass.specs.Owners.{CallLeaves, SlotCame, SameBells, SamePages, SeenPage, own_body, seen_page}
+use Rattle.sh_pass.specs.Owners.{page_with}
 use Rattle.sh_pass.proofs.OwnNotes.{one_more, one_more_else}
+use Rattle.sh_pass.proofs.SameTales.{later_same}
 use Rattle.sh_table.proofs.Standing.{eqb_self}
 
 -- ---- no step of a call takes from a page or from a bell, follows or arms
@@ -161,3 +164,36 @@ pub leaves_grown : {b : Body} {es : List LogEntry} {most : ℕ} (layout : Layout
 leaves_grown layout v w r g own over idle at stands = leaves layout v w g.same g.calls r
     (subst (SameOwn (with_slot (own_body v) r)) (sym g.body) own) idle (ap (λ (p : Body). p.hand) g.body ∙ over) at
     stands
+
+-- ---- one call after another, the first of which frees no slot
+
+slot_then : (u v w : Caller) (r : Option SlotRef) → (own_body u).hand ≡ Idle → SameTale u.view v.view
+    → (own_body v).owned ≡ (own_body u).owned → SamePages u v → SlotCame r v w → SlotCame r u w
+slot_then u v w None idle same owned pages came = λ q. came q ∙ pages q
+slot_then u v w (Some x) idle same owned pages (y, may, page, inside, before, on) = (
+  y,
+  record {
+    idle = idle;
+    owned = sym owned ∙ may.owned;
+    page = subst (λ (s : Numbers). y.page < pages_of s) same.shape may.page;
+  },
+  page ∙ ap (λ (s : Numbers). page_number s y.shard y.page) same.shape,
+  inside,
+  ap (λ (g : SeenPage). g.mine x.slot) (sym (pages x.page)) ∙ before,
+  record {
+    here = on.here ∙ ap (λ (g : SeenPage). page_with g x.slot) (pages x.page);
+    others = λ q ne. on.others q ne ∙ pages q;
+  },
+)
+
+pub leaves_then : (layout : Layout) (u v w : Caller) (r : Option SlotRef) → (own_body u).hand ≡ Idle
+    → CallLeaves layout None u v → CallLeaves layout r v w → CallLeaves layout r u w
+leaves_then layout u v w r idle a b = record {
+  idle = b.idle;
+  same = later_same a.same b.same;
+  owned = b.owned ∙ a.owned;
+  bells = λ n. b.bells n ∙ a.bells n;
+  arm = b.arm ∙ a.arm;
+  alone = λ is_such never. b.alone is_such never ∙ a.alone is_such never;
+  slot = slot_then u v w r idle a.same a.owned a.slot b.slot;
+}

@@ -1,6 +1,6 @@
 // The calls of a pass, whether it owns a shard or not. Each also returns the slot of its shard that became its own, if
 // any.
-ghost use Rattle.std.specs.Prelude.{◌≡◌, None};
+ghost use Rattle.std.specs.Prelude.{◌≡◌, None, OnOk};
 ghost use Rattle.sh_slots.specs.declared.hand.Hand.TheVariants.{Idle};
 ghost use Rattle.sh_table.specs.Seats.{IsSeat};
 ghost use Rattle.sh_pass.specs.Passes.{GetDoes, ReadDoes, ReadIntoDoes, RemoveDoes, ReleaseDoes, HoldsKept, caller_of};
@@ -13,6 +13,7 @@ use crate::held_keys::{is_held, remove_one};
 use crate::holding::Holding;
 use crate::looking::{Glance, look_at};
 use crate::reading::read_at;
+use crate::room::Room;
 use arrayvec::ArrayVec;
 use sh_key::KeyLayout;
 use sh_slots::{GetAnswer, SlotRef};
@@ -37,6 +38,7 @@ pub(crate) fn get_guard_of<L: KeyLayout>(
     ensures kept { HoldsKept held.new.items seat.new.me.0.own.body.holds }
     ensures does { GetDoes L.layout key (caller_of seat.old) result.0 (caller_of seat.new) }
     ensures leaves { CallLeaves L.layout result.1 (caller_of seat.old) (caller_of seat.new) }
+    ensures none { OnOk result.0 (result.1 ≡ None) }
 {
     let Some(name) = place_of_key::<L>(table.shape(), key) else {
         return (Err(Refusal::BadKey), None);
@@ -48,7 +50,7 @@ pub(crate) fn get_guard_of<L: KeyLayout>(
     match got.0 {
         GetAnswer::Got => {
             held.push(key);
-            (Ok(Guard::new(key, name, table.shape())), got.1)
+            (Ok(Guard::new(key, name, table.shape())), None)
         }
         GetAnswer::Crowded => (Err(Refusal::Crowded), got.1),
         GetAnswer::Gone => (Err(Refusal::Gone), got.1),
@@ -72,6 +74,7 @@ pub(crate) fn get_key<L: KeyLayout>(
     ensures kept { HoldsKept held.new.items seat.new.me.0.own.body.holds }
     ensures does { GetDoes L.layout key (caller_of seat.old) result.0 (caller_of seat.new) }
     ensures leaves { CallLeaves L.layout result.1 (caller_of seat.old) (caller_of seat.new) }
+    ensures none { OnOk result.0 (result.1 ≡ None) }
 {
     let (answer, slot) = get_guard_of(table, seat, held, key, owned);
     match answer {
@@ -185,23 +188,23 @@ pub(crate) fn read_value<L: KeyLayout, K: Holding<L>>(
     Ok(value)
 }
 
-/// Looks at a key once: reads its value into a value of the caller's, without a hold.
+/// Looks at a key once: its value is put into the caller's room, without a hold.
 #[inline(always)]
-pub(crate) fn look_key<L: KeyLayout>(
+pub(crate) fn look_key<L: KeyLayout, M: Room>(
     table: &HeapTable<L>,
     seat: &mut PassSeat,
     key: u64,
-    value: &mut Value,
+    room: &mut M,
 ) -> Result<Glance, Refusal>
     requires seat { IsSeat L.layout table.now seat.old }
     requires idle { seat.old.me.0.own.body.hand ≡ Idle }
     ensures seat { IsSeat L.layout table.now seat.new }
     ensures kept { seat.new.me.0.own.body.holds ≡ seat.old.me.0.own.body.holds }
-    ensures does { GlanceDoes L.layout key (caller_of seat.old) value.old result value.new (caller_of seat.new) }
+    ensures does { GlanceDoes M.takes L.layout key (caller_of seat.old) room.old result room.new (caller_of seat.new) }
     ensures leaves { CallLeaves L.layout None (caller_of seat.old) (caller_of seat.new) }
 {
     let Some(name) = place_of_key::<L>(table.shape(), key) else {
         return Err(Refusal::BadKey);
     };
-    Ok(look_at(table, seat, key, name, value))
+    Ok(look_at(table, seat, key, name, room))
 }

@@ -7,6 +7,7 @@ use sh_value::{Hold, Refusal, Value};
 
 impl<L: KeyLayout, H: KeepsHeap<L>> Lookup for PassOn<L, H> {
     ghost use Rattle.sh_pass.specs.Passes.{GetDoes, ReadDoes, RemoveDoes, ReleaseDoes};
+    ghost use Rattle.sh_pass.specs.Fetching.{FetchDoes};
     ghost use Rattle.sh_pass.specs.Lookups.{caller_book, caller_setting};
 
     ghost book = { caller_book };
@@ -16,6 +17,8 @@ impl<L: KeyLayout, H: KeepsHeap<L>> Lookup for PassOn<L, H> {
     ghost gets = { λ old key result new. GetDoes L.layout key old result new };
 
     ghost reads = { λ old key result new. ReadDoes key old result new };
+
+    ghost looks = { λ old key result new. FetchDoes L.layout key old result new };
 
     ghost removes = { λ old key result new. RemoveDoes L.layout key old result new };
 
@@ -27,6 +30,10 @@ impl<L: KeyLayout, H: KeepsHeap<L>> Lookup for PassOn<L, H> {
 
     fn read(&mut self, hold: Hold) -> Result<Value, Refusal> {
         PassOn::read(self, hold)
+    }
+
+    fn look(&mut self, key: u64) -> Result<Value, Refusal> {
+        PassOn::look(self, key)
     }
 
     fn remove(&mut self, key: u64) -> Result<(), Refusal> {

@@ -1,17 +1,18 @@
 //! The calls of an owner: those of a pass, each with the slot of its shard that became its own, if any.
 ghost use Rattle.std.specs.Prelude.{◌≡◌, None};
 ghost use Rattle.sh_slots.specs.declared.hand.Hand.TheVariants.{Idle};
-ghost use Rattle.sh_pass.specs.Passes.{GetDoes, ReadDoes, ReadIntoDoes, RemoveDoes, ReleaseDoes, GlanceDoes};
+ghost use Rattle.sh_pass.specs.Fetching.{FetchDoes};
+ghost use Rattle.sh_pass.specs.Rooms.{FillsRoom};
+ghost use Rattle.sh_pass.specs.Passes.{GetDoes, ReadDoes, ReadIntoDoes, RemoveDoes, ReleaseDoes};
 ghost use Rattle.sh_pass.specs.Owners.{CallLeaves, own_body};
 ghost use Rattle.sh_pass.specs.Remaining.{Remains};
 
-use crate::calls::{
-    get_guard_of, get_key, look_key, read_key, read_value, release_key, remove_key,
-};
+use crate::calls::{get_guard_of, get_key, read_key, read_value, release_key, remove_key};
+use crate::fetching::fetch_key;
 use crate::guard::Guard;
 use crate::keeping::KeepsHeap;
-use crate::looking::Glance;
 use crate::owner::OwnerOn;
+use crate::room::Room;
 use crate::seated::Seated;
 use crate::warming::{warm_key, warm_value_of};
 use sh_key::KeyLayout;
@@ -138,15 +139,22 @@ impl<L: KeyLayout, H: KeepsHeap<L>> OwnerOn<L, H> {
         read_key(&heap.table, seat, held, guard, value)
     }
 
-    /// Looks at a key once, as a pass does.
+    /// The value of a key, into the caller's room, by a look, as a pass does. A slot becomes its own only if the look
+    /// decides nothing.
     #[inline(always)]
-    pub fn glance(&mut self, key: u64, value: &mut Value) -> Result<Glance, Refusal>
+    pub fn look_into<M: Room>(
+        &mut self,
+        key: u64,
+        room: &mut M,
+    ) -> (Result<(), Refusal>, Option<SlotRef>)
         requires idle { (own_body self.old).hand ≡ Idle }
-        ensures does { GlanceDoes L.layout key self.old value.old result value.new self.new }
-        ensures leaves { CallLeaves L.layout None self.old self.new }
+        ensures does { FillsRoom M.takes (λ answer. FetchDoes L.layout key self.old answer self.new) room.old result.0
+            room.new }
+        ensures leaves { CallLeaves L.layout result.1 self.old self.new }
         ensures remains { Remains L.layout self.old self.new }
     {
         let heap = self.heap.kept();
-        look_key(&heap.table, &mut self.seated.seat, key, value)
+        let Seated { seat, held, .. } = &mut self.seated;
+        fetch_key(&heap.table, seat, held, key, self.owned, room)
     }
 }

@@ -2,13 +2,15 @@
 ghost use Rattle.std.specs.Prelude.{◌≡◌};
 ghost use Rattle.sh_table.specs.Tales.{ViewIsValid};
 ghost use Rattle.sh_pass.specs.Remaining.{Remains};
-ghost use Rattle.sh_pass.specs.Passes.{GlanceDoes};
+ghost use Rattle.sh_pass.specs.Fetching.{FetchDoes};
+ghost use Rattle.sh_pass.specs.Rooms.{FillsRoom};
 ghost use Rattle.sh_pass.specs.Passes.{GetDoes, ReadIntoDoes, RemoveDoes, ReleaseDoes, IsAtRest};
 
-use crate::calls::{get_guard_of, get_key, look_key, read_key, release_key, remove_key};
+use crate::calls::{get_guard_of, get_key, read_key, release_key, remove_key};
+use crate::fetching::fetch_key;
 use crate::guard::Guard;
 use crate::heap::Heap;
-use crate::looking::Glance;
+use crate::room::Room;
 use crate::seated::Seated;
 use crate::warming::{warm_key, warm_value_of};
 use sh_key::KeyLayout;
@@ -158,13 +160,20 @@ impl<L: KeyLayout> PassState<L> {
         read_key(&heap.table, seat, held, guard, value)
     }
 
-    /// Looks at a key once, as `PassOn` says.
+    /// The value of a key, into the caller's room, by a look, as `PassOn` says.
     #[inline(always)]
-    pub fn glance(&mut self, heap: &Heap<L>, key: u64, value: &mut Value) -> Result<Glance, Refusal>
+    pub fn look_into<M: Room>(
+        &mut self,
+        heap: &Heap<L>,
+        key: u64,
+        room: &mut M,
+    ) -> Result<(), Refusal>
         requires { self.old.heap ≡ heap.now }
-        ensures does { GlanceDoes L.layout key self.old value.old result value.new self.new }
+        ensures does { FillsRoom M.takes (λ answer. FetchDoes L.layout key self.old answer self.new) room.old result
+            room.new }
         ensures remains { Remains L.layout self.old self.new }
     {
-        look_key(&heap.table, &mut self.seated.seat, key, value)
+        let Seated { seat, held, .. } = &mut self.seated;
+        fetch_key(&heap.table, seat, held, key, None, room).0
     }
 }

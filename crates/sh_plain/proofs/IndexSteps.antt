@@ -7,7 +7,7 @@ use Rattle.std.proofs.Math.Bool.{or-false, or-true}
 use Rattle.std.proofs.lemmas.List.Folds.{list_any-append}
 use Rattle.std.proofs.lemmas.List.Sums.{sum_by-swap_remove}
 use Rattle.sh_history.specs.declared.entry.Entry.{Entry}
-use Rattle.sh_history.specs.declared.entry.Entry.TheVariants.{Insert, Got, Gone, Crowded, Removed, Released}
+use Rattle.sh_history.specs.declared.entry.Entry.TheVariants.{Insert, Got, Gone, Crowded, Removed, Released, Seen}
 use Rattle.sh_history.specs.History.{value_of, is_removed, is_removal_of, is_got_by, is_release_by, is_got_of}
 use Rattle.sh_history.specs.History.{is_release_of, is_got_from, is_release_from}
 use Rattle.sh_history.proofs.LogLaws.{value_of-append_none, count_by-push, value_stays}
@@ -77,6 +77,16 @@ module _ (first : ℕ) (entries : List Entry) (issued : List Issued) (holds : Li
     held_of = λ pass. count_stays (is_got_from pass) (is_release_from pass) entries (Crowded p k) _ refl refl
         (index.held_of pass);
     held_on = λ key. count_stays (is_got_of key) (is_release_of key) entries (Crowded p k) _ refl refl
+        (index.held_on key);
+  }
+  index_unindexed (Seen p k v) is = record {
+    values = λ key. value_stays entries (Seen p k v) key refl ∙ index.values key;
+    removals = λ key. removal_stays entries (Seen p k v) key refl ∙ index.removals key;
+    held_by = λ pass key. count_stays (is_got_by pass key) (is_release_by pass key) entries (Seen p k v) _ refl refl
+        (index.held_by pass key);
+    held_of = λ pass. count_stays (is_got_from pass) (is_release_from pass) entries (Seen p k v) _ refl refl
+        (index.held_of pass);
+    held_on = λ key. count_stays (is_got_of key) (is_release_of key) entries (Seen p k v) _ refl refl
         (index.held_on key);
   }
   index_unindexed _ is = absurd is

@@ -1,6 +1,6 @@
 -- What the calls of a plain store leave in its book.
 use Rattle.std.proofs.Common.{◌≡◌, ℕ, Bool, true, false, cond, List, [], ◌∷◌, ◌++◌, Option, Some, None, refl, sym, ap}
-use Rattle.std.proofs.Common.{subst, arith, map, Ok, Err, Result, ltb-true, ltb-false}
+use Rattle.std.proofs.Common.{subst, arith, map, Ok, Err, Result, inl, ltb-true, ltb-false}
 use Rattle.std.specs.Prelude.{ok_or, nat_lt, nat_le, not, is_some}
 use Rattle.std.proofs.lemmas.List.{map-append}
 use Rattle.sh_value.specs.declared.hold.Hold.{Hold}
@@ -8,13 +8,14 @@ use Rattle.sh_value.specs.declared.refusal.Refusal.{Refusal}
 use Rattle.sh_value.specs.declared.refusal.Refusal.TheVariants as refusal
 use Rattle.sh_key.specs.Layout.{Layout, unpacked}
 use Rattle.sh_history.specs.declared.entry.Entry.{Entry}
-use Rattle.sh_history.specs.declared.entry.Entry.TheVariants.{Got, Gone, Crowded, Removed}
+use Rattle.sh_history.specs.declared.entry.Entry.TheVariants.{Got, Gone, Crowded, Removed, Seen}
 use Rattle.sh_history.specs.declared.log.LogEntry.TheVariants.{Known}
 use Rattle.sh_history.specs.History.{Legal, value_of, present_value, holds_by, holds_on, hold_count}
 use Rattle.sh_history.proofs.LogLaws.{known_holds, known_filled, gets_have_value}
 use Rattle.sh_plain.specs.Plain.{Plain, PlainReply, Replied, refused, got_reply, get_reply, removed_reply, remove_reply}
+use Rattle.sh_plain.specs.Plain.{looked_reply, look_reply}
 use Rattle.sh_plain.specs.Plain.{read_answer, with_added, plain_book, plain_setting}
-use Rattle.sh_plain.specs.Store.{GetLeaves, ReadLeaves, RemoveLeaves}
+use Rattle.sh_plain.specs.Store.{GetLeaves, ReadLeaves, LookLeaves, RemoveLeaves}
 use Rattle.sh_plain.proofs.Held.{held_has_value, got_is_held}
 
 -- a call leaves the setting as it is
@@ -64,6 +65,37 @@ module _ (layout : Layout) (s : Plain) (key : ℕ) where
       let present = removed_reply s key (present_value s.entries key) in
       by_removed (remove_reply layout s key) result t
       (remove_left (not (is_some (unpacked layout key))) present (removed_left (present_value s.entries key))) h
+
+module _ (layout : Layout) (s : Plain) (key : ℕ) where
+  -- what a look with this reply leaves
+  abbrev LeftLooked : PlainReply (List ℕ) → Type 0
+  LeftLooked reply = LookLeaves (plain_setting layout s) key (plain_book s) reply.answer
+      (plain_book (with_added s reply.adds))
+
+  looked_left : (present : Option (List ℕ)) → LeftLooked (looked_reply s key present)
+  looked_left None = book_added s (Gone s.pass key)
+  looked_left (Some value) = inl (book_added s (Seen s.pass key value))
+
+  look_left : (b : Bool) (present : PlainReply (List ℕ)) → LeftLooked present
+      → LeftLooked (cond b (refused refusal.BadKey) present)
+  look_left true present h = refl
+  look_left false present h = h
+
+  by_looked : (reply : PlainReply (List ℕ)) (result : Result (List ℕ) Refusal) (t : Plain) → LeftLooked reply
+      → Replied reply s result t
+      → LookLeaves (plain_setting layout s) key (plain_book s) result (plain_book t)
+  by_looked reply (Err refusal.Memory) t left h = ap plain_book h.1
+  by_looked reply result t left h =
+      let P : Result (List ℕ) Refusal → Type 0 = λ r. LookLeaves (plain_setting layout s) key (plain_book s) r
+      (plain_book t) in
+      subst P h.0 (rw h.1 left)
+
+  pub look_leaves : (result : Result (List ℕ) Refusal) (t : Plain) → Replied (look_reply layout s key) s result t
+      → LookLeaves (plain_setting layout s) key (plain_book s) result (plain_book t)
+  look_leaves result t h =
+      let present = looked_reply s key (present_value s.entries key) in
+      by_looked (look_reply layout s key) result t
+      (look_left (not (is_some (unpacked layout key))) present (looked_left (present_value s.entries key))) h
 
 module _ (layout : Layout) (s : Plain) (key : ℕ) (legal : Legal s.passes layout.guard_max s.entries) where
   -- what a get with this reply leaves

@@ -1,6 +1,7 @@
 pub mod Issued
 pub mod IndexSteps
 pub mod Holds
+pub mod SeenValue
 pub mod Sound
 pub mod Held
 pub mod Following

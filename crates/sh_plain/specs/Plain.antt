@@ -6,7 +6,7 @@ use Rattle.sh_value.specs.declared.refusal.Refusal.{Refusal}
 use Rattle.sh_value.specs.declared.refusal.Refusal.TheVariants as refusal
 use Rattle.sh_key.specs.Layout.{Layout, unpacked, first_key, key_count}
 use Rattle.sh_history.specs.declared.entry.Entry.{Entry}
-use Rattle.sh_history.specs.declared.entry.Entry.TheVariants.{Insert, Got, Gone, Crowded, Removed, Released}
+use Rattle.sh_history.specs.declared.entry.Entry.TheVariants.{Insert, Got, Gone, Crowded, Removed, Released, Seen}
 use Rattle.sh_history.specs.declared.log.LogEntry.{LogEntry}
 use Rattle.sh_history.specs.declared.log.LogEntry.TheVariants.{Known}
 use Rattle.sh_history.specs.History.{Legal, value_of, present_value, insert_count, hold_count, holds_on, holds_by}
@@ -69,6 +69,16 @@ held_value s key = if nat_lt 0 (holds_by s.entries s.pass key) then value_of s.e
 abbrev pub read_answer : Plain → ℕ → Result (List ℕ) Refusal
 read_answer s key = ok_or (held_value s key) refusal.NotHeld
 
+-- a look at a key, if this is the key's present value
+abbrev pub looked_reply : Plain → ℕ → Option (List ℕ) → PlainReply (List ℕ)
+looked_reply s key None = record { answer = Err refusal.Gone; adds = Some (Gone s.pass key) }
+looked_reply s key (Some value) = record { answer = Ok value; adds = Some (Seen s.pass key value) }
+
+abbrev pub look_reply : Layout → Plain → ℕ → PlainReply (List ℕ)
+look_reply layout s key =
+    if not (is_some (unpacked layout key)) then refused refusal.BadKey
+    else looked_reply s key (present_value s.entries key)
+
 -- a remove of a key, if this is the key's present value
 abbrev pub removed_reply : Plain → ℕ → Option (List ℕ) → PlainReply (Unit {0})
 removed_reply s key None = record { answer = Err refusal.Gone; adds = Some (Gone s.pass key) }
@@ -124,4 +134,5 @@ pub record IsSound (layout : Layout) (entries : List Entry) (pass passes : ℕ) 
 abbrev pub IsUnindexed : Entry → Type 0
 IsUnindexed (Gone pass key) = Unit {0}
 IsUnindexed (Crowded pass key) = Unit {0}
+IsUnindexed (Seen pass key value) = Unit {0}
 IsUnindexed _ = ⊥

@@ -1,11 +1,11 @@
 -- What each call of a store leaves in its book: the list of the results that the store has returned so far. Each
 -- relation goes by cases on the result; a result that a call never returns is impossible.
-use Rattle.std.specs.Prelude.{◌≡◌, ℕ, ◌<◌, Bool, List, [], ◌∷◌, ◌++◌, map, Result, Ok, Err}
+use Rattle.std.specs.Prelude.{◌≡◌, ℕ, ◌<◌, ◌⊎◌, Bool, List, [], ◌∷◌, ◌++◌, map, Result, Ok, Err}
 use Rattle.sh_value.specs.declared.hold.Hold.{Hold}
 use Rattle.sh_value.specs.declared.refusal.Refusal.{Refusal}
 use Rattle.sh_value.specs.declared.refusal.Refusal.TheVariants.{BadKey, Gone as GoneRefusal, Crowded as CrowdedRefusal}
 use Rattle.sh_value.specs.declared.refusal.Refusal.TheVariants.{HoldsFull, NotHeld, Full, Memory}
-use Rattle.sh_history.specs.declared.entry.Entry.TheVariants.{Insert, Gone, Crowded, Removed, Released}
+use Rattle.sh_history.specs.declared.entry.Entry.TheVariants.{Insert, Got, Gone, Crowded, Removed, Released, Seen}
 use Rattle.sh_history.specs.declared.log.LogEntry.{LogEntry}
 use Rattle.sh_history.specs.declared.log.LogEntry.TheVariants.{Known}
 use Rattle.sh_history.specs.Log.{IsLegalLog, IsGotBy, filled, AllHaveValue, logged_holds_by}
@@ -49,6 +49,19 @@ ReadLeaves s key book (Ok value) after =
     (0 < logged_holds_by book s.pass key) × (after ≡ map (filled key value) book) × AllHaveValue key value after
 ReadLeaves s key book (Err NotHeld) after = (logged_holds_by book s.pass key ≡ 0) × (after ≡ book)
 ReadLeaves s key book (Err _) after = ⊥
+
+-- A look adds that it saw the value, and leaves no hold. Or it is a get, a read and a release: each get of the key then
+-- has that value. If it is refused, it adds what a refused get adds
+abbrev pub LookLeaves : Setting → ℕ → List LogEntry → Result (List ℕ) Refusal → List LogEntry → Type 0
+LookLeaves s key book (Ok value) after = (after ≡ book ++ Known (Seen s.pass key value) ∷ [])
+    ⊎ ((after ≡ map (filled key value) book ++ Known (Got s.pass key value) ∷ Known (Released s.pass key) ∷ [])
+    × AllHaveValue key value after)
+LookLeaves s key book (Err GoneRefusal) after = after ≡ book ++ Known (Gone s.pass key) ∷ []
+LookLeaves s key book (Err CrowdedRefusal) after = after ≡ book ++ Known (Crowded s.pass key) ∷ []
+LookLeaves s key book (Err BadKey) after = after ≡ book
+LookLeaves s key book (Err HoldsFull) after = after ≡ book
+LookLeaves s key book (Err Memory) after = after ≡ book
+LookLeaves s key book (Err _) after = ⊥
 
 -- a remove adds its entry, or nothing if it is refused before the key is looked at
 abbrev pub RemoveLeaves : Setting → ℕ → List LogEntry → Result (Unit {0}) Refusal → List LogEntry → Type 0

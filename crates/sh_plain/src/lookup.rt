@@ -3,11 +3,12 @@ ghost use Rattle.std.specs.Prelude.{◌≡◌, ℕ, List, Result};
 ghost use Rattle.sh_value.specs.declared.hold.Hold.{Hold};
 ghost use Rattle.sh_value.specs.declared.refusal.Refusal.{Refusal};
 ghost use Rattle.sh_history.specs.declared.log.LogEntry.{LogEntry};
-ghost use Rattle.sh_plain.specs.Store.{Setting, IsBook, GetLeaves, ReadLeaves, RemoveLeaves, ReleaseLeaves};
+ghost use Rattle.sh_plain.specs.Store.{Setting, IsBook, GetLeaves, ReadLeaves, LookLeaves, RemoveLeaves};
+ghost use Rattle.sh_plain.specs.Store.{ReleaseLeaves};
 
 use sh_value::{Hold, Refusal, Value};
 
-/// Access to values under keys that are never used again: get, read, remove and release.
+/// Access to values under keys that are never used again: get, read, look, remove and release.
 ///
 /// Its book is the list of the results it has returned so far: each call adds exactly its entry. At each moment there
 /// is a legal history in which the entries of its passes are the book, in order.
@@ -24,6 +25,8 @@ pub trait Lookup {
     ghost gets: { Self → ℕ → Result Hold Refusal → Self → Type 0 };
 
     ghost reads: { Self → ℕ → Result (List ℕ) Refusal → Self → Type 0 };
+
+    ghost looks: { Self → ℕ → Result (List ℕ) Refusal → Self → Type 0 };
 
     ghost removes: { Self → ℕ → Result (Unit {0}) Refusal → Self → Type 0 };
 
@@ -43,6 +46,14 @@ pub trait Lookup {
         ensures stands { IsBook (setting self.new) (book self.new) }
         ensures same { setting self.new ≡ setting self.old }
         ensures exact { reads self.old hold.key result self.new };
+
+    /// The value of a key, with no hold. Refused as `BadKey`, `Memory` or `Gone`; of a key whose insert the caller did
+    /// not do, also as `HoldsFull` or `Crowded`.
+    fn look(&mut self, key: u64) -> Result<Value, Refusal>
+        ensures leaves { LookLeaves (setting self.old) key (book self.old) result (book self.new) }
+        ensures stands { IsBook (setting self.new) (book self.new) }
+        ensures same { setting self.new ≡ setting self.old }
+        ensures exact { looks self.old key result self.new };
 
     /// Removes a key: no later get finds it, and its value stays until the last hold is released. Refused as `BadKey`,
     /// `Memory` or `Gone`.

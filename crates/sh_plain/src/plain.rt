@@ -3,7 +3,6 @@ ghost use Rattle.std.specs.Prelude.{◌≡◌, ◌<◌, ◌≤◌, ◌↔◌, Is
 ghost use Rattle.std.specs.Option.{option_copied};
 ghost use Rattle.sh_history.specs.declared.entry.Entry.TheVariants.{Got, Removed, Released};
 ghost use Rattle.sh_history.specs.History.{Allowed, Legal, value_of, present_value, hold_count, holds_by, holds_on};
-ghost use Rattle.sh_history.specs.Log.{logged_holds_by};
 
 mod replies;
 
@@ -180,8 +179,8 @@ impl<L: KeyLayout> PlainStore<L> {
 
 impl<L: KeyLayout> Lookup for PlainStore<L> {
     ghost use Rattle.sh_plain.specs.Plain.{plain_book, plain_setting, Replied, get_reply, read_answer, remove_reply};
-    ghost use Rattle.sh_plain.specs.Plain.{release_reply};
-    ghost use Rattle.sh_plain.specs.Store.{IsBook, GetLeaves, ReadLeaves, RemoveLeaves, ReleaseLeaves};
+    ghost use Rattle.sh_plain.specs.Plain.{look_reply, release_reply};
+    ghost use Rattle.sh_plain.specs.Store.{IsBook, GetLeaves, ReadLeaves, LookLeaves, RemoveLeaves, ReleaseLeaves};
 
     ghost book = { plain_book };
 
@@ -190,6 +189,8 @@ impl<L: KeyLayout> Lookup for PlainStore<L> {
     ghost gets = { λ old key result new. Replied (get_reply L.layout old key) old result new };
 
     ghost reads = { λ old key result new. (result ≡ read_answer old key) × (new ≡ old) };
+
+    ghost looks = { λ old key result new. Replied (look_reply L.layout old key) old result new };
 
     ghost removes = { λ old key result new. Replied (remove_reply L.layout old key) old result new };
 
@@ -217,6 +218,18 @@ impl<L: KeyLayout> Lookup for PlainStore<L> {
         ensures unchanged { self.new ≡ self.old }
     {
         self.plain_read(hold)
+    }
+
+    fn look(&mut self, key: u64) -> Result<Value, Refusal>
+        ensures leaves { LookLeaves (plain_setting L.layout self.old) key (plain_book self.old) result
+            (plain_book self.new) }
+        ensures stands { IsBook (plain_setting L.layout self.new) (plain_book self.new) }
+        ensures same { plain_setting L.layout self.new ≡ plain_setting L.layout self.old }
+        ensures exact { Replied (look_reply L.layout self.old key) self.old result self.new }
+    {
+        let result = self.plain_look(key);
+        let _known = &self.entries;
+        result
     }
 
     fn remove(&mut self, key: u64) -> Result<(), Refusal>

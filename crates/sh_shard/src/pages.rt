@@ -12,6 +12,7 @@ mod counting;
 mod hinting;
 mod insert;
 mod leaving;
+mod peeking;
 mod receipts;
 mod stack;
 

@@ -9,6 +9,7 @@ mod counting;
 mod hinting;
 mod insert;
 mod leaving;
+mod peeking;
 mod prepare;
 mod receipts;
 mod returning;

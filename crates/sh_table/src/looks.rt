@@ -11,7 +11,6 @@ use sh_key::KeyLayout;
 use sh_shape::Place;
 use sh_slots::{KeyRef, SlotRef};
 use sh_step::SlotName;
-use sh_value::Value;
 use std::marker::Brand;
 
 impl<L: KeyLayout> HeapTable<L> {
@@ -65,19 +64,19 @@ impl<L: KeyLayout> HeapTable<L> {
         name: KeyRef,
         class_word: u64,
         count: u64,
-        value: &Value,
+        words: &[u64],
         first: u64,
     ) -> u64
         requires can { CanDo L.layout self.now action.LookOn
-            (move.LookOn key name (sight.Measured class_word count value.now)) seat.old }
+            (move.LookOn key name (sight.Measured class_word count words.now)) seat.old }
         requires first { first ≡ payload_word name.slot class_word 0 }
         ensures { Did L.layout self.now action.LookOn
-            (move.LookOn key name (sight.Measured class_word count value.now)) result seat.old seat.new }
+            (move.LookOn key name (sight.Measured class_word count words.now)) result seat.old seat.new }
     {
         self.load::<Brand, _>(
             seat,
-            (key, name, class_word, count, value),
-            Place::Payload(name.page, first + value.words().len() as u64),
+            (key, name, class_word, count, words),
+            Place::Payload(name.page, first + words.len() as u64),
         )
     }
 
@@ -99,16 +98,16 @@ impl<L: KeyLayout> HeapTable<L> {
         name: KeyRef,
         class_word: u64,
         count: u64,
-        value: &Value,
+        words: &[u64],
     ) -> u64
         requires { CanDo L.layout self.now action.LookAgain
-            (move.LookAgain key name (sight.Measured class_word count value.now)) seat.old }
+            (move.LookAgain key name (sight.Measured class_word count words.now)) seat.old }
         ensures { Did L.layout self.now action.LookAgain
-            (move.LookAgain key name (sight.Measured class_word count value.now)) result seat.old seat.new }
+            (move.LookAgain key name (sight.Measured class_word count words.now)) result seat.old seat.new }
     {
         self.load::<Brand, _>(
             seat,
-            (key, name, class_word, count, value),
+            (key, name, class_word, count, words),
             Place::State(name.page, name.slot),
         )
     }

@@ -1,6 +1,6 @@
 -- What a get and its read leave, over any store.
 use Rattle.std.proofs.Common.{◌≡◌, ℕ, ◌<◌, Bool, true, false, cond, List, [], ◌∷◌, ◌++◌, refl, ◌∙◌, ap, subst, arith}
-use Rattle.std.proofs.Common.{rules, map, Ok, Err, eq-eqb}
+use Rattle.std.proofs.Common.{map, Ok, Err, eq-eqb}
 use Rattle.std.specs.Prelude.{◌==◌, ◌&&◌, count_by}
 use Rattle.std.proofs.lemmas.List.{map-append}
 use Rattle.sh_value.specs.declared.refusal.Refusal.{Refusal}

@@ -1,21 +1,22 @@
 -- A record whose insert is in the book is given back.
 use Rattle.std.proofs.Common.{◌≡◌, ℕ, List, [], ◌∷◌, ◌++◌, Option, Some, None, refl, sym, ◌∙◌, ap, subst, arith, Ok}
-use Rattle.std.proofs.Common.{Err, Result, map, append_assoc, inr, suc, take, drop, drop-cons}
+use Rattle.std.proofs.Common.{Err, Result, map, append_assoc, inl, inr}
 use Rattle.std.specs.List.{Contains}
-use Rattle.std.proofs.lemmas.List.{map-append, take-append-drop}
+use Rattle.std.proofs.lemmas.List.{map-append}
 use Rattle.sh_value.specs.declared.hold.Hold.{Hold}
 use Rattle.sh_value.specs.declared.refusal.Refusal.{Refusal}
 use Rattle.sh_value.specs.declared.refusal.Refusal.TheVariants.{BadKey, Gone, Crowded, HoldsFull, NotHeld, Memory}
 use Rattle.sh_value.specs.declared.refusal.Refusal.TheVariants.{WrongKind}
 use Rattle.sh_plain.specs.Entry.{Entry}
-use Rattle.sh_plain.specs.Entry.TheVariants.{Insert, Got, Released}
+use Rattle.sh_plain.specs.Entry.TheVariants.{Insert, Got, Released, Seen}
 use Rattle.sh_plain.specs.LogEntry.{LogEntry}
 use Rattle.sh_plain.specs.LogEntry.TheVariants.{Known}
 use Rattle.sh_plain.specs.Log.{filled, logged_holds_by}
 use Rattle.sh_plain.proofs.LogLaws.{same_value}
+use Rattle.sh_plain.proofs.SeenValue.{seen_value}
 use Rattle.sh_plain.proofs.Standing.{splits_at}
-use Rattle.sh_plain.specs.Store.{Setting, IsBook, ReleaseLeaves}
-use Rattle.sh_typed.specs.Typed.{GotValue, GivesBack, RecordLeaves}
+use Rattle.sh_plain.specs.Store.{Setting, IsBook, LookLeaves, ReleaseLeaves}
+use Rattle.sh_typed.specs.Typed.{AsRecord, GotValue, GivesBack, RecordLeaves, SeesBack}
 
 -- an entry that is known stays when a value is read and entries are added behind
 pub kept : (key : ℕ) (value : List ℕ) (book more front rest : List LogEntry) (e : Entry) → book ≡ front
@@ -78,3 +79,27 @@ module _ {R : Type 0} (read : List ℕ → Option R) where
   given_back s t key pass value given book after (Err HoldsFull) leaves stands inserted reads = tt
   given_back s t key pass value given book after (Err Memory) leaves stands inserted reads = tt
   given_back s t key pass value given book after (Err _) leaves stands inserted reads = leaves
+
+  -- the value that a look returns is the inserted one
+  same_seen : (s t : Setting) (key pass : ℕ) (value seen : List ℕ) (book after : List LogEntry)
+      → LookLeaves s key book (Ok seen) after → IsBook t after → Contains book (Known (Insert pass key value))
+      → seen ≡ value
+  same_seen s t key pass value seen book after (inl is) stands inserted =
+      let (front, rest, at) = splits_at book (Known (Insert pass key value)) inserted in
+      let last : List LogEntry = Known (Seen s.pass key seen) ∷ [] in
+      seen_value t.passes t.guard_max t.answers_for after front (rest ++ last) book [] pass s.pass key value seen stands
+      (is ∙ (ap (λ l. l ++ last) at ∙ append_assoc front (Known (Insert pass key value) ∷ rest) last)) is
+  same_seen s t key pass value seen book after (inr (is, all)) stands inserted =
+      same_read s t key pass value seen book after (Known (Released s.pass key) ∷ []) is stands inserted
+
+  pub seen_back : (s t : Setting) (key pass : ℕ) (value : List ℕ) (given : R) (book after : List LogEntry)
+      (result : Result R Refusal)
+      → AsRecord read (λ answer. LookLeaves s key book answer after) result → IsBook t after
+      → Contains book (Known (Insert pass key value)) → read value ≡ Some given → SeesBack given result
+  seen_back s t key pass value given book after (Ok found) leaves stands inserted reads =
+      let same = same_seen s t key pass value leaves.0 book after leaves.1 stands inserted in
+      let found_is : Some found ≡ Some given = sym leaves.2 ∙ ap read same ∙ reads in cc
+  seen_back s t key pass value given book after (Err WrongKind) leaves stands inserted reads =
+      let same = same_seen s t key pass value leaves.0 book after leaves.1 stands inserted in
+      let none : None ≡ Some given = sym leaves.2 ∙ ap read same ∙ reads in absurd (let n : ⊥ = cc in n)
+  seen_back s t key pass value given book after (Err _) leaves stands inserted reads = tt

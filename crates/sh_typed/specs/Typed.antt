@@ -75,6 +75,14 @@ FetchesRecord read gets reads releases old key (Err Memory) new =
     gets old key (Err Memory) new ⊎ Returns read gets reads releases old key (Err Memory) new
 FetchesRecord read gets reads releases old key (Err refusal) new = gets old key (Err refusal) new
 
+-- a call that returns a record: what it does with a value, and the record that this value is read as; `WrongKind` if it
+-- is read as none
+abbrev pub AsRecord : {R : Type 0} → (List ℕ → Option R) → (does : Result (List ℕ) Refusal → Type 0) → Result R Refusal
+    → Type 0
+AsRecord read does (Ok found) = (value : List ℕ) × does (Ok value) × (read value ≡ Some found)
+AsRecord read does (Err WrongKind) = (value : List ℕ) × does (Ok value) × (read value ≡ None)
+AsRecord read does (Err refusal) = does (Err refusal)
+
 -- the record is given back, or the get is refused as a store refuses a get
 abbrev pub GivesBack : {R : Type 0} → R → Result (Hold × R) Refusal → Type 0
 GivesBack given (Ok (hold, found)) = found ≡ given
@@ -84,3 +92,9 @@ GivesBack given (Err Crowded) = Unit {0}
 GivesBack given (Err HoldsFull) = Unit {0}
 GivesBack given (Err Memory) = Unit {0}
 GivesBack given (Err _) = ⊥
+
+-- the same of a look
+abbrev pub SeesBack : {R : Type 0} → R → Result R Refusal → Type 0
+SeesBack given (Ok found) = found ≡ given
+SeesBack given (Err WrongKind) = ⊥
+SeesBack given (Err _) = Unit {0}

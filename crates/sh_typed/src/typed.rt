@@ -3,10 +3,11 @@ ghost use Rattle.std.specs.Prelude.{◌≡◌, ◌∷◌, ℕ, List};
 ghost use Rattle.std.specs.List.{Contains};
 ghost use Rattle.sh_plain.specs.Entry.TheVariants.{Insert};
 ghost use Rattle.sh_plain.specs.LogEntry.TheVariants.{Known};
-ghost use Rattle.sh_plain.specs.Store.{IsBook, InsertLeaves, RemoveLeaves, ReleaseLeaves};
-ghost use Rattle.sh_typed.specs.Typed.{FetchesRecord, GivesBack, RecordLeaves, record_in};
+ghost use Rattle.sh_plain.specs.Store.{IsBook, InsertLeaves, LookLeaves, RemoveLeaves, ReleaseLeaves};
+ghost use Rattle.sh_typed.specs.Typed.{AsRecord, FetchesRecord, GivesBack, RecordLeaves, SeesBack, record_in};
 
 use crate::fetch::fetch_record;
+use crate::look::look_record;
 use crate::stored::stored_value;
 use sh_plain::{Lookup, Store};
 use sh_value::{Hold, Record, Refusal};
@@ -14,7 +15,7 @@ use std::marker::{Model, PhantomData};
 
 /// The records of one type in a store: each is stored as its kind and then its words.
 ///
-/// Any implementation of `Lookup` may get, remove and release them, as a pass does:
+/// Any implementation of `Lookup` may look at, get, remove and release them, as a pass does:
 /// `Typed::<_, (u64, u64)>::new(pass)`. Only a store can insert them. A contract sees the store itself. Other keys of
 /// the store may have records of another kind.
 #[derive(Drop)]
@@ -63,6 +64,24 @@ impl<S: Lookup, R: Record> Typed<S, R> {
             self.new }
     {
         fetch_record(&mut self.store, key)
+    }
+
+    /// The record of a key, with no hold: `let session = sessions.look(key)?;`. Refused as the store refuses a look,
+    /// and as `WrongKind` if the key's value is of another kind or does not decode.
+    ///
+    /// A record whose insert is in the book is given back, or the look is refused as the store refuses a look.
+    pub fn look(&mut self, key: u64) -> Result<R, Refusal>
+        ensures leaves { AsRecord (record_in R.KIND R.record_of)
+            (λ answer. LookLeaves (S.setting self.old) key (S.book self.old) answer (S.book self.new)) result }
+        ensures given { (pass : ℕ) (value : List ℕ) (given : R)
+            → Contains (S.book self.old) (Known (Insert pass key value))
+            → record_in R.KIND R.record_of value ≡ Some given → SeesBack given result }
+        ensures stands { IsBook (S.setting self.new) (S.book self.new) }
+        ensures same { S.setting self.new ≡ S.setting self.old }
+        ensures exact { AsRecord (record_in R.KIND R.record_of) (λ answer. S.looks self.old key answer self.new)
+            result }
+    {
+        look_record(&mut self.store, key)
     }
 
     /// Removes a key, whatever its value is, as the store does. Refused as `BadKey`, `Memory` or `Gone`.

@@ -1,10 +1,10 @@
-//! Tests of members: two that own no shard are joined in one, and what a member fetches.
+//! Tests of members: two that own no shard are joined in one, what a member looks at, and which keys its walk finds.
 ghost use Rattle.std.specs.Prelude.{◌≡◌};
 
 use crate::assertions::agree;
 use sh_gather::whole;
 use sh_key::{KeyLayout, Tagged, Tiny, Wide};
-use sh_member::Member;
+use sh_member::{Member, NextHeld, NextLive};
 use sh_pass::{Heap, KeepsHeap, Seats};
 use sh_shape::Shape;
 use sh_value::{Hold, Refusal, Value};
@@ -37,9 +37,9 @@ fn fetches<L: KeyLayout, H: KeepsHeap<L>>(
     key: u64,
     wanted: Result<u64, Refusal>,
 ) {
-    agree(rt, member.fetch(key), wanted.map(Value::from));
+    agree(rt, member.look(key), wanted.map(Value::from));
     let mut value = Value::from(5);
-    agree(rt, member.fetch_into(key, &mut value), wanted.map(|_| ()));
+    agree(rt, member.look_into(key, &mut value), wanted.map(|_| ()));
     agree(rt, value, Value::from(wanted.unwrap_or(5)));
 }
 
@@ -72,6 +72,54 @@ fn a_fetch_of_a_member_needs_no_hold(rt: HostRuntime) {
     agree(&rt, other.remove(key), Ok(()));
     fetches(&rt, &mut owner, key, Err(Refusal::Gone));
     fetches(&rt, &mut other, key, Err(Refusal::Gone));
+}
+
+// From this place on the next live key is this one, whose value is 7, in the slot before that place.
+fn finds<H: KeepsHeap<Wide>>(
+    rt: &impl Abort,
+    member: &mut Member<Wide, H>,
+    from: u64,
+    key: u64,
+    behind: u64,
+) {
+    let value = Value::from(7);
+    let live = NextLive { key, value, behind };
+    agree(rt, member.next_live(from, behind), Some(live));
+    let hold = Some(Hold { key });
+    let held = NextHeld { key, hold, behind };
+    agree(rt, member.next_held(from, behind), Ok(Some(held)));
+    agree(rt, member.release(Hold { key }), Ok(()));
+}
+
+// There are two live keys, in the first slots of two shards of 8 pages of 48 places each.
+fn finds_two<H: KeepsHeap<Wide>>(rt: &impl Abort, member: &mut Member<Wide, H>, keys: (u64, u64)) {
+    finds(rt, member, 0, keys.0, 1);
+    finds(rt, member, 1, keys.1, 385);
+    agree(rt, member.next_live(385, u64::MAX), None);
+    agree(rt, member.next_held(385, u64::MAX), Ok(None));
+}
+
+// Adopts a shard, and inserts a value.
+fn inserted<H: KeepsHeap<Wide>>(
+    rt: &impl Abort,
+    alloc: Global,
+    member: &mut Member<Wide, H>,
+    shard: u64,
+) -> u64 {
+    agree(rt, member.adopt(alloc, shard), Ok(()));
+    member.insert(&Value::from(7)).expect(rt, "a key")
+}
+
+#[test]
+fn a_walk_of_a_member_is_over_all_shards(rt: HostRuntime) {
+    let shape = Shape::new(2, 1, 2).expect(&rt, "a shape");
+    let (heap, seats) = Heap::<Wide>::open(rt.alloc(), shape).expect(&rt, "a heap");
+    let (mut owner, mut other) = two_members(&rt, rt.alloc(), &heap, seats);
+    let first = inserted(&rt, rt.alloc(), &mut other, 0);
+    agree(&rt, other.leave(), Ok(()));
+    let second = inserted(&rt, rt.alloc(), &mut owner, 1);
+    finds_two(&rt, &mut owner, (first, second));
+    finds_two(&rt, &mut other, (first, second));
 }
 
 // Each of two members knows the shape of the heap, and both together are the whole.

@@ -1,4 +1,4 @@
-//! Tests of heaps and passes: worked calls, looks, steps by hand, threads, forged keys, and refused memory.
+//! Tests of heaps and passes: worked calls, looks, walks, steps by hand, threads, forged keys, and refused memory.
 //!
 //! What no clause says: that a heap opens, what a get of an unissued number returns, that passes step at the same time,
 //! and which words are in the heap.
@@ -7,6 +7,7 @@ ghost use Rattle.std.specs.Prelude.{◌≡◌};
 mod by_hand;
 mod forged;
 mod looking;
+mod walking;
 mod words;
 
 use crate::assertions::agree;

@@ -114,6 +114,15 @@ impl Steps {
             .does(pass, Action::ReadWord(key, 0))
     }
 
+    /// Adds that the pass looks at the key, whose value has one word.
+    pub fn looks(self, pass: u32, key: u64) -> Steps {
+        self.does(pass, Action::Look(key))
+            .does(pass, Action::LookOn)
+            .does(pass, Action::LookOn)
+            .does(pass, Action::LookOn)
+            .does(pass, Action::LookAgain)
+    }
+
     /// Adds that the pass inserts the word in a slot of its own.
     pub fn inserts(mut self, pass: u32, slot: SlotName, word: u64) -> Steps {
         if !push_insert(&mut self.events, pass, slot, word) {

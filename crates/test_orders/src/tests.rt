@@ -2,6 +2,7 @@ mod bells;
 mod classes;
 mod handing_over;
 mod holds;
+mod looks;
 mod removers;
 mod stacks;
 

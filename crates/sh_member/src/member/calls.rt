@@ -1,34 +1,15 @@
 // The calls of a member that leave it a pass, or the owner of its shard.
 ghost use Rattle.std.specs.Prelude.{◌<◌, length};
 ghost use Rattle.sh_pass.specs.Passes.{GetDoes, ReadDoes, ReadIntoDoes, RemoveDoes, ReleaseDoes};
-ghost use Rattle.sh_shard.specs.Shards.{StaysOwner};
-ghost use Rattle.sh_member.specs.Readers.{FetchDoes, FetchIntoDoes};
+ghost use Rattle.sh_pass.specs.Fetching.{FetchDoes};
+ghost use Rattle.sh_pass.specs.Rooms.{FillsRoom};
 ghost use Rattle.sh_member.specs.Sides.{SideDoes, SideInserts, SidePrepares, SideCollects};
 ghost use Rattle.sh_member.specs.SideBounds.{InsertTakes, PrepareTakes};
 
 use crate::member::{Member, Side};
-use crate::reader::Reader;
 use sh_key::KeyLayout;
-use sh_pass::KeepsHeap;
-use sh_shard::shard::ShardOn;
+use sh_pass::{KeepsHeap, Room};
 use sh_value::{Hold, Refusal, Value};
-
-// The same by the owner of a shard, which stays the owner.
-fn fetch_by_owner<L: KeyLayout, H: KeepsHeap<L>>(
-    owner: &mut ShardOn<L, H>,
-    key: u64,
-    value: &mut Value,
-) -> Result<(), Refusal>
-    ensures does { FetchIntoDoes L.layout key owner.old.pages.owner value.old result value.new
-        owner.new.pages.owner }
-    ensures stays { StaysOwner L.layout owner.old owner.new }
-{
-    // (that the shard is the owner's is known before and after)
-    let _known = owner.shape();
-    let answer = owner.fetch_into(key, value);
-    let _known = owner.shape();
-    answer
-}
 
 impl<L: KeyLayout, H: KeepsHeap<L>> Member<L, H> {
     /// Takes a hold on a key. Refused as `BadKey`, `HoldsFull`, `Gone` or `Crowded`, tried in that order.
@@ -66,23 +47,24 @@ impl<L: KeyLayout, H: KeepsHeap<L>> Member<L, H> {
     }
 
     /// The value of a key, by a look. Refused as the `look` of a reader is. It leaves the holds as they were.
-    pub fn fetch(&mut self, key: u64) -> Result<Value, Refusal>
+    pub fn look(&mut self, key: u64) -> Result<Value, Refusal>
         ensures { SideDoes L.layout (FetchDoes L.layout key) self.old result self.new }
     {
-        // (The initial value has one word, as most values have: reading a value of one word into it is one store.)
-        let mut value = Value::from(0);
-        self.fetch_into(key, &mut value)?;
-        Ok(value)
+        match &mut self.side {
+            Side::Pass(pass) => pass.look(key),
+            Side::Shard(shard) => shard.look(key),
+            Side::Moving => unreachable!(),
+        }
     }
 
-    /// The same into a value of the caller's. A refusal leaves that value as it was.
-    pub fn fetch_into(&mut self, key: u64, value: &mut Value) -> Result<(), Refusal>
-        ensures { SideDoes L.layout (λ v answer w. FetchIntoDoes L.layout key v value.old answer value.new w) self.old
-            result self.new }
+    /// The same into a room of the caller's, as a `Value`. A refusal leaves the room as it was.
+    pub fn look_into<M: Room>(&mut self, key: u64, room: &mut M) -> Result<(), Refusal>
+        ensures { FillsRoom M.takes (λ answer. SideDoes L.layout (FetchDoes L.layout key) self.old answer self.new)
+            room.old result room.new }
     {
         match &mut self.side {
-            Side::Pass(pass) => pass.fetch_into(key, value),
-            Side::Shard(shard) => fetch_by_owner(shard, key, value),
+            Side::Pass(pass) => pass.look_into(key, room),
+            Side::Shard(shard) => shard.look_into(key, room),
             Side::Moving => unreachable!(),
         }
     }

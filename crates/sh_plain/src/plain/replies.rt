@@ -9,8 +9,8 @@ use sh_key::KeyLayout;
 use sh_value::{Hold, Refusal, Value};
 
 impl<L: KeyLayout> PlainStore<L> {
-    ghost use Rattle.sh_plain.specs.Plain.{Replied, insert_reply, got_reply, get_reply, read_answer, removed_reply};
-    ghost use Rattle.sh_plain.specs.Plain.{remove_reply, release_reply};
+    ghost use Rattle.sh_plain.specs.Plain.{Replied, insert_reply, got_reply, get_reply, read_answer, looked_reply};
+    ghost use Rattle.sh_plain.specs.Plain.{look_reply, removed_reply, remove_reply, release_reply};
 
     pub(super) fn plain_insert(&mut self, value: &Value) -> Result<u64, Refusal>
         ensures { Replied (insert_reply L.layout self.old value.now) self.old result self.new }
@@ -84,6 +84,29 @@ impl<L: KeyLayout> PlainStore<L> {
             // No history has a hold on a key that was not issued.
             None => Err(Refusal::NotHeld),
         }
+    }
+
+    pub(super) fn plain_look(&mut self, key: u64) -> Result<Value, Refusal>
+        ensures { Replied (look_reply L.layout self.old key) self.old result self.new }
+    {
+        if L::unpack(key).is_none() {
+            return Err(Refusal::BadKey);
+        }
+        self.look_key(key)
+    }
+
+    // A look at a key of the layout.
+    fn look_key(&mut self, key: u64) -> Result<Value, Refusal>
+        ensures { Replied (looked_reply self.old key (present_value self.old.entries key)) self.old result self.new }
+    {
+        let pass = self.pass;
+        let Some(value) = self.present_value(key) else {
+            self.note(Entry::Gone(pass, key))?;
+            return Err(Refusal::Gone);
+        };
+        let value = value.copy();
+        self.note(Entry::Seen(pass, key, value.copy()))?;
+        Ok(value)
     }
 
     pub(super) fn plain_remove(&mut self, key: u64) -> Result<(), Refusal>

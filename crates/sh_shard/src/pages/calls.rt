@@ -1,13 +1,15 @@
 // The four calls of a pass, for an owner: a slot of its shard that the call frees goes to its page's lists.
 ghost use Rattle.std.specs.Prelude.{◌≡◌, ◌+◌, ◌*◌, ◌^◌, ◌≤◌, None, length};
-ghost use Rattle.sh_pass.specs.Passes.{GetDoes, ReadIntoDoes, RemoveDoes, ReleaseDoes, GlanceDoes};
+ghost use Rattle.sh_pass.specs.Fetching.{FetchDoes};
+ghost use Rattle.sh_pass.specs.Rooms.{FillsRoom};
+ghost use Rattle.sh_pass.specs.Passes.{GetDoes, ReadIntoDoes, RemoveDoes, ReleaseDoes};
 ghost use Rattle.sh_pass.specs.Remaining.{Remains};
 ghost use Rattle.sh_shard.specs.Kept.{MayGain, PushesGained};
 ghost use Rattle.sh_shard.specs.Pages.{GainsSlot, HoldsPages};
 
 use crate::pages::PagesOn;
 use sh_key::KeyLayout;
-use sh_pass::{Glance, Guard, KeepsHeap};
+use sh_pass::{Guard, KeepsHeap, Room};
 use sh_slots::SlotRef;
 use sh_states::PageStates;
 use sh_value::{Hold, Refusal, Value};
@@ -75,15 +77,22 @@ impl<L: KeyLayout, H: KeepsHeap<L>> PagesOn<L, H> {
         self.owner.read_guard(guard, value)
     }
 
-    /// Looks at a key once, as a pass does. It frees no slot.
+    /// The value of a key, into the caller's room, by a look. Returns also the page that gained a slot.
     #[inline(always)]
-    pub(crate) fn glance(&mut self, key: u64, value: &mut Value) -> Result<Glance, Refusal>
-        ensures does { GlanceDoes L.layout key self.old.owner value.old result value.new self.new.owner }
-        ensures gained { GainsSlot None self.old self.new }
+    pub(crate) fn look_into<M: Room>(
+        &mut self,
+        key: u64,
+        room: &mut M,
+    ) -> (Result<(), Refusal>, Option<u64>)
+        ensures does { FillsRoom M.takes (λ answer. FetchDoes L.layout key self.old.owner answer self.new.owner)
+            room.old result.0 room.new }
+        ensures gained { GainsSlot result.1 self.old self.new }
         ensures holds { HoldsPages L.layout self.new }
         ensures remains { Remains L.layout self.old.owner self.new.owner }
     {
-        self.owner.glance(key, value)
+        let (answer, gained) = self.owner.look_into(key, room);
+        let page = push_gained(&mut self.states, self.shard, gained);
+        (answer, page)
     }
 
     /// Removes a key. Refused as `BadKey` or `Gone`. Returns also the page that gained a slot.

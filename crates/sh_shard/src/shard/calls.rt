@@ -1,12 +1,13 @@
 // The calls of a pass, for an owner: a full page that gains a slot in one goes back to its class.
 ghost use Rattle.sh_pass.specs.Passes.{GetDoes, ReadDoes, ReadIntoDoes, RemoveDoes, ReleaseDoes};
-ghost use Rattle.sh_pass.specs.Passes.{GlanceDoes};
+ghost use Rattle.sh_pass.specs.Fetching.{FetchDoes};
+ghost use Rattle.sh_pass.specs.Rooms.{FillsRoom};
 ghost use Rattle.sh_shard.specs.Shards.{StaysOwner, ReturnsSlot, MovesNothing};
 
 use crate::shard::ShardOn;
 use crate::shard::returning::return_one;
 use sh_key::KeyLayout;
-use sh_pass::{Glance, Guard, KeepsHeap};
+use sh_pass::{Guard, KeepsHeap, Room};
 use sh_value::{Hold, Refusal, Value};
 
 impl<L: KeyLayout, H: KeepsHeap<L>> ShardOn<L, H> {
@@ -69,14 +70,29 @@ impl<L: KeyLayout, H: KeepsHeap<L>> ShardOn<L, H> {
         self.pages.read_into(hold, value)
     }
 
-    /// Looks at a key once, as a pass does.
-    #[inline(always)]
-    pub fn glance(&mut self, key: u64, value: &mut Value) -> Result<Glance, Refusal>
-        ensures does { GlanceDoes L.layout key self.old.pages.owner value.old result value.new self.new.pages.owner }
-        ensures moved { MovesNothing self.old self.new }
+    /// The value of a key, by a look, as a pass does. It leaves the holds as they were.
+    pub fn look(&mut self, key: u64) -> Result<Value, Refusal>
+        ensures does { FetchDoes L.layout key self.old.pages.owner result self.new.pages.owner }
+        ensures returned { ReturnsSlot self.old self.new }
         ensures stays { StaysOwner L.layout self.old self.new }
     {
-        self.pages.glance(key, value)
+        let mut value = Value::from(0);
+        self.look_into(key, &mut value)?;
+        Ok(value)
+    }
+
+    /// The same into a room of the caller's, as a `Value`, with no copy in between. A refusal leaves the room as it
+    /// was.
+    #[inline(always)]
+    pub fn look_into<M: Room>(&mut self, key: u64, room: &mut M) -> Result<(), Refusal>
+        ensures does { FillsRoom M.takes (λ answer. FetchDoes L.layout key self.old.pages.owner answer
+            self.new.pages.owner) room.old result room.new }
+        ensures returned { ReturnsSlot self.old self.new }
+        ensures stays { StaysOwner L.layout self.old self.new }
+    {
+        let (answer, gained) = self.pages.look_into(key, room);
+        return_one(&self.pages, &mut self.queues, gained);
+        answer
     }
 
     /// The same as `read_into`, by a hold that keeps its place.

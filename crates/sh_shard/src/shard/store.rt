@@ -7,6 +7,7 @@ use sh_value::{Hold, Refusal, Value};
 
 impl<L: KeyLayout, H: KeepsHeap<L>> Lookup for ShardOn<L, H> {
     ghost use Rattle.sh_pass.specs.Passes.{GetDoes, ReadDoes, RemoveDoes, ReleaseDoes};
+    ghost use Rattle.sh_pass.specs.Fetching.{FetchDoes};
     ghost use Rattle.sh_shard.specs.Stores.{shard_book, shard_setting};
 
     ghost book = { shard_book };
@@ -16,6 +17,8 @@ impl<L: KeyLayout, H: KeepsHeap<L>> Lookup for ShardOn<L, H> {
     ghost gets = { λ old key result new. GetDoes L.layout key old.pages.owner result new.pages.owner };
 
     ghost reads = { λ old key result new. ReadDoes key old.pages.owner result new.pages.owner };
+
+    ghost looks = { λ old key result new. FetchDoes L.layout key old.pages.owner result new.pages.owner };
 
     ghost removes = { λ old key result new. RemoveDoes L.layout key old.pages.owner result new.pages.owner };
 
@@ -27,6 +30,10 @@ impl<L: KeyLayout, H: KeepsHeap<L>> Lookup for ShardOn<L, H> {
 
     fn read(&mut self, hold: Hold) -> Result<Value, Refusal> {
         ShardOn::read(self, hold)
+    }
+
+    fn look(&mut self, key: u64) -> Result<Value, Refusal> {
+        ShardOn::look(self, key)
     }
 
     fn remove(&mut self, key: u64) -> Result<(), Refusal> {

@@ -23,7 +23,7 @@ pub const LENT_KEY: u64 = 4096;
 
 // A store whose callers are pass 1 of 2. Pass 0 stored this value under its one key, which is not in its book. It gives
 // one hold, and takes it back once the value was read. It refuses a hold that it cannot give for memory, or as
-// `HoldsFull` if there is memory.
+// `HoldsFull` if there is memory. It refuses each look and each removal of its key for memory.
 #[derive(Drop)]
 pub struct Lender {
     pub value: Value,
@@ -53,6 +53,8 @@ impl Lookup for Lender {
 
     ghost reads = { λ old key result _. result ≡ (if key == 4096 then elim old.stage
         [ Idle ↦ Err NotHeld | Lent ↦ Ok old.value | Read ↦ Ok old.value | Returned ↦ Err NotHeld ] else Err NotHeld) };
+
+    ghost looks = { λ old key result new. (result ≡ Err (if key == 4096 then Memory else BadKey)) × (new ≡ old) };
 
     ghost removes = { λ old key result new. (result ≡ Err (if key == 4096 then Memory else BadKey)) × (new ≡ old) };
 
@@ -91,6 +93,15 @@ impl Lookup for Lender {
             }
             _ => Err(Refusal::NotHeld),
         }
+    }
+
+    #[tactic(auto, using(crate::proofs::Lending::stages_stand))]
+    fn look(&mut self, key: u64) -> Result<Value, Refusal> {
+        Err(if key == LENT_KEY {
+            Refusal::Memory
+        } else {
+            Refusal::BadKey
+        })
     }
 
     #[tactic(auto, using(crate::proofs::Lending::stages_stand))]

@@ -1,5 +1,5 @@
 use Rattle.std.proofs.Common.{◌≡◌, ◌<◌, ◌≤◌, length, arith, rules}
-use Rattle.sh_member.specs.Readers.{FetchDoes}
+use Rattle.sh_pass.specs.Fetching.{FetchDoes}
 use Rattle.sh_member.proofs.BatchSteps.{all_done, all_remain, done_more, remains_more}
 use Rattle.sh_member.proofs.batches.fetch_each.Goals as goal
 

@@ -1,7 +1,18 @@
+use Rattle.std.proofs.Common.{List, ℕ}
+use Rattle.std.specs.Prelude.{Result}
 use Rattle.std.proofs.lemmas.Result.{err_from_is_err_and}
+use Rattle.sh_value.specs.declared.refusal.Refusal.{Refusal}
+use Rattle.sh_pass.specs.Fetching.{FetchDoes}
+use Rattle.sh_pass.proofs.Fetched.{value_filled}
 use Rattle.sh_member.proofs.fetching.fetch.Goals as goal
 
-pub returns-in_err-fetch_into-clause-does : goal.returns-in_err-fetch_into-clause-does
-returns-in_err-fetch_into-clause-does g c =
+pub returns-in_err-look_into-clause-does : goal.returns-in_err-look_into-clause-does
+returns-in_err-look_into-clause-does g c =
     let p = err_from_is_err_and c.from_residual.result c.from_residual.ensures.1 in
-    rw (p.1, p.2) c.in_err-fetch_into.ensures.does.0
+    rw (p.1, p.2) c.in_err-look_into.ensures.does.0
+
+pub returns-clause-does : goal.returns-clause-does
+returns-clause-does g c =
+    let does : Result (List ℕ) Refusal → Type 0 = λ r. FetchDoes g.R.Reader.layout c.args.key
+    (g.R.Reader.caller c.args.reader.now) r (g.R.Reader.caller c.look_into.new.self) in
+    value_filled does c.from-value.result c.look_into.new.value c.in_ok-look_into.ensures.does

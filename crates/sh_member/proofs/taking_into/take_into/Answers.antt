@@ -1,5 +1,5 @@
 use Rattle.std.proofs.Common.{◌<◌, ◌≤◌, length, subst, arith, inr, List, ℕ}
-use Rattle.sh_member.proofs.Ending.{fetch_does}
+use Rattle.sh_pass.proofs.Fetched.{fetch_does}
 use Rattle.sh_member.proofs.TakingInto.{take_ends}
 use Rattle.sh_member.proofs.taking_into.take_into.Goals as goal
 

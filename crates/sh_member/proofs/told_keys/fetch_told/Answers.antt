@@ -1,6 +1,6 @@
 use Rattle.std.proofs.Common.{subst}
 use Rattle.sh_pass.specs.Passes.{Caller}
-use Rattle.sh_member.specs.Readers.{FetchDoes}
+use Rattle.sh_pass.specs.Fetching.{FetchDoes}
 use Rattle.sh_member.proofs.Hearing.{gone_if_removed, fetched_as_inserted, look_decides}
 use Rattle.sh_member.proofs.told_keys.fetch_told.Goals as goal
 

@@ -1,4 +1,4 @@
-use Rattle.std.proofs.Common.{◌<◌, ℕ, List, length, refl, ap, sym, subst, arith}
+use Rattle.std.proofs.Common.{◌<◌, ℕ, List, None, length, refl, ap, sym, subst, arith}
 use Rattle.std.specs.Prelude.{is_some}
 use Rattle.sh_value.specs.declared.hold.Hold.{Hold}
 use Rattle.sh_slots.specs.declared.enter.GetAnswer.TheVariants as answer
@@ -29,9 +29,9 @@ returns-in-Got-clause-leaves g c =
     let P : GetAnswer → Type 0 = λ a. GetGrows c.args.key a c.get_at-got.result.1 c.args.seat.now.me.0
     c.get_at-got.new.seat.me.0 in
     let grows = subst P c.in-Got.is e.grows in
-    leaves_grown g.L.KeyLayout.layout (caller_of c.args.seat.now) (caller_of c.get_at-got.new.seat) _ grows
+    leaves_grown g.L.KeyLayout.layout (caller_of c.args.seat.now) (caller_of c.get_at-got.new.seat) None grows
     (record { owned = refl; classes = refl; mine = refl; cursors = refl; armed = refl; bell = refl })
-    c.requires.idle c.requires.idle e.shard e.seat.stands
+    c.requires.idle c.requires.idle tt e.seat.stands
 
 pub returns-in-Crowded-clause-leaves : goal.returns-in-Crowded-clause-leaves
 returns-in-Crowded-clause-leaves g c =

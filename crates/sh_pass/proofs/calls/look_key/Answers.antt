@@ -7,11 +7,11 @@ returns-clause-does g c =
     let e = c.look_at.ensures in
     let named = name_found c.args.key c.shape.result.now c.place_of_key.result c.in-Some.name c.requires.seat
     c.shape.ensures c.place_of_key.ensures c.in-Some.is in
-    glance_does c.args.key c.in-Some.name c.look_at.result c.args.value.now c.look_at.new.value c.requires.seat e.seat
-    named e.grows e.decides e.unheard e.stays
+    glance_does g.M.Room.takes c.args.key c.in-Some.name c.look_at.result c.args.room.now c.look_at.new.room e.grows.0
+    c.requires.seat e.seat named e.grows.1 e.decides e.unheard e.grows.2
 
 pub returns-clause-leaves : goal.returns-clause-leaves
 returns-clause-leaves g c =
     let e = c.look_at.ensures in
-    glance_leaves c.args.seat.now c.look_at.new.seat c.args.key c.look_at.result c.look_at.new.value c.requires.idle
-    e.seat e.grows
+    glance_leaves c.args.seat.now c.look_at.new.seat c.args.key c.look_at.result e.grows.0 c.requires.idle
+    e.seat e.grows.1

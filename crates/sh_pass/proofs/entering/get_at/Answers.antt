@@ -1,4 +1,4 @@
-use Rattle.std.proofs.Common.{⊎_elim, List, [], sym, subst, arith}
+use Rattle.std.proofs.Common.{⊎_elim, List, sym, subst, arith}
 use Rattle.std.specs.Bool.{then_some}
 use Rattle.sh_table.specs.LogEntry.{LogEntry}
 use Rattle.sh_slots.specs.Slots.{slot_ref_of}

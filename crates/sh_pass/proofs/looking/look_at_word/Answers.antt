@@ -1,10 +1,6 @@
-use Rattle.std.proofs.Common.{◌≡◌, ℕ, List, [], true, refl, sym, subst, ◌∙◌, arith, length}
+use Rattle.std.proofs.Common.{[], ◌∷◌, refl, sym, ◌∙◌, arith}
 use Rattle.sh_slots.specs.declared.hand.Sight.TheVariants.{Measured}
-use Rattle.sh_step.specs.Rows.{is_read}
-use Rattle.sh_pass.specs.declared.looking.Glance.TheVariants.{Seen}
-use Rattle.sh_pass.specs.Deciding.{Stepped, LooksDecide}
-use Rattle.sh_pass.specs.Looking.{LookGrows}
-use Rattle.sh_pass.proofs.LookLaws.{can_look_on, can_look_again, only_word, look_sees, look_loses, more_to_read}
+use Rattle.sh_pass.proofs.LookLaws.{can_look_on, can_look_again, looks_on, look_sees, look_loses, more_to_read}
 use Rattle.sh_pass.proofs.LookLaws.{one_fits}
 use Rattle.sh_pass.proofs.looking.look_at_word.Goals as goal
 
@@ -15,31 +11,33 @@ look_only_word-word-requires-clause-can g c =
 
 pub look_again-state-requires : goal.look_again-state-requires
 look_again-state-requires g c =
-    let P : List ℕ → Type 0 = λ ws. is_read c.args.name (Measured 1 1 ws) ≡ true in
-    can_look_again c.args.key c.args.name (Measured 1 1 c.from-only.result) 4 c.look_only_word-word.ensures.seat
-    (only_word c.args.key c.args.name c.look_only_word-word.result c.from-only.result c.requires.looking.1
-    c.look_only_word-word.ensures c.from-only.ensures) (subst P (sym c.from-only.ensures) refl)
+    can_look_again c.args.key c.args.name (Measured 1 1 (c.look_only_word-word.result ∷ [])) 4
+    c.look_only_word-word.ensures.seat
+    (looks_on c.args.key c.args.name (Measured 1 1 []) c.look_only_word-word.result 3 c.requires.looking.1
+    c.look_only_word-word.ensures) refl
 
-pub returns-then-not-is_live_at-clause-does : goal.returns-then-not-is_live_at-clause-does
-returns-then-not-is_live_at-clause-does g c = record {
-  decided = λ same. cc;
-  ends = λ v r. look_loses c.args.key c.args.name 1 1 c.from-only.result c.look_again-state.result 4
-      (only_word c.args.key c.args.name c.look_only_word-word.result c.from-only.result r
-      c.look_only_word-word.ensures c.from-only.ensures) c.look_again-state.ensures c.args.value.now (omega arith)
-      (sym c.is_live_at.ensures ∙ c.if-not-is_live_at.true);
-}
+pub returns-then-not-is_live-clause-does : goal.returns-then-not-is_live-clause-does
+returns-then-not-is_live-clause-does g c = (
+  [],
+  record {
+    decided = λ same. cc;
+    ends = λ v r. look_loses c.args.key c.args.name 1 1 (c.look_only_word-word.result ∷ []) c.look_again-state.result 4
+        (looks_on c.args.key c.args.name (Measured 1 1 []) c.look_only_word-word.result 3 r
+        c.look_only_word-word.ensures) c.look_again-state.ensures [] (omega arith)
+        (sym c.is_live.ensures ∙ c.if-not-is_live.true);
+  },
+  refl,
+)
 
 pub returns-clause-does : goal.returns-clause-does
-returns-clause-does g c =
-    let N : List ℕ → Type 0 = λ ws. length ws ≡ 1 in
-    let size : length c.from-only.result ≡ 1 = subst N (sym c.from-only.ensures) refl in
-    let same : c.from-only.result ≡ c.set.new.self = c.from-only.ensures ∙ sym c.set.ensures in record {
-      decided = λ same. cc;
-      ends = λ v r. subst
-          (λ ws. LookGrows c.args.key Seen ws v c.look_again-state.new.seat.me.0
-          × Stepped (LooksDecide c.args.key c.args.name Seen) v c.look_again-state.new.seat.me.0) same
-          (look_sees c.args.key c.args.name 1 1 c.from-only.result c.look_again-state.result 4
-          (only_word c.args.key c.args.name c.look_only_word-word.result c.from-only.result r
-          c.look_only_word-word.ensures c.from-only.ensures) c.look_again-state.ensures (omega arith)
-          (sym c.is_live_at.ensures ∙ c.if-not-is_live_at.false));
-    }
+returns-clause-does g c = (
+  c.look_only_word-word.result ∷ [],
+  record {
+    decided = λ same. cc;
+    ends = λ v r. look_sees c.args.key c.args.name 1 1 (c.look_only_word-word.result ∷ []) c.look_again-state.result 4
+        (looks_on c.args.key c.args.name (Measured 1 1 []) c.look_only_word-word.result 3 r
+        c.look_only_word-word.ensures) c.look_again-state.ensures (omega arith)
+        (sym c.is_live.ensures ∙ c.if-not-is_live.false);
+  },
+  c.put_word.ensures,
+)

@@ -1,0 +1,6 @@
+use Rattle.sh_pass.proofs.Booking.{look_leaves}
+use Rattle.sh_pass.proofs.lookup.PassOnLookup.look.Goals as goal
+
+pub returns-clause-leaves : goal.returns-clause-leaves
+returns-clause-leaves g c = look_leaves g.L.KeyLayout.layout c.args.key c.args.self.now c.look.new.self c.look.result
+    c.look.ensures.does
