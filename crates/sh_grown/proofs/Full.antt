@@ -1,15 +1,18 @@
 -- An insert that finds no room: each shard was refused.
 use Rattle.std.proofs.Common.{◌≡◌, ◌≢◌, ℕ, zero, suc, ◌+◌, ◌<◌, ◌≤◌, ◌⊎◌, List, [], ◌∷◌, Option, Some, None, length}
 use Rattle.std.proofs.Common.{refl, inl, inr, ⊎_elim, ap, arith, below_more, get_or, subst, sym, ◌∙◌}
-use Rattle.std.specs.Prelude.{Result, Ok, Err, IfErr, IfSome, IsSome, OnOk, slice_set}
+use Rattle.std.specs.Prelude.{Result, Ok, Err, IfErr, IfSome, IsSome, OnOk, is_err, slice_set, true}
 use Rattle.std.proofs.lemmas.List.{get_or-set_same}
 use Rattle.sh_value.specs.declared.refusal.Refusal.{Refusal}
 use Rattle.sh_value.specs.declared.refusal.Refusal.TheVariants as refusal
 use Rattle.sh_member.specs.declared.member.Side.TheVariants.{Pass, Shard, Moving}
-use Rattle.sh_member.specs.Sides.{SeenSide}
+use Rattle.sh_chunk.specs.Chunks.{chunked}
+use Rattle.sh_member.specs.Shards.{NoRoom, Sharded, value_class}
+use Rattle.sh_member.specs.Sides.{SeenSide, SideCollects}
 use Rattle.sh_grown.specs.declared.chunk_member.ChunkMember.{ChunkMember}
 use Rattle.sh_grown.specs.Callers.{MemberDoes}
-use Rattle.sh_grown.specs.Inserts.{HasMet, InsertsIn, InsertsInChunk, OnNone, TriesInsert, unless_memory}
+use Rattle.sh_grown.specs.Inserts.{CollectsInChunk, HasMet, InsertRefused, InsertsIn, InsertsInChunk, OnNone}
+use Rattle.sh_grown.specs.Inserts.{TriesInsert, unless_memory}
 use Rattle.sh_grown.specs.Keeping.{KeepsMember, KeepsMembers}
 use Rattle.sh_grown.specs.Refusals.{ChunkRefused, OwnsShard, OwnsThere, RangeRefused, RefusedIn, RefusesShard}
 use Rattle.sh_grown.specs.Refusals.{WasRefused}
@@ -74,33 +77,53 @@ refused_none P why answer is holds =
 
 -- ---- an insert of the owner
 
-side_full : (value : List ℕ) (shard : ℕ) (a b : SeenSide) (why : Refusal) → why ≢ refusal.Memory → OwnsShard shard a
-    → InsertsIn value a (Err why) b → RefusesShard value shard a b
-side_full value shard (Shard o) (Shard n) refusal.Full ne owns h = inl (owns, h.0)
-side_full value shard (Shard o) (Shard n) refusal.Memory ne owns h = absurd (ne refl)
-side_full value shard (Shard o) (Shard n) refusal.BadKey ne owns h = absurd h.0
-side_full value shard (Shard o) (Shard n) refusal.Gone ne owns h = absurd h.0
-side_full value shard (Shard o) (Shard n) refusal.Crowded ne owns h = absurd h.0
-side_full value shard (Shard o) (Shard n) refusal.HoldsFull ne owns h = absurd h.0
-side_full value shard (Shard o) (Shard n) refusal.NotHeld ne owns h = absurd h.0
-side_full value shard (Shard o) (Shard n) refusal.TooLong ne owns h = absurd h.0
-side_full value shard (Shard o) (Shard n) refusal.Taken ne owns h = absurd h.0
-side_full value shard (Shard o) (Shard n) refusal.NoShard ne owns h = absurd h.0
-side_full value shard (Shard o) (Shard n) refusal.Waiting ne owns h = absurd h.0
-side_full value shard (Shard o) (Shard n) refusal.BadShape ne owns h = absurd h.0
-side_full value shard (Shard o) (Shard n) refusal.WrongKind ne owns h = absurd h.0
-side_full value shard (Shard o) (Pass w) why ne owns h = absurd h
-side_full value shard (Shard o) Moving why ne owns h = absurd h
-side_full value shard (Pass v) b why ne owns h = absurd owns
-side_full value shard Moving b why ne owns h = absurd owns
+-- an insert was refused, and not for want of memory
+pub insert_refused : (value : List ℕ) (chunk : ℕ) (old new : List (Option ChunkMember)) (why : Refusal)
+    → InsertsInChunk value chunk old (Err why) new → (why ≡ refusal.Memory) ⊎ InsertRefused value chunk old new
+insert_refused value chunk old new why h =
+    ⊎_elim inl (λ (ne : why ≢ refusal.Memory). inr (why, ne, h)) (is_memory why)
 
-place_full : (value : List ℕ) (shard : ℕ) (a b : Option ChunkMember) (why : Refusal) → why ≢ refusal.Memory
-    → OwnsThere shard a
-    → MemberDoes (InsertsIn value) a (Err why) b → WasRefused value shard a b
-place_full value shard (Some m) (Some n) why ne owns does =
-    refused_now value shard m n (side_full value shard m.member n.member why ne owns does.0)
-place_full value shard (Some m) None why ne owns does = absurd does
-place_full value shard None b why ne owns does = absurd owns
+-- the owner of a shard has no room
+owner_full : (value : List ℕ) (o n : Sharded) (why : Refusal) → why ≢ refusal.Memory
+    → InsertsIn value (Shard o) (Err why) (Shard n) → NoRoom (value_class value) o n
+owner_full value o n refusal.Full ne h = h.0
+owner_full value o n refusal.Memory ne h = absurd (ne refl)
+owner_full value o n refusal.BadKey ne h = absurd h.0
+owner_full value o n refusal.Gone ne h = absurd h.0
+owner_full value o n refusal.Crowded ne h = absurd h.0
+owner_full value o n refusal.HoldsFull ne h = absurd h.0
+owner_full value o n refusal.NotHeld ne h = absurd h.0
+owner_full value o n refusal.TooLong ne h = absurd h.0
+owner_full value o n refusal.Taken ne h = absurd h.0
+owner_full value o n refusal.NoShard ne h = absurd h.0
+owner_full value o n refusal.Waiting ne h = absurd h.0
+owner_full value o n refusal.BadShape ne h = absurd h.0
+owner_full value o n refusal.WrongKind ne h = absurd h.0
+
+-- a collect of the owner, and then an insert that finds no room
+side_full : (value : List ℕ) (shard : ℕ) (a b c : SeenSide) (answer : Result (Unit {0}) Refusal) (why : Refusal)
+    → why ≢ refusal.Memory → OwnsShard shard a → SideCollects chunked a answer b → InsertsIn value b (Err why) c
+    → RefusesShard value shard a c
+side_full value shard (Shard o) (Shard m) (Shard n) answer why ne owns collects h = inl (
+  owns,
+  record { collected = m; collects = collects.1; full = owner_full value m n why ne h },
+)
+side_full value shard (Shard o) (Shard m) (Pass w) answer why ne owns collects h = absurd h
+side_full value shard (Shard o) (Shard m) Moving answer why ne owns collects h = absurd h
+side_full value shard (Shard o) (Pass w) c answer why ne owns collects h = absurd collects
+side_full value shard (Shard o) Moving c answer why ne owns collects h = absurd collects
+side_full value shard (Pass v) b c answer why ne owns collects h = absurd owns
+side_full value shard Moving b c answer why ne owns collects h = absurd owns
+
+place_full : (value : List ℕ) (shard : ℕ) (a b c : Option ChunkMember) (answer : Result (Unit {0}) Refusal)
+    (why : Refusal) → why ≢ refusal.Memory → OwnsThere shard a → MemberDoes (SideCollects chunked) a answer b
+    → MemberDoes (InsertsIn value) b (Err why) c → WasRefused value shard a c
+place_full value shard (Some m) (Some n) (Some o) answer why ne owns collects does =
+    refused_now value shard m o
+    (side_full value shard m.member n.member o.member answer why ne owns collects.0 does.0)
+place_full value shard (Some m) (Some n) None answer why ne owns collects does = absurd does
+place_full value shard (Some m) None c answer why ne owns collects does = absurd collects
+place_full value shard None b c answer why ne owns collects does = absurd owns
 
 -- a member is inside the list
 pub met_within : (xs : List (Option ChunkMember)) (i : ℕ) → IsSome (get_or xs i None) → i < length xs
@@ -117,26 +140,79 @@ owner_is_there : (shard : ℕ) (a : Option ChunkMember) → OwnsThere shard a �
 owner_is_there shard (Some m) owns = refl
 owner_is_there shard None owns = absurd owns
 
-chunk_not_memory : (value : List ℕ) (chunk shard : ℕ) (old new : List (Option ChunkMember)) (why : Refusal)
-    → why ≢ refusal.Memory → OwnsThere shard (get_or old chunk None) → InsertsInChunk value chunk old (Err why) new
-    → RefusedIn value chunk shard old new
-chunk_not_memory value chunk shard old new why ne owns (inl h) =
-    let there : get_or new chunk None ≡ h.0 =
+collects_as_owner : (shard : ℕ) (a b : SeenSide) (answer : Result (Unit {0}) Refusal) → OwnsShard shard a
+    → SideCollects chunked a answer b → answer ≡ Ok tt
+collects_as_owner shard (Shard o) (Shard n) answer owns h = h.0
+collects_as_owner shard (Shard o) (Pass w) answer owns h = absurd h
+collects_as_owner shard (Shard o) Moving answer owns h = absurd h
+collects_as_owner shard (Pass v) b answer owns h = absurd owns
+collects_as_owner shard Moving b answer owns h = absurd owns
+
+-- an owner's collect is not refused
+owner_collects : (shard : ℕ) (a b : Option ChunkMember) (answer : Result (Unit {0}) Refusal) → OwnsThere shard a
+    → MemberDoes (SideCollects chunked) a answer b → answer ≡ Ok tt
+owner_collects shard (Some m) (Some n) answer owns h = collects_as_owner shard m.member n.member answer owns h.0
+owner_collects shard (Some m) None answer owns h = absurd h
+owner_collects shard None b answer owns h = absurd owns
+
+collected_there : (a b : Option ChunkMember) (answer : Result (Unit {0}) Refusal)
+    → MemberDoes (SideCollects chunked) a answer b → IsSome b
+collected_there (Some m) (Some n) answer h = refl
+collected_there (Some m) None answer h = absurd h
+collected_there None b answer h = absurd h
+
+-- what was collected is there, unless nobody was there
+collected_here : (chunk shard : ℕ) (old mid : List (Option ChunkMember)) (answer : Result (Unit {0}) Refusal)
+    → OwnsThere shard (get_or old chunk None) → CollectsInChunk chunk old answer mid
+    → MemberDoes (SideCollects chunked) (get_or old chunk None) answer (get_or mid chunk None)
+    × (answer ≡ Ok tt)
+collected_here chunk shard old mid answer owns (inl h) =
+    let there : get_or mid chunk None ≡ h.0 =
     ap (λ (xs : List (Option ChunkMember)). get_or xs chunk None) h.2
-    ∙ set_here old chunk h.0 (owner_is_there shard (get_or old chunk None) owns) in
-    subst (λ (o : Option ChunkMember). WasRefused value shard (get_or old chunk None) o) (sym there)
-    (place_full value shard (get_or old chunk None) h.0 why ne owns h.1)
-chunk_not_memory value chunk shard old new why ne owns (inr h) =
+    ∙ set_here old chunk h.0 (owner_is_there shard (get_or old chunk None) owns) in (
+      subst (λ (o : Option ChunkMember). MemberDoes (SideCollects chunked) (get_or old chunk None) answer o)
+          (sym there) h.1,
+      owner_collects shard (get_or old chunk None) h.0 answer owns h.1,
+    )
+collected_here chunk shard old mid answer owns (inr h) =
     absurd (subst (λ (o : Option ChunkMember). OwnsThere shard o) h.1 owns)
 
--- an insert in a chunk is refused for want of memory, or the shard that the caller owns there is refused
-pub chunk_full : (value : List ℕ) (chunk : ℕ) (old new : List (Option ChunkMember)) (why : Refusal)
-    → InsertsInChunk value chunk old (Err why) new → (why ≡ refusal.Memory) ⊎ ((shard : ℕ)
-    → OwnsThere shard (get_or old chunk None) → RefusedIn value chunk shard old new)
-chunk_full value chunk old new why h =
-    ⊎_elim inl
-    (λ (ne : why ≢ refusal.Memory). inr (λ shard owns.
-    chunk_not_memory value chunk shard old new why ne owns h)) (is_memory why)
+somebody : (a : Option ChunkMember) → IsSome a → a ≡ None → ⊥
+somebody (Some m) some none = cc
+somebody None some none = cc
+
+inserted_here : (value : List ℕ) (chunk : ℕ) (old new : List (Option ChunkMember)) (why : Refusal)
+    → IsSome (get_or old chunk None) → InsertsInChunk value chunk old (Err why) new
+    → MemberDoes (InsertsIn value) (get_or old chunk None) (Err why) (get_or new chunk None)
+inserted_here value chunk old new why some (inl h) =
+    subst (λ (o : Option ChunkMember). MemberDoes (InsertsIn value) (get_or old chunk None) (Err why) o)
+    (sym (ap (λ (xs : List (Option ChunkMember)). get_or xs chunk None) h.2 ∙ set_here old chunk h.0 some)) h.1
+inserted_here value chunk old new why some (inr h) = absurd (somebody (get_or old chunk None) some h.1)
+
+not_both : (answer : Result (Unit {0}) Refusal) → is_err answer ≡ true → answer ≡ Ok tt → ⊥
+not_both (Ok x) err ok = cc
+not_both (Err why) err ok = cc
+
+-- a collect is refused only if the caller owns no shard there
+pub collect_refused : (value : List ℕ) (chunk : ℕ) (old mid : List (Option ChunkMember))
+    (answer : Result (Unit {0}) Refusal) → is_err answer ≡ true → CollectsInChunk chunk old answer mid
+    → (shard : ℕ) → OwnsThere shard (get_or old chunk None) → RefusedIn value chunk shard old mid
+collect_refused value chunk old mid answer err collects shard owns =
+    absurd (not_both answer err (collected_here chunk shard old mid answer owns collects).1)
+
+-- a collect, and then an insert that finds no room: the shard that the caller owns there is refused
+pub collected_full : (value : List ℕ) (chunk : ℕ) (old mid new : List (Option ChunkMember))
+    (answer : Result (Unit {0}) Refusal) (tried : Result (Option ℕ) Refusal) → CollectsInChunk chunk old answer mid
+    → OnNone tried (InsertRefused value chunk mid new)
+    → OnNone tried ((shard : ℕ) → OwnsThere shard (get_or old chunk None) → RefusedIn value chunk shard old new)
+collected_full value chunk old mid new answer (Ok None) collects refused = λ shard owns.
+    let here = collected_here chunk shard old mid answer owns collects in
+    place_full value shard (get_or old chunk None) (get_or mid chunk None) (get_or new chunk None) answer refused.0
+    refused.1 owns here.0
+    (inserted_here value chunk mid new refused.0
+    (collected_there (get_or old chunk None) (get_or mid chunk None) answer here.0) refused.2)
+collected_full value chunk old mid new answer (Ok (Some key)) collects refused = tt
+collected_full value chunk old mid new answer (Err why) collects refused = tt
 
 -- ---- a move in one place
 

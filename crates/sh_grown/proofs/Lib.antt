@@ -1,4 +1,5 @@
 pub mod CallSteps
+pub mod ChunkWalks
 pub mod Claims
 pub mod Full
 pub mod Heeding

@@ -44,7 +44,7 @@ chunk_does does growing number n chunk old met new place after d answer is lt me
     }
 
 -- a number that names a place of a heap is a key of its layout
-is_key : (layout : Layout) (n : Numbers) (k : ℕ) (x : KeyRef) (o : Option Parts) → unpacked layout k ≡ o
+pub is_key : (layout : Layout) (n : Numbers) (k : ℕ) (x : KeyRef) (o : Option Parts) → unpacked layout k ≡ o
     → place_named (plan_of layout n) k ≡ Some x → IsSome o
 is_key layout n k x None is named = absurd (let e = sym (no_key layout n k is) ∙ named in cc)
 is_key layout n k x (Some p) is named = search rules

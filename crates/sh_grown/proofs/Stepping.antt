@@ -50,6 +50,10 @@ two_inserts_more i c = omega arith
 pub inserts_again : (i c : ℕ) → (i + i) + (c + i) ≤ 3 * i + c
 inserts_again i c = omega arith
 
+-- what is done for a shard in a walk that does not collect
+pub uncollected : (m c i : ℕ) → m + i ≤ m + (c + i)
+uncollected m c i = omega arith
+
 pub walks_twice : (a w : ℕ) → a + w + w ≤ a + 2 * w
 walks_twice a w = omega arith
 

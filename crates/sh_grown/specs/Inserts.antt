@@ -1,5 +1,5 @@
 -- What an insert of a caller does over the chunks: the member of one chunk stores the value, or it is refused by each.
-use Rattle.std.specs.Prelude.{◌≡◌, ℕ, ◌<◌, ◌⊎◌, List, Option, Some, None, Result, Ok, Err, IsSome, get_or, length}
+use Rattle.std.specs.Prelude.{◌≡◌, ◌≢◌, ℕ, ◌<◌, ◌⊎◌, List, Option, Some, None, Result, Ok, Err, IsSome, get_or, length}
 use Rattle.std.specs.Prelude.{slice_set}
 use Rattle.sh_chunk.specs.Chunks.{chunked, chunk_of, key_within}
 use Rattle.sh_value.specs.declared.refusal.Refusal.{Refusal}
@@ -27,6 +27,11 @@ InsertTakesInChunk value chunk old new =
     ((after : Option ChunkMember) × MemberTakes (InsertTakes (length value)) (get_or old chunk None) after
     × (new ≡ slice_set old chunk after))
     ⊎ ((get_or old chunk None ≡ None) × (new ≡ old))
+
+-- the insert of a caller in one chunk was refused, and not for want of memory
+abbrev pub InsertRefused : List ℕ → (chunk : ℕ) → List (Option ChunkMember) → List (Option ChunkMember) → Type 0
+InsertRefused value chunk old new = (why : Refusal) × (why ≢ refusal.Memory)
+    × InsertsInChunk value chunk old (Err why) new
 
 -- the collect of a caller in one chunk: its member there does it, or it has none there and owns no shard
 abbrev pub CollectsInChunk : (chunk : ℕ) → List (Option ChunkMember) → Result (Unit {0}) Refusal

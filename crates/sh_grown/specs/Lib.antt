@@ -11,5 +11,6 @@ pub mod Shares
 pub mod Sizes
 pub mod Steps
 pub mod Sums
+pub mod Walks
 pub mod Wholes
 pub use Rattle.sh_chunk.specs.Chunks

@@ -3,7 +3,8 @@ use Rattle.std.specs.Prelude.{◌≡◌, ℕ, ◌<◌, ◌≤◌, ◌⊎◌, Lis
 use Rattle.sh_value.specs.declared.refusal.Refusal.TheVariants as refusal
 use Rattle.sh_member.specs.Leaving.{Waiting}
 use Rattle.sh_member.specs.Pages.{AdoptRefused}
-use Rattle.sh_member.specs.Shards.{NoRoom, value_class}
+use Rattle.sh_member.specs.RemoteFrees.{CollectServes}
+use Rattle.sh_member.specs.Shards.{NoRoom, Sharded, value_class}
 use Rattle.sh_member.specs.declared.member.Side.TheVariants.{Pass, Shard, Moving}
 use Rattle.sh_member.specs.Sides.{SeenSide}
 use Rattle.sh_grown.specs.declared.chunk_member.ChunkMember.{ChunkMember}
@@ -33,15 +34,21 @@ WaitsThere (Some m) (Some n) = Waits m.member n.member
 WaitsThere (Some m) None = ⊥
 WaitsThere None n = ⊥
 
--- The member asked for the shard: it has an owner, or there is no such shard. Or the member owns it, and it has no room
--- for the value. Or the member has to keep another shard.
+-- the owner collected the shard, which then had no room for the value
+pub record HasNoRoom (value : List ℕ) (o n : Sharded) : Type 0 where
+  pub collected : Sharded
+  pub collects : CollectServes o collected
+  pub full : NoRoom (value_class value) collected n
+
+-- The member asked for the shard: it has an owner, or there is no such shard. Or the member owns it, and after a collect
+-- it has no room for the value. Or the member has to keep another shard.
 abbrev pub RefusesShard : List ℕ → (shard : ℕ) → SeenSide → SeenSide → Type 0
 RefusesShard value shard (Pass v) (Pass w) =
     AdoptRefused shard v w refusal.Taken ⊎ AdoptRefused shard v w refusal.NoShard
 RefusesShard value shard (Pass v) (Shard n) = ⊥
 RefusesShard value shard (Pass v) Moving = ⊥
 RefusesShard value shard (Shard o) (Shard n) =
-    ((o.pages.shard ≡ shard) × NoRoom (value_class value) o n) ⊎ Waiting o.pages n.pages
+    ((o.pages.shard ≡ shard) × HasNoRoom value o n) ⊎ Waiting o.pages n.pages
 RefusesShard value shard (Shard o) (Pass w) = ⊥
 RefusesShard value shard (Shard o) Moving = ⊥
 RefusesShard value shard Moving n = ⊥

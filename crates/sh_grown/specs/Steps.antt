@@ -46,9 +46,9 @@ adopt_most shards pages = adopt_steps pages
 abbrev pub move_most : (shards pages : ℕ) → ℕ
 move_most shards pages = leave_steps pages + adopt_steps pages
 
--- a leave, an adoption and an insert: what is done for a shard in a walk
+-- a leave, an adoption, a collect and an insert: what is done for a shard in a walk
 abbrev pub shard_most : (words shards pages : ℕ) → ℕ
-shard_most words shards pages = leave_steps pages + adopt_steps pages + insert_steps pages words
+shard_most words shards pages = move_most shards pages + again_most words shards pages
 
 -- the same for this many shards, and for each shard of the chunk
 abbrev pub range_most : (words count shards pages : ℕ) → ℕ
@@ -61,8 +61,8 @@ walk_most words shards pages = shards * shard_most words shards pages
 abbrev pub open_most : (words shards pages : ℕ) → ℕ
 open_most words shards pages = own_most words shards pages + walk_most words shards pages
 
--- An insert over all chunks: three inserts and a collect. Besides, two leaves, two adoptions and two inserts for each
--- shard.
+-- An insert over all chunks: three inserts and a collect. Besides, two leaves, two adoptions, two collects and two
+-- inserts for each shard.
 abbrev pub chunk_most : (words shards pages : ℕ) → ℕ
 chunk_most words shards pages =
     3 * insert_steps pages words + collect_steps pages + 2 * (shards * shard_most words shards pages)

@@ -27,9 +27,9 @@ pub struct Caller {
     pub(crate) number: usize,
     // The chunk in which its last insert found room: the next one looks there first.
     pub(crate) front: u8,
-    // The chunk in which its last walk over shards found room, and the shard there behind the one that had it: the next
-    // walk begins there.
-    pub(crate) walked: u8,
+    // The chunk in which its last walk over shards found room, if any, and the shard there behind the one that had it:
+    // the next walk begins there.
+    pub(crate) walked: Option<u8>,
     pub(crate) next: usize,
     // Its member in each chunk that it has met.
     pub(crate) met: Vec<Option<ChunkMember>>,
@@ -65,7 +65,7 @@ impl GrowingShare {
     /// let growing = GrowingShare::open(alloc, 64, 256)?;
     /// let mut caller = growing.claim(alloc)?;
     /// let key = caller.insert(alloc, &Value::from(7))?;
-    /// let value = caller.fetch(key)?;
+    /// let value = caller.look(key)?;
     /// ```
     #[tactic(auto, using(crate::proofs::Claims::claimed_alike, crate::proofs::OfChunks::claims_of))]
     pub fn claim(&self, alloc: Global) -> Result<Caller, Refusal>
@@ -79,7 +79,7 @@ impl GrowingShare {
             growing,
             number,
             front: 0,
-            walked: 0,
+            walked: None,
             next: number,
             met,
         })

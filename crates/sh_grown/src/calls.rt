@@ -3,21 +3,24 @@
 ghost use Rattle.std.specs.Prelude.{◌≡◌, ◌<◌, IfOk, IsSome, MatchBool, None, get_or, length};
 ghost use Rattle.sh_chunk.specs.Chunks.{chunked, chunk_of, key_within};
 ghost use Rattle.sh_pass.specs.Passes.{ReadDoes, ReadIntoDoes, RemoveDoes, ReleaseDoes};
-ghost use Rattle.sh_member.specs.Readers.{FetchDoes, FetchIntoDoes, TakeIntoDoes};
+ghost use Rattle.sh_pass.specs.Fetching.{FetchDoes};
+ghost use Rattle.sh_pass.specs.Rooms.{FillsRoom};
+ghost use Rattle.sh_member.specs.Readers.{TakeIntoDoes};
 ghost use Rattle.sh_member.specs.Sides.{SideDoes};
 ghost use Rattle.sh_grown.specs.Callers.{GrownDoes, GetsIn, Stays};
 
 use crate::caller::Caller;
 use crate::chunk_member::{
-    fetch_at, fetch_into_at, get_at, get_guard_at, read_at, read_guard_at, read_into_at,
-    release_at, release_guard_at, remove_at, take_into_at,
+    get_at, get_guard_at, look_at, look_into_at, read_at, read_guard_at, read_into_at, release_at,
+    release_guard_at, remove_at, take_into_at,
 };
 use crate::guard::GrownGuard;
 use sh_chunk::Chunked;
+use sh_pass::Room;
 use sh_value::{Hold, Refusal, Value};
 
 // The number of the key's chunk.
-fn chunk_of(key: u64) -> usize
+pub(crate) fn chunk_of(key: u64) -> usize
     ensures is { result ≡ chunk_of key }
 {
     let (chunk, _) = Chunked::split(key);
@@ -142,7 +145,7 @@ impl Caller {
 
     /// The value of a key, by a look. Refused as the `look` of a reader is. It leaves the holds as they were.
     #[inline(never)]
-    pub fn fetch(&mut self, key: u64) -> Result<Value, Refusal>
+    pub fn look(&mut self, key: u64) -> Result<Value, Refusal>
         ensures does { GrownDoes (SideDoes chunked (FetchDoes chunked (key_within key)))
             self.old.growing self.old.number (chunk_of key) self.old.met.items result
             self.new.met.items }
@@ -150,21 +153,20 @@ impl Caller {
     {
         let chunk = chunk_of(key);
         self.meet(chunk)?;
-        fetch_at(&mut self.met[chunk], key)
+        look_at(&mut self.met[chunk], key)
     }
 
-    /// The same into a value of the caller's. A refusal leaves that value as it was.
+    /// The same into a room of the caller's, as a `Value`. A refusal leaves the room as it was.
     #[inline(never)]
-    pub fn fetch_into(&mut self, key: u64, value: &mut Value) -> Result<(), Refusal>
-        ensures does { GrownDoes (SideDoes chunked (λ v answer w. FetchIntoDoes chunked (key_within key) v value.old
-            answer value.new w))
-            self.old.growing self.old.number (chunk_of key) self.old.met.items result
-            self.new.met.items }
+    pub fn look_into<M: Room>(&mut self, key: u64, room: &mut M) -> Result<(), Refusal>
+        ensures does { FillsRoom M.takes (λ answer. GrownDoes (SideDoes chunked (FetchDoes chunked (key_within key)))
+            self.old.growing self.old.number (chunk_of key) self.old.met.items answer
+            self.new.met.items) room.old result room.new }
         ensures stays { Stays self.old self.new }
     {
         let chunk = chunk_of(key);
         self.meet(chunk)?;
-        fetch_into_at(&mut self.met[chunk], key, value)
+        look_into_at(&mut self.met[chunk], key, room)
     }
 
     /// The value of a key, which this call removes, into a value of the caller's. A value of more than `most` words

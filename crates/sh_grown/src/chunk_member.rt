@@ -4,7 +4,9 @@ ghost use Rattle.std.specs.Prelude.{MatchOption};
 ghost use Rattle.sh_value.specs.declared.refusal.Refusal.TheVariants.{Memory, Waiting};
 ghost use Rattle.sh_chunk.specs.Chunks.{chunked, chunk_of, key_within};
 ghost use Rattle.sh_pass.specs.Passes.{IsAtRest, ReadDoes, ReadIntoDoes, RemoveDoes, ReleaseDoes};
-ghost use Rattle.sh_member.specs.Readers.{FetchDoes, FetchIntoDoes, TakeIntoDoes};
+ghost use Rattle.sh_pass.specs.Fetching.{FetchDoes};
+ghost use Rattle.sh_pass.specs.Rooms.{FillsRoom};
+ghost use Rattle.sh_member.specs.Readers.{TakeIntoDoes};
 ghost use Rattle.sh_member.specs.Sides.{SideAdopts, SideDoes, SideCollects};
 ghost use Rattle.sh_member.specs.SideBounds.{AdoptTakes, InsertTakes};
 ghost use Rattle.sh_grown.specs.Callers.{IsPooled, MemberDoes, MemberTakes, GetsIn};
@@ -17,6 +19,7 @@ use crate::guard::GrownGuard;
 use once_cell::race::Note;
 use sh_chunk::{Chunked, chunked_keys_fit};
 use sh_member::Member;
+use sh_pass::Room;
 use sh_pass::pass::PassOn;
 use sh_pool::{PoolSlot, Share, Taken, give_pass};
 use sh_value::{Hold, Refusal, Value};
@@ -219,27 +222,27 @@ pub(crate) fn release_guard_at(
     }
 }
 
-pub(crate) fn fetch_at(place: &mut Option<ChunkMember>, key: u64) -> Result<Value, Refusal>
+pub(crate) fn look_at(place: &mut Option<ChunkMember>, key: u64) -> Result<Value, Refusal>
     requires { IsSome place.old }
     ensures { MemberDoes (SideDoes chunked (FetchDoes chunked (key_within key))) place.old result place.new }
 {
     match place {
-        Some(met) => met.member.fetch(within(key)),
+        Some(met) => met.member.look(within(key)),
         None => unreachable!(),
     }
 }
 
-pub(crate) fn fetch_into_at(
+pub(crate) fn look_into_at<M: Room>(
     place: &mut Option<ChunkMember>,
     key: u64,
-    value: &mut Value,
+    room: &mut M,
 ) -> Result<(), Refusal>
     requires { IsSome place.old }
-    ensures { MemberDoes (SideDoes chunked (λ v answer w. FetchIntoDoes chunked (key_within key) v value.old answer
-        value.new w)) place.old result place.new }
+    ensures { FillsRoom M.takes (λ answer. MemberDoes (SideDoes chunked (FetchDoes chunked (key_within key))) place.old
+        answer place.new) room.old result room.new }
 {
     match place {
-        Some(met) => met.member.fetch_into(within(key), value),
+        Some(met) => met.member.look_into(within(key), room),
         None => unreachable!(),
     }
 }

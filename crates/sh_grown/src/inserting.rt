@@ -1,11 +1,11 @@
 // How a caller inserts: over the chunks, and at last into a new one.
-ghost use Rattle.std.specs.Prelude.{◌≡◌, ◌≤◌, ◌-◌, ℕ, ◌⊎◌, IfErr, IfOk, IfSome, List, MatchResult, None, OnErr, OnOk};
+ghost use Rattle.std.specs.Prelude.{◌≡◌, ◌≤◌, ◌-◌, ℕ, ◌⊎◌, IfErr, IfOk, IfSome, List, MatchResult, None, OnErr, OnOk, true};
 ghost use Rattle.std.specs.Prelude.{get_or, length};
 ghost use Rattle.sh_value.specs.declared.refusal.Refusal.TheVariants.{Memory};
 ghost use Rattle.sh_chunk.specs.Chunks.{chunk_of};
 ghost use Rattle.sh_grown.specs.Callers.{Meets, Stays, WhyWithout};
 ghost use Rattle.sh_grown.specs.Inserts.{InsertsInChunk, InsertTakesInChunk, CollectsInChunk, Inserts, TriesInsert};
-ghost use Rattle.sh_grown.specs.Inserts.{HasMet, OnNone, unless_memory};
+ghost use Rattle.sh_grown.specs.Inserts.{HasMet, InsertRefused, OnNone, unless_memory};
 ghost use Rattle.sh_grown.specs.Keeping.{KeepsMembers};
 ghost use Rattle.sh_grown.specs.Refusals.{ChunkRefused, OwnsThere, RangeRefused, RefusedIn};
 ghost use Rattle.sh_grown.specs.Steps.{TakesEach, TakesIn, TakesInAll, again_most, chunk_most, collect_most};
@@ -32,18 +32,20 @@ impl Caller {
     ///
     /// It tries the chunk of its last insert, and then each chunk in which it owns a shard. Then it collects in the
     /// chunk of its last insert, and tries that again. Then it walks over shards, from behind the one in which its last
-    /// walk found room: round that chunk, and over each later one that is open. At last it walks over each chunk, from
-    /// the first one on, and opens a chunk that is not open yet: so a new chunk comes last. A walk leaves the shard
-    /// that the caller owns in a chunk.
+    /// walk found room: round that chunk, and over each later one that is open. Its first walk is over the newest chunk,
+    /// since the others are mostly full. At last it walks over each chunk, from the first one on, and collects in each
+    /// shard before it tries that. So values of another length may be stored where all others were removed. It opens a
+    /// chunk that is not open yet: so a new chunk comes last. A walk leaves the shard that the caller owns in a chunk.
     ///
     /// Refused as `Full` only if the heap may have no more chunks, and each shard was refused in this call. It had no
-    /// room, or a step met another owner, or another caller's free kept the caller in another shard. Refused as
+    /// room after a collect, or a step met another owner, or another caller's free kept the caller in another shard.
+    /// Refused as
     /// `Memory` if memory was refused to a shard, an adoption or a new chunk. `Taken` comes if the caller's pass is not
     /// in a chunk's pool, since it was given back there while it owned a shard. A refused insert adds nothing to the
     /// caller's logs, and leaves its holds as they were.
     ///
     /// In each chunk it takes at most the steps of three inserts and a collect there. For each shard of the chunk it
-    /// takes at most those of two leaves, two adoptions and two inserts besides.
+    /// takes at most those of two leaves, two adoptions, two collects and two inserts besides.
     #[tactic(auto, using(crate::proofs::Keeping::inserts_then))]
     pub fn insert(&mut self, alloc: Global, value: &Value) -> Result<u64, Refusal>
         ensures inserts { Inserts (length self.old.growing.cells.items) value.now self.old.met.items result
@@ -104,8 +106,7 @@ impl Caller {
     // none there, or if that has no room.
     fn try_in(&mut self, chunk: u8, value: &Value) -> Result<Option<u64>, Refusal>
         ensures tries { TriesInsert value.now self.old.met.items result self.new.met.items }
-        ensures refused { OnNone result ((shard : ℕ) → OwnsThere shard (get_or self.old.met.items chunk None)
-            → RefusedIn value.now chunk shard self.old.met.items self.new.met.items) }
+        ensures refused { OnNone result (InsertRefused value.now chunk self.old.met.items self.new.met.items) }
         ensures steps { TakesIn chunk (insert_most (length value.now)) self.old self.new }
         ensures stays { Stays self.old self.new }
     {
@@ -133,21 +134,24 @@ impl Caller {
         if own.is_some() {
             return Ok(own);
         }
-        self.try_collected(value)
+        self.try_collected(self.front, value)
     }
 
-    // The same in the chunk of its last insert, after a collect there.
+    // Stores a value in the shard that it owns in this chunk, after a collect there. `None` if it owns none there, or if
+    // that has no room.
     #[inline(never)]
     #[tactic(auto, using(crate::proofs::Keeping::tries_then))]
-    fn try_collected(&mut self, value: &Value) -> Result<Option<u64>, Refusal>
+    fn try_collected(&mut self, chunk: u8, value: &Value) -> Result<Option<u64>, Refusal>
         ensures tries { TriesInsert value.now self.old.met.items result self.new.met.items }
-        ensures steps { TakesEach (again_most (length value.now)) self.old self.new }
+        ensures refused { OnNone result ((shard : ℕ) → OwnsThere shard (get_or self.old.met.items chunk None)
+            → RefusedIn value.now chunk shard self.old.met.items self.new.met.items) }
+        ensures steps { TakesIn chunk (again_most (length value.now)) self.old self.new }
         ensures stays { Stays self.old self.new }
     {
-        if self.collect_in(self.front).is_err() {
+        if self.collect_in(chunk).is_err() {
             return Ok(None);
         }
-        self.try_in(self.front, value)
+        self.try_in(chunk, value)
     }
 
     // The same in the first chunk in which it owns a shard with room.
@@ -190,20 +194,20 @@ impl Caller {
         ensures steps { TakesEach (walk_most (length value.now)) self.old self.new }
         ensures stays { Stays self.old self.new }
     {
-        let walked = self.walked as usize;
-        for number in walked..self.growing.chunks_allowed() {
+        for number in self.first_chunk()..self.growing.chunks_allowed() {
             let chunk = number as u8;
             let Ok(()) = self.meet(chunk as usize) else {
                 return Ok(None);
             };
-            if let Some(found) = self.try_shards(alloc, chunk, value)? {
+            if let Some(found) = self.try_shards(alloc, chunk, value, false)? {
                 return Ok(Some(found));
             }
         }
         Ok(None)
     }
 
-    // Stores a value in the first chunk that has room for it. A chunk that is not open is opened.
+    // Stores a value in the first chunk that has room for it after a collect in its shards. A chunk that is not open is
+    // opened.
     #[cold]
     #[inline(never)]
     fn insert_in_any(&mut self, alloc: Global, value: &Value) -> Result<u64, Refusal>
@@ -215,34 +219,36 @@ impl Caller {
         for number in 0..self.growing.chunks_allowed() {
             let chunk = number as u8;
             self.meet_opened(alloc, chunk)?;
-            if let Some(key) = self.try_shards(alloc, chunk, value)? {
+            if let Some(key) = self.try_shards(alloc, chunk, value, true)? {
                 return Ok(key);
             }
         }
         Err(Refusal::Full)
     }
 
-    // Stores a value in the first shard of a chunk that it can own and that has room. Its next walk begins behind that
-    // shard.
+    // Stores a value in the first shard of a chunk that it can own and that has room, if `collects` after a collect in
+    // the shard. Its next walk begins behind that shard.
     #[tactic(auto, using(crate::proofs::Full::has_met_then))]
     fn try_shards(
         &mut self,
         alloc: Global,
         chunk: u8,
         value: &Value,
+        collects: bool,
     ) -> Result<Option<u64>, Refusal>
         requires { HasMet self.old.met.items chunk }
         ensures tries { TriesInsert value.now self.old.met.items result self.new.met.items }
-        ensures refused { OnNone result (ChunkRefused value.now chunk self.old.met.items self.new.met.items) }
+        ensures refused { collects ≡ true
+            → OnNone result (ChunkRefused value.now chunk self.old.met.items self.new.met.items) }
         ensures steps { TakesIn chunk (walk_most (length value.now)) self.old self.new }
         ensures stays { Stays self.old self.new }
     {
         let shards = self.shards_in(chunk);
         let first = self.first_shard(chunk, shards);
-        if let Some(found) = self.try_range(alloc, chunk, first, shards, value)? {
+        if let Some(found) = self.try_range(alloc, chunk, first, shards, value, collects)? {
             return Ok(Some(found));
         }
-        self.try_range(alloc, chunk, 0, first, value)
+        self.try_range(alloc, chunk, 0, first, value, collects)
     }
 
     // The same in the shards from this one on, below another.
@@ -253,17 +259,18 @@ impl Caller {
         from: usize,
         to: usize,
         value: &Value,
+        collects: bool,
     ) -> Result<Option<u64>, Refusal>
         requires { HasMet self.old.met.items chunk }
         ensures tries { TriesInsert value.now self.old.met.items result self.new.met.items }
-        ensures refused { OnNone result
+        ensures refused { collects ≡ true → OnNone result
             (RangeRefused value.now chunk from to self.old.met.items self.new.met.items) }
         ensures steps { TakesIn chunk (range_most (length value.now) (to - from)) self.old self.new }
         ensures stays { Stays self.old self.new }
     {
         for shard in from..to {
-            if let Some(found) = self.try_shard(alloc, chunk, shard, value)? {
-                self.walked = chunk;
+            if let Some(found) = self.try_shard(alloc, chunk, shard, value, collects)? {
+                self.walked = Some(chunk);
                 self.next = shard + 1;
                 return Ok(Some(found));
             }
@@ -278,15 +285,17 @@ impl Caller {
         chunk: u8,
         shard: usize,
         value: &Value,
+        collects: bool,
     ) -> Result<Option<u64>, Refusal>
         requires { HasMet self.old.met.items chunk }
         ensures tries { TriesInsert value.now self.old.met.items result self.new.met.items }
-        ensures refused { OnNone result
+        ensures refused { collects ≡ true → OnNone result
             (RefusedIn value.now chunk shard self.old.met.items self.new.met.items) }
         ensures steps { TakesIn chunk (shard_most (length value.now)) self.old self.new }
         ensures stays { Stays self.old self.new }
     {
         match self.move_in(alloc, chunk, shard) {
+            Ok(()) if collects => self.try_collected(chunk, value),
             Ok(()) => self.try_in(chunk, value),
             Err(why) => unless_memory(why),
         }
@@ -339,6 +348,14 @@ impl Caller {
         Ok(())
     }
 
+    // The chunk in which its walk begins: that of its last one, and for its first one the newest that is open.
+    fn first_chunk(&self) -> usize {
+        match self.walked {
+            Some(chunk) => chunk as usize,
+            None => self.growing.heap().chunks().saturating_sub(1),
+        }
+    }
+
     // How many shards a chunk has that it has met, and otherwise 0.
     fn shards_in(&self, chunk: u8) -> usize
         ensures { IfSome (get_or self.now.met.items chunk None) (λ met. result ≡ met.shards) }
@@ -357,7 +374,7 @@ impl Caller {
         if shards == 0 {
             return 0;
         }
-        if chunk == self.walked {
+        if self.walked == Some(chunk) {
             self.next % shards
         } else {
             self.number % shards

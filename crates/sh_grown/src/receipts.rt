@@ -87,7 +87,7 @@ impl Caller {
     /// let key = caller.insert(alloc, &value)?;
     /// let receipt = caller.receipt();            // both are sent to another thread
     /// other.heed(receipt)?;
-    /// let value = other.fetch(key)?;             // Gone only if the key was removed
+    /// let value = other.look(key)?;              // Gone only if the key was removed
     /// ```
     pub fn receipt(&mut self) -> GrownReceipt
         ensures covers { CoversEach (length self.old.growing.cells.items) self.old.met.items result.chunks.items }

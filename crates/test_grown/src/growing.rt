@@ -35,7 +35,7 @@ fn stored(rt: &impl Abort, alloc: Global, caller: &mut Caller, from: u64, count:
 fn has_all(rt: &impl Abort, caller: &mut Caller, keys: &[u64], from: u64) {
     let mut wanted = from;
     for key in keys {
-        agree(rt, caller.fetch(*key), Ok(Value::from(wanted)));
+        agree(rt, caller.look(*key), Ok(Value::from(wanted)));
         wanted = wanted.wrapping_add(1);
     }
 }
@@ -51,7 +51,7 @@ fn values_of_several_chunks_are_found(rt: HostRuntime) {
     has_all(&rt, &mut other, &keys, 0);
     for key in keys.iter().step_by(3) {
         agree(&rt, other.remove(*key), Ok(()));
-        agree(&rt, caller.fetch(*key), Err(Refusal::Gone));
+        agree(&rt, caller.look(*key), Err(Refusal::Gone));
     }
     // What the other removed is used again before a chunk is opened.
     let more = stored(&rt, rt.alloc(), &mut caller, 5000, 1000);
@@ -68,21 +68,9 @@ fn a_key_has_the_number_of_its_chunk(rt: HostRuntime) {
     agree(&rt, keys.get(767).map(|key| *key >> 56), Some(0));
     agree(&rt, keys.get(768).map(|key| *key >> 56), Some(1));
     // No chunk of the heap has this number, chunk 2 is not open, and page 16 is in no shard of chunk 1.
-    agree(
-        &rt,
-        caller.fetch(3 << 56 | 16_777_216),
-        Err(Refusal::BadKey),
-    );
-    agree(
-        &rt,
-        caller.fetch(2 << 56 | 16_777_216),
-        Err(Refusal::BadKey),
-    );
-    agree(
-        &rt,
-        caller.fetch(1 << 56 | 16_778_240),
-        Err(Refusal::BadKey),
-    );
+    agree(&rt, caller.look(3 << 56 | 16_777_216), Err(Refusal::BadKey));
+    agree(&rt, caller.look(2 << 56 | 16_777_216), Err(Refusal::BadKey));
+    agree(&rt, caller.look(1 << 56 | 16_778_240), Err(Refusal::BadKey));
 }
 
 #[test]
@@ -145,15 +133,15 @@ fn holds_count_in_each_chunk(rt: HostRuntime) {
         agree(&rt, other.get(*high).map(|hold| hold.key), Ok(*high));
     }
     agree(&rt, other.get(*high), Err(Refusal::HoldsFull));
-    // A fetch needs no room for a hold, except of a key that was not issued, such as the next one of the slot.
-    agree(&rt, other.fetch(*low), Ok(Value::from(0)));
-    agree(&rt, other.fetch(*high), Ok(Value::from(FIRST)));
+    // A look needs no room for a hold, except of a key that was not issued, such as the next one of the slot.
+    agree(&rt, other.look(*low), Ok(Value::from(0)));
+    agree(&rt, other.look(*high), Ok(Value::from(FIRST)));
     let next = high.wrapping_add(16_777_216);
-    agree(&rt, other.fetch(next), Err(Refusal::HoldsFull));
-    agree(&rt, caller.fetch(next), Err(Refusal::Gone));
+    agree(&rt, other.look(next), Err(Refusal::HoldsFull));
+    agree(&rt, caller.look(next), Err(Refusal::Gone));
     let hold = sh_value::Hold { key: *high };
     agree(&rt, caller.remove(*high), Ok(()));
-    agree(&rt, other.fetch(*high), Err(Refusal::Gone));
+    agree(&rt, other.look(*high), Err(Refusal::Gone));
     agree(&rt, other.read(hold), Ok(Value::from(FIRST)));
     agree(&rt, caller.read(hold), Err(Refusal::NotHeld));
     for _ in 0..16 {

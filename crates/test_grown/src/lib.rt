@@ -1,6 +1,7 @@
 //! Tests of growing heaps: the shapes of chunks, many values over several chunks, and full heaps. Others are of the
 //! order in which an insert tries shards, of its steps, of refused memory, and of threads that open one chunk. The rest
-//! are of receipts, of holds of a pass that is claimed again, of shards that are left, and of sizes.
+//! are of receipts, of holds of a pass that is claimed again, and of shards that are left. They are of sizes, of lengths
+//! that change, and of walks over live keys.
 #![tactic(auto)]
 
 #[cfg(test)]
@@ -11,6 +12,10 @@ mod growing;
 mod holds;
 #[cfg(test)]
 mod leaving;
+#[cfg(test)]
+mod lengths;
+#[cfg(test)]
+mod live_keys;
 #[cfg(test)]
 mod memory;
 #[cfg(test)]

@@ -71,7 +71,7 @@ fn refused_memory_opens_nothing(rt: HostRuntime) {
     opened_ahead_with_memory(&rt, rt.alloc(), growing.heap());
     for n in 0..THREE {
         let key = inserted_with_memory(&rt, rt.alloc(), &mut caller, n);
-        agree(&rt, caller.fetch(key), Ok(Value::from(n)));
+        agree(&rt, caller.look(key), Ok(Value::from(n)));
     }
     agree(&rt, growing.heap().chunks(), 3);
     is_full(&rt, rt.alloc(), &mut caller);

@@ -38,10 +38,10 @@ fn a_key_of_a_chunk_that_was_not_met_is_found(rt: HostRuntime) {
         .expect(&rt, "a key");
     agree(&rt, key >> 56, 1);
     sends_receipt(&rt, &mut third, &mut one);
-    agree(&rt, one.fetch(key), Ok(Value::from(9)));
+    agree(&rt, one.look(key), Ok(Value::from(9)));
     agree(&rt, one.remove(key), Ok(()));
     sends_receipt(&rt, &mut one, &mut third);
-    agree(&rt, third.fetch(key), Err(Refusal::Gone));
+    agree(&rt, third.look(key), Err(Refusal::Gone));
 }
 
 // A caller hears of the third one's value by the second one, whose receipt covers what that heard.

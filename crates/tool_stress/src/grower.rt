@@ -50,12 +50,12 @@ impl<H: Home + Send> User for Grower<H> {
     }
 
     fn look(&mut self, key: u64) -> Result<Value, Refusal> {
-        self.caller.fetch(key)
+        self.caller.look(key)
     }
 
     fn with(&mut self, key: u64) -> Result<Value, Refusal> {
         let mut value = Value::empty();
-        self.caller.fetch_into(key, &mut value)?;
+        self.caller.look_into(key, &mut value)?;
         Ok(value)
     }
 

@@ -1,4 +1,4 @@
-use Rattle.std.proofs.Common.{ℕ, ◌+◌, None, arith, get_or, length, refl}
+use Rattle.std.proofs.Common.{◌≡◌, ℕ, ◌+◌, None, arith, get_or, length, refl, true}
 use Rattle.sh_grown.specs.Inserts.{EndsWithInsert}
 use Rattle.sh_grown.specs.Keeping.{KeepsMembers}
 use Rattle.sh_grown.specs.Refusals.{ChunkRefused}
@@ -29,13 +29,14 @@ loop-number-preserved c =
     let number = c.loop-number.number in
     let meets = c.meet_opened.ensures.keeps in
     let tried : KeepsMembers met new = rw c.in_default.is at (c.in_ok-key.ensures.tries) in
-    let here : ChunkRefused value number met new = rw c.in_default.is at (c.in_ok-key.ensures.refused) in
+    let here : true ≡ true → ChunkRefused value number met new =
+    rw c.in_default.is at (c.in_ok-key.ensures.refused) in
     record {
       stays = stays_then c.args.self.now c.loop-number.self c.try_shards.new.self i.stays
           (stays_then c.loop-number.self c.meet_opened.new.self c.try_shards.new.self c.meet_opened.ensures.stays
           c.try_shards.ensures.stays);
       keeps = keeps_then old mid new i.keeps (keeps_then mid met new meets tried);
-      each = chunks_more value number old mid met new i.each i.keeps meets tried here;
+      each = chunks_more value number old mid met new i.each i.keeps meets tried (here refl);
       steps =
           let was = c.args.self.now in
           let before = c.loop-number.self in

@@ -1,6 +1,5 @@
-use Rattle.std.proofs.Common.{ℕ, None, get_or}
-use Rattle.sh_grown.specs.Refusals.{OwnsThere, RefusedIn}
-use Rattle.sh_grown.proofs.Full.{chunk_full, refused_none, refused_try}
+use Rattle.sh_grown.specs.Inserts.{InsertRefused}
+use Rattle.sh_grown.proofs.Full.{insert_refused, refused_none, refused_try}
 use Rattle.sh_grown.proofs.caller.Caller.try_in.Goals as goal
 
 pub returns-in-Err-clause-tries : goal.returns-in-Err-clause-tries
@@ -12,11 +11,9 @@ pub returns-in-Err-clause-refused : goal.returns-in-Err-clause-refused
 returns-in-Err-clause-refused c =
     let old = c.args.self.now.met.items in
     let new = c.insert_in.new.self.met.items in
-    refused_none
-    ((shard : ℕ) → OwnsThere shard (get_or old c.args.chunk None)
-    → RefusedIn c.args.value.now c.args.chunk shard old new) c.in-Err.why c.unless_memory.result
+    refused_none (InsertRefused c.args.value.now c.args.chunk old new) c.in-Err.why c.unless_memory.result
     c.unless_memory.ensures
-    (chunk_full c.args.value.now c.args.chunk old new c.in-Err.why c.in-Err.ensures.inserts)
+    (insert_refused c.args.value.now c.args.chunk old new c.in-Err.why c.in-Err.ensures.inserts)
 
 pub returns-in-Ok-clause-steps : goal.returns-in-Ok-clause-steps
 returns-in-Ok-clause-steps c = c.insert_in.ensures.steps

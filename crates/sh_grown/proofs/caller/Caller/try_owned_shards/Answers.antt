@@ -50,4 +50,6 @@ returns-clause-steps c =
     c.try_in.ensures.steps) c.try_own.ensures.steps in
     each_then twice (again_most words) (own_most words) old own c.try_collected.new.self
     (λ s z. inserts_again (insert_most words s z) (collect_most s z))
-    (stays_then old mid own c.try_in.ensures.stays c.try_own.ensures.stays) both c.try_collected.ensures.steps
+    (stays_then old mid own c.try_in.ensures.stays c.try_own.ensures.stays) both
+    (one_each own.front (again_most words) (again_most words) own c.try_collected.new.self
+    (λ s z. as_many (again_most words s z)) c.try_collected.ensures.steps)

@@ -1,4 +1,4 @@
-use Rattle.std.proofs.Common.{◌+◌, ◌-◌, ◌≤◌, None, arith, get_or, length, refl}
+use Rattle.std.proofs.Common.{◌≡◌, ◌+◌, ◌-◌, ◌≤◌, None, arith, get_or, length, refl, true}
 use Rattle.sh_grown.specs.Keeping.{KeepsMembers}
 use Rattle.sh_grown.specs.Refusals.{RefusedIn}
 use Rattle.sh_grown.specs.Steps.{range_most, shard_most}
@@ -19,7 +19,7 @@ loop-shard-init c =
       few = omega arith;
       steps = one_none was.growing was.number c.args.chunk
           (range_most (length c.args.value.now) (c.args.from - c.args.from)) items;
-      refused = range_none c.args.value.now c.args.chunk c.args.from items;
+      refused = λ collects. range_none c.args.value.now c.args.chunk c.args.from items;
     }
 
 pub loop-shard-preserved : goal.loop-shard-preserved
@@ -30,7 +30,7 @@ loop-shard-preserved c =
     let mid = c.loop-shard.self.met.items in
     let new = c.try_shard.new.self.met.items in
     let tried : KeepsMembers mid new = rw c.in_default.is at (c.in_ok-found.ensures.tries) in
-    let here : RefusedIn c.args.value.now c.args.chunk c.loop-shard.shard mid new =
+    let here : c.args.collects ≡ true → RefusedIn c.args.value.now c.args.chunk c.loop-shard.shard mid new =
     rw c.in_default.is at (c.in_ok-found.ensures.refused) in
     record {
       stays = stays_then c.args.self.now c.loop-shard.self c.try_shard.new.self i.stays c.try_shard.ensures.stays;
@@ -47,14 +47,14 @@ loop-shard-preserved c =
           c.try_shard.new.self
           (λ s z. range_room (c.loop-shard.shard - c.args.from) ((c.loop-shard.shard + 1) - c.args.from)
           (shard_most words s z) tried_most) i.stays i.steps c.try_shard.ensures.steps;
-      refused = range_more c.args.value.now c.args.chunk c.args.from c.loop-shard.shard old mid new i.refused i.keeps
-          tried here;
+      refused = λ collects. range_more c.args.value.now c.args.chunk c.args.from c.loop-shard.shard old mid new
+          (i.refused collects) i.keeps tried (here collects);
     }
 
 pub returns-clause-refused : goal.returns-clause-refused
 returns-clause-refused c =
     let past = c.loop-shard-test.false in
-    λ shard low less. c.loop-shard.invariant.refused shard low (omega (arith, past, less))
+    λ collects shard low less. c.loop-shard.invariant.refused collects shard low (omega (arith, past, less))
 
 -- one shard more, which ended the walk
 pub returns-in_err-found-clause-steps : goal.returns-in_err-found-clause-steps

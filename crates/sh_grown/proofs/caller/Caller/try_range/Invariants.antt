@@ -1,4 +1,4 @@
-use Rattle.std.proofs.Common.{◌-◌, ◌≤◌, length}
+use Rattle.std.proofs.Common.{◌≡◌, ◌-◌, ◌≤◌, length, true}
 use Rattle.sh_grown.specs.Callers.{Stays}
 use Rattle.sh_grown.specs.Inserts.{HasMet}
 use Rattle.sh_grown.specs.Keeping.{KeepsMembers}
@@ -14,5 +14,6 @@ invariant-loop-shard l = record {
   low : l.fn.from ≤ l.shard;
   few : l.shard - l.fn.from ≤ l.fn.to - l.fn.from;
   steps : TakesIn l.chunk (range_most (length l.value) (l.shard - l.fn.from)) l.initial.self l.self;
-  refused : RangeRefused l.value l.chunk l.fn.from l.shard l.initial.self.met.items l.self.met.items;
+  refused : l.fn.collects ≡ true
+      → RangeRefused l.value l.chunk l.fn.from l.shard l.initial.self.met.items l.self.met.items;
 }

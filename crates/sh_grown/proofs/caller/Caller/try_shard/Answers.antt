@@ -1,20 +1,49 @@
 use Rattle.std.proofs.Common.{◌+◌, length}
 use Rattle.sh_grown.specs.Refusals.{RefusedIn}
-use Rattle.sh_grown.specs.Steps.{insert_most, move_most, shard_most}
+use Rattle.sh_grown.specs.Steps.{again_most, collect_most, insert_most, move_most, shard_most}
 use Rattle.sh_grown.proofs.Full.{owner_refused, refused_none, refused_of, refused_try}
 use Rattle.sh_grown.proofs.Keeping.{tries_then}
-use Rattle.sh_grown.proofs.Stepping.{as_many, one_within, one_then, part_of}
+use Rattle.sh_grown.proofs.Stepping.{as_many, one_within, one_then, part_of, uncollected}
 use Rattle.sh_grown.proofs.caller.Caller.try_shard.Goals as goal
+
+-- ---- with a collect
 
 pub returns-in-Ok-clause-tries : goal.returns-in-Ok-clause-tries
 returns-in-Ok-clause-tries c =
+    tries_then c.args.value.now c.args.self.now.met.items c.move_in.new.self.met.items
+    c.try_collected.new.self.met.items c.try_collected.result c.move_in.ensures.keeps c.try_collected.ensures.tries
+
+pub returns-in-Ok-clause-refused : goal.returns-in-Ok-clause-refused
+returns-in-Ok-clause-refused c collects =
+    owner_refused c.args.value.now c.args.chunk c.args.shard c.args.self.now.met.items c.move_in.new.self.met.items
+    c.try_collected.new.self.met.items c.try_collected.result c.move_in.ensures.keeps c.in-Ok.ensures.owns
+    c.try_collected.ensures.refused
+
+pub returns-in-Ok-clause-steps : goal.returns-in-Ok-clause-steps
+returns-in-Ok-clause-steps c =
+    let words = length c.args.value.now in
+    one_then c.args.chunk move_most (again_most words) (shard_most words) c.args.self.now c.move_in.new.self
+    c.try_collected.new.self (λ s z. as_many (move_most s z + again_most words s z)) c.move_in.ensures.stays
+    c.move_in.ensures.steps c.try_collected.ensures.steps
+
+-- ---- with no collect
+
+pub returns-in-Ok-2-clause-tries : goal.returns-in-Ok-2-clause-tries
+returns-in-Ok-2-clause-tries c =
     tries_then c.args.value.now c.args.self.now.met.items c.move_in.new.self.met.items c.try_in.new.self.met.items
     c.try_in.result c.move_in.ensures.keeps c.try_in.ensures.tries
 
-pub returns-in-Ok-clause-refused : goal.returns-in-Ok-clause-refused
-returns-in-Ok-clause-refused c =
-    owner_refused c.args.value.now c.args.chunk c.args.shard c.args.self.now.met.items c.move_in.new.self.met.items
-    c.try_in.new.self.met.items c.try_in.result c.move_in.ensures.keeps c.in-Ok.ensures.owns c.try_in.ensures.refused
+pub returns-in-Ok-2-clause-refused : goal.returns-in-Ok-2-clause-refused
+returns-in-Ok-2-clause-refused c collects = absurd (cc)
+
+pub returns-in-Ok-2-clause-steps : goal.returns-in-Ok-2-clause-steps
+returns-in-Ok-2-clause-steps c =
+    let words = length c.args.value.now in
+    one_then c.args.chunk move_most (insert_most words) (shard_most words) c.args.self.now c.move_in.new.self
+    c.try_in.new.self (λ s z. uncollected (move_most s z) (collect_most s z) (insert_most words s z))
+    c.move_in.ensures.stays c.move_in.ensures.steps c.try_in.ensures.steps
+
+-- ---- refused
 
 pub returns-in-Err-clause-tries : goal.returns-in-Err-clause-tries
 returns-in-Err-clause-tries c =
@@ -22,22 +51,15 @@ returns-in-Err-clause-tries c =
     c.unless_memory.result c.unless_memory.ensures c.move_in.ensures.keeps
 
 pub returns-in-Err-clause-refused : goal.returns-in-Err-clause-refused
-returns-in-Err-clause-refused c =
+returns-in-Err-clause-refused c collects =
     refused_none
     (RefusedIn c.args.value.now c.args.chunk c.args.shard c.args.self.now.met.items c.move_in.new.self.met.items)
     c.in-Err.why c.unless_memory.result c.unless_memory.ensures
     (refused_of c.args.value.now c.args.chunk c.args.shard c.args.self.now.met.items c.move_in.new.self.met.items
     c.in-Err.why c.in-Err.ensures.refused)
 
-pub returns-in-Ok-clause-steps : goal.returns-in-Ok-clause-steps
-returns-in-Ok-clause-steps c =
-    let words = length c.args.value.now in
-    one_then c.args.chunk move_most (insert_most words) (shard_most words) c.args.self.now c.move_in.new.self
-    c.try_in.new.self (λ s z. as_many (move_most s z + insert_most words s z)) c.move_in.ensures.stays
-    c.move_in.ensures.steps c.try_in.ensures.steps
-
 pub returns-in-Err-clause-steps : goal.returns-in-Err-clause-steps
 returns-in-Err-clause-steps c =
     let words = length c.args.value.now in
     one_within c.args.chunk move_most (shard_most words) c.args.self.now c.move_in.new.self
-    (λ s z. part_of (move_most s z) (insert_most words s z)) c.move_in.ensures.steps
+    (λ s z. part_of (move_most s z) (again_most words s z)) c.move_in.ensures.steps

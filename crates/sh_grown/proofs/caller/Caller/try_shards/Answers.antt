@@ -1,4 +1,4 @@
-use Rattle.std.proofs.Common.{◌≡◌, ◌+◌, ◌-◌, ◌≤◌, arith, length}
+use Rattle.std.proofs.Common.{◌≡◌, ◌+◌, ◌-◌, ◌≤◌, arith, length, true}
 use Rattle.sh_grown.specs.Keeping.{KeepsMembers}
 use Rattle.sh_grown.specs.Refusals.{RangeRefused}
 use Rattle.sh_grown.specs.Steps.{range_most, shard_most}
@@ -16,17 +16,18 @@ returns-clause-tries c =
     c.try_range-2.ensures.tries
 
 pub returns-clause-refused : goal.returns-clause-refused
-returns-clause-refused c =
+returns-clause-refused c collects =
     let value = c.args.value.now in
     let old = c.args.self.now.met.items in
     let mid = c.try_range.new.self.met.items in
     let first = c.first_shard-first.result in
     let shards = c.shards_in-shards.result in
     let kept : KeepsMembers old mid = rw c.in_default.is at (c.in_ok-found.ensures.tries) in
-    let behind : RangeRefused value c.args.chunk first shards old mid =
+    let behind : c.args.collects ≡ true → RangeRefused value c.args.chunk first shards old mid =
     rw c.in_default.is at (c.in_ok-found.ensures.refused) in
     both_tried value c.args.chunk first shards old mid c.try_range-2.new.self.met.items c.try_range-2.result c.requires
-    c.shards_in-shards.ensures kept c.try_range-2.ensures.tries behind c.try_range-2.ensures.refused
+    c.shards_in-shards.ensures kept c.try_range-2.ensures.tries (behind collects)
+    (c.try_range-2.ensures.refused collects)
 
 -- the walk ended in the first range
 pub returns-in_err-found-clause-steps : goal.returns-in_err-found-clause-steps
