@@ -1,11 +1,11 @@
--- A read into a value of the export's own is a read, whose result is in that value. So are a fetch and a take.
+-- A read into a value of the export's own is a read, whose result is in that value. So is a take.
 use Rattle.std.proofs.Common.{ℕ, List, Option, Some, None, Result, Ok, Err, get_or, inl, inr}
 use Rattle.std.specs.Prelude.{IsErrAnd}
 use Rattle.sh_key.specs.Layout.{Layout}
 use Rattle.sh_value.specs.declared.refusal.Refusal.{Refusal}
 use Rattle.c_handles.specs.Chunks.{chunked, chunk_of, key_within}
 use Rattle.sh_pass.specs.Passes.{Caller, ReadDoes, ReadIntoDoes}
-use Rattle.sh_member.specs.Readers.{FetchDoes, FetchIntoDoes, TakeFitsDoes, TakeIntoDoes}
+use Rattle.sh_member.specs.Readers.{TakeFitsDoes, TakeIntoDoes}
 use Rattle.c_handles.specs.Sides.{SeenSide, SideDoes}
 use Rattle.c_handles.specs.Side.TheVariants.{Pass, Shard, Moving}
 use Rattle.c_handles.specs.Growing.{Growing}
@@ -14,7 +14,7 @@ use Rattle.c_handles.specs.Callers.{GrownDoes, MemberDoes, WhyUnmet}
 use Rattle.c_handles.specs.declared.held_pass.HeldPass.{HeldPass}
 use Rattle.c_handles.specs.declared.held_pass.HeldPass.TheVariants as held
 use Rattle.c_handles.specs.Members.{AnyDoes, layout_of, side_of}
-use Rattle.c_handles.specs.HeldPasses.{FillsByKey, HeldFetches, HeldReads, HeldTakes}
+use Rattle.c_handles.specs.HeldPasses.{FillsByKey, HeldReads, HeldTakes}
 
 -- the result of a read, by the value that was read into
 abbrev pub read_in : List ℕ → Result (Unit {0}) Refusal → Result (List ℕ) Refusal
@@ -104,11 +104,6 @@ read_fills : (key : ℕ) (before after : List ℕ) → Fills (ReadDoes key) afte
 read_fills key before after v w (Ok u) did = did
 read_fills key before after v w (Err why) did = did.0
 
-fetch_fills : (l : Layout) (key : ℕ) (before after : List ℕ) → Fills (FetchDoes l key) after
-    (λ v a w. FetchIntoDoes l key v before a after w)
-fetch_fills l key before after v w (Ok u) did = did
-fetch_fills l key before after v w (Err why) did = did.0
-
 take_fills : (l : Layout) (key most : ℕ) (after : List ℕ) → Fills (TakeFitsDoes l key most) after
     (λ v a w. TakeIntoDoes l key most v a after w)
 take_fills l key most after v w (Ok u) did = did
@@ -123,17 +118,6 @@ reads_into key before after a v w =
     (λ x r y. ReadIntoDoes (key_within key) x before r after y) key after
     (λ m n r. any_fills (λ l. ReadDoes key) (λ l x r y. ReadIntoDoes key x before r after y) after
     (λ l. read_fills key before after) r m n) (read_fills (key_within key) before after) a v w
-
-pub fetches_into : (key : ℕ) (before after : List ℕ) (a : Result (Unit {0}) Refusal) (v w : HeldPass)
-    → FillsByKey (AnyDoes (λ l. SideDoes l (λ x r y. FetchIntoDoes l key x before r after y)))
-    (λ x r y. FetchIntoDoes chunked (key_within key) x before r after y) key v a w
-    → HeldFetches key v (read_in after a) w
-fetches_into key before after a v w =
-    by_key (AnyDoes (λ l. SideDoes l (FetchDoes l key)))
-    (AnyDoes (λ l. SideDoes l (λ x r y. FetchIntoDoes l key x before r after y))) (FetchDoes chunked (key_within key))
-    (λ x r y. FetchIntoDoes chunked (key_within key) x before r after y) key after
-    (λ m n r. any_fills (λ l. FetchDoes l key) (λ l x r y. FetchIntoDoes l key x before r after y) after
-    (λ l. fetch_fills l key before after) r m n) (fetch_fills chunked (key_within key) before after) a v w
 
 pub takes_into : (key most : ℕ) (after : List ℕ) (a : Result (Unit {0}) Refusal) (v w : HeldPass)
     → FillsByKey (AnyDoes (λ l. SideDoes l (λ x r y. TakeIntoDoes l key most x r after y)))

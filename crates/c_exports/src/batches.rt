@@ -2,10 +2,9 @@
 ghost use Rattle.c_exports.specs.Batches.{LoadsEach, LoadsOne, LoadsTold};
 
 use crate::codes::{EMPTY, OK};
-use crate::values::write_words;
 use c_handles::{HeldPass, PassHandle};
 use sh_member::batches::BLOCK;
-use sh_value::{Value, WORDS_MAX};
+use sh_value::WORDS_MAX;
 use std::alloc::Global;
 
 /// A key to load, and what its load returned, as C has them.
@@ -29,14 +28,12 @@ fn warm_block(member: &HeldPass, loads: &[Loaded]) {
     }
 }
 
-// Loads a key by way of the value, and writes what the load returned.
-fn load_one(member: &mut HeldPass, value: &mut Value, load: &mut Loaded)
+// Loads a key, and writes what the load returned.
+fn load_one(member: &mut HeldPass, load: &mut Loaded)
     ensures { LoadsOne load.old member.old load.new member.new }
 {
-    let answer = member.fetch_into(load.key, value);
-    match answer {
-        Ok(()) => load.code = write_words(value, &mut load.words, &mut load.length),
-        Err(refusal) => load.code = refusal.number(),
+    if let Err(refusal) = member.look_into(load.key, load) {
+        load.code = refusal.number();
     }
 }
 
@@ -44,13 +41,11 @@ fn load_one(member: &mut HeldPass, value: &mut Value, load: &mut Loaded)
 fn load_all(member: &mut HeldPass, loads: &mut [Loaded])
     ensures { LoadsEach loads.old member.old loads.new member.new }
 {
-    // (It has one word, as most values have: reading a value of one word into it is one store.)
-    let mut value = Value::from(0);
     for at in 0..loads.len() {
         if at % BLOCK == 0 {
             warm_block(member, &loads[at..]);
         }
-        load_one(member, &mut value, &mut loads[at]);
+        load_one(member, &mut loads[at]);
     }
 }
 

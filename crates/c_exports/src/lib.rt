@@ -14,9 +14,11 @@ pub mod keys;
 pub mod opening;
 pub mod passes;
 pub mod receipts;
+mod rooms;
 pub mod sizes;
 pub mod tags;
 pub mod taking;
 #[cfg(test)]
 mod tests;
 pub mod values;
+pub mod walking;

@@ -29,7 +29,7 @@ pub extern "C" fn shardheap_raw_take_value(
     let mut value = Value::from(0);
     let answer = pass.held().take_into(key, words.len(), &mut value);
     match answer {
-        Ok(()) => write_words(&value, words, count),
+        Ok(()) => write_words(value.words(), words, count),
         Err(refusal) => refusal.number(),
     }
 }

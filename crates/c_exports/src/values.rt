@@ -23,11 +23,10 @@ fn copy_words(told: &[u64], words: &mut [u64])
 }
 
 // Writes the words of a value to the front of the room, and how many they are.
-pub(crate) fn write_words(value: &Value, words: &mut [u64], count: &mut u64) -> u32
-    ensures count { count.new ≡ length value.now }
-    ensures words { WordsTold value.now words.old result words.new }
+pub(crate) fn write_words(told: &[u64], words: &mut [u64], count: &mut u64) -> u32
+    ensures count { count.new ≡ length told.now }
+    ensures words { WordsTold told.now words.old result words.new }
 {
-    let told = value.words();
     *count = told.len() as u64;
     if told.len() > words.len() {
         return SHORT;
@@ -55,7 +54,7 @@ pub extern "C" fn shardheap_raw_read(
     let mut value = Value::from(0);
     let answer = pass.held().read_into(Hold { key }, &mut value);
     match answer {
-        Ok(()) => write_words(&value, words, count),
+        Ok(()) => write_words(value.words(), words, count),
         Err(refusal) => refusal.number(),
     }
 }
@@ -75,11 +74,9 @@ pub extern "C" fn shardheap_raw_load(
     if !pass.is_full() {
         return EMPTY;
     }
-    // (It has one word, as most values have: reading a value of one word into it is one store.)
     let mut value = Value::from(0);
-    let answer = pass.held().fetch_into(key, &mut value);
-    match answer {
-        Ok(()) => write_words(&value, words, count),
+    match pass.held().look_into(key, &mut value) {
+        Ok(()) => write_words(value.words(), words, count),
         Err(refusal) => refusal.number(),
     }
 }

@@ -1,12 +1,16 @@
 -- What a pass's handle holds: a pass of a heap of a fixed shape, or a caller of one that grows; and what its calls do.
-use Rattle.std.specs.Prelude.{◌≡◌, ℕ, ◌<◌, List, None, Result, Ok, Err, IfErr, OnOk, get_or, length}
+use Rattle.std.specs.Prelude.{◌≡◌, ℕ, ◌<◌, List, Option, None, Result, Ok, Err, IfErr, OnOk, get_or, length}
 use Rattle.sh_value.specs.declared.hold.Hold.{Hold}
 use Rattle.sh_value.specs.declared.refusal.Refusal.{Refusal}
 use Rattle.sh_value.specs.declared.refusal.Refusal.TheVariants as refusal
 use Rattle.sh_grown.specs.Chunks.{chunked, chunk_of, key_within}
 use Rattle.sh_pass.specs.Seats.{Heap}
 use Rattle.sh_pass.specs.Passes.{Caller, GetDoes, ReadDoes, RemoveDoes, ReleaseDoes}
-use Rattle.sh_member.specs.Readers.{FetchDoes, TakeFitsDoes}
+use Rattle.sh_pass.specs.Fetching.{FetchDoes}
+use Rattle.sh_member.specs.Readers.{TakeFitsDoes}
+use Rattle.sh_member.specs.Walks.{NextHeldDoes, NextLiveDoes}
+use Rattle.sh_member.specs.declared.walking.NextHeld.{NextHeld}
+use Rattle.sh_member.specs.declared.walking.NextLive.{NextLive}
 use Rattle.sh_member.specs.Sides.{SeenSide, SideDoes, SideInserts, SidePrepares, SideCollects, SideAdopts, SideLeaves}
 use Rattle.sh_member.specs.Sides.{IsPass, IsOfHeap, IsReceiptBy}
 use Rattle.sh_grown.specs.declared.caller.Caller.{Caller as SeenCaller}
@@ -15,6 +19,7 @@ use Rattle.sh_grown.specs.Inserts.{Inserts, OwnsNone}
 use Rattle.sh_grown.specs.Keeping.{KeepsMembers}
 use Rattle.sh_grown.specs.Leaving.{LeavesIdle}
 use Rattle.sh_grown.specs.Receipts.{AreReceiptsIn, CoversEach, Heeds}
+use Rattle.sh_grown.specs.Walks.{HeldIn, LiveIn, Walks, chunks_up_to}
 use Rattle.sh_grown.specs.declared.receipts.GrownReceipt.{GrownReceipt}
 use Rattle.c_handles.specs.declared.held_pass.HeldPass.{HeldPass}
 use Rattle.c_handles.specs.declared.held_pass.HeldPass.TheVariants as held
@@ -120,6 +125,27 @@ CallerLeavesIdle c answer d = LeavesIdle (length c.met.items) c.met.items answer
 
 abbrev pub HeldLeavesIdle : HeldPass → Result (Unit {0}) Refusal → HeldPass → Type 0
 HeldLeavesIdle = EitherDoes (AnyDoes (λ l. SideLeaves)) CallerLeavesIdle
+
+-- ---- walks
+
+-- a call that is never refused
+abbrev pub Unrefused : {A : Type 0} → (Caller → A → Caller → Type 0) → Caller → Result A Refusal → Caller → Type 0
+Unrefused does v (Ok answer) w = does v answer w
+Unrefused does v (Err why) w = ⊥
+
+-- a caller walks over the chunks of its heap, and does this in each
+abbrev pub CallerWalks : {X : Type 0} → (does : (chunk : ℕ) → Caller → Result (Option X) Refusal → Caller → Type 0)
+    → (from before : ℕ) → SeenCaller → Result (Option X) Refusal → SeenCaller → Type 0
+CallerWalks does from before c answer d = Walks does c.growing c.number (chunk_of from)
+    (chunks_up_to c.growing before) c.met.items answer d.met.items × Stays c d
+
+abbrev pub HeldNextLive : (from before : ℕ) → HeldPass → Result (Option NextLive) Refusal → HeldPass → Type 0
+HeldNextLive from before = EitherDoes (AnyDoes (λ l. SideDoes l (Unrefused (NextLiveDoes l from before))))
+    (CallerWalks (LiveIn from before) from before)
+
+abbrev pub HeldNextHeld : (from before : ℕ) → HeldPass → Result (Option NextHeld) Refusal → HeldPass → Type 0
+HeldNextHeld from before = EitherDoes (AnyDoes (λ l. SideDoes l (NextHeldDoes l from before)))
+    (CallerWalks (HeldIn from before) from before)
 
 -- ---- giving back
 

@@ -2,12 +2,13 @@
 // heap of a fixed shape saves no registers for them.)
 ghost use Rattle.sh_grown.specs.Chunks.{chunked, key_within};
 ghost use Rattle.sh_pass.specs.Passes.{ReadIntoDoes};
-ghost use Rattle.sh_member.specs.Readers.{FetchIntoDoes};
+ghost use Rattle.sh_pass.specs.Rooms.{FillsRoom};
 ghost use Rattle.sh_member.specs.Sides.{SideDoes};
 ghost use Rattle.c_handles.specs.Members.{AnyDoes};
 ghost use Rattle.c_handles.specs.HeldPasses.{FillsByKey, HeldFetches, HeldGets, HeldReads, HeldReleases, HeldRemoves};
 
 use crate::held_pass::HeldPass;
+use sh_pass::Room;
 use sh_value::{Hold, Refusal, Value};
 
 impl HeldPass {
@@ -52,30 +53,29 @@ impl HeldPass {
     }
 
     /// Returns the value of a key, by a look. Refused as the `look` of a reader is. The holds stay as they were.
-    pub fn fetch(&mut self, key: u64) -> Result<Value, Refusal>
+    pub fn look(&mut self, key: u64) -> Result<Value, Refusal>
         ensures { HeldFetches key self.old result self.new }
     {
         match self {
-            HeldPass::Wide(member, _) => member.fetch(key),
-            HeldPass::Tagged(member, _) => member.fetch(key),
-            HeldPass::Deep(member, _) => member.fetch(key),
-            HeldPass::Tiny(member, _) => member.fetch(key),
-            HeldPass::Growing(caller) => caller.fetch(key),
+            HeldPass::Wide(member, _) => member.look(key),
+            HeldPass::Tagged(member, _) => member.look(key),
+            HeldPass::Deep(member, _) => member.look(key),
+            HeldPass::Tiny(member, _) => member.look(key),
+            HeldPass::Growing(caller) => caller.look(key),
         }
     }
 
-    /// The same into a value of the caller's, which is as it was if the call is refused.
+    /// The same into a room of the caller's, which is as it was if the call is refused.
     #[inline(always)]
-    pub fn fetch_into(&mut self, key: u64, value: &mut Value) -> Result<(), Refusal>
-        ensures { FillsByKey (AnyDoes (λ l. SideDoes l (λ v a w. FetchIntoDoes l key v value.old a value.new w)))
-            (λ v a w. FetchIntoDoes chunked (key_within key) v value.old a value.new w) key self.old result self.new }
+    pub fn look_into<M: Room>(&mut self, key: u64, room: &mut M) -> Result<(), Refusal>
+        ensures { FillsRoom M.takes (λ answer. HeldFetches key self.old answer self.new) room.old result room.new }
     {
         match self {
-            HeldPass::Wide(member, _) => member.fetch_into(key, value),
-            HeldPass::Tagged(member, _) => member.fetch_into(key, value),
-            HeldPass::Deep(member, _) => member.fetch_into(key, value),
-            HeldPass::Tiny(member, _) => member.fetch_into(key, value),
-            HeldPass::Growing(caller) => caller.fetch_into(key, value),
+            HeldPass::Wide(member, _) => member.look_into(key, room),
+            HeldPass::Tagged(member, _) => member.look_into(key, room),
+            HeldPass::Deep(member, _) => member.look_into(key, room),
+            HeldPass::Tiny(member, _) => member.look_into(key, room),
+            HeldPass::Growing(caller) => caller.look_into(key, room),
         }
     }
 

@@ -21,6 +21,7 @@ pub mod receipt_handle;
 pub mod receipts;
 mod sizes;
 mod taking;
+mod walking;
 mod warming;
 
 pub use heap::AnyHeap;

@@ -3,4 +3,4 @@
 pub use Rattle.sh_pass.specs.Passes.{AreOf, AreAll}
 pub use Rattle.sh_table.specs.Seats.{Heap}
 pub use Rattle.sh_shard.specs.Shards.{InsertServes, value_class}
-pub use Rattle.sh_member.specs.Readers.{FetchDoes}
+pub use Rattle.sh_pass.specs.Fetching.{FetchDoes}

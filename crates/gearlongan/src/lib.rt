@@ -137,7 +137,7 @@
 //!     let growing = GrowingShare::open(alloc, 64, 256)?;      // passes, and chunks at most
 //!     let mut caller = growing.claim(alloc)?;                 // one for each thread
 //!     let key = caller.insert(alloc, &Value::of([7, 8]))?;    // opens a chunk if no open one has room
-//!     let value = caller.fetch(key)?;
+//!     let value = caller.look(key)?;
 //!     caller.remove(key)?;
 //!     let Ok(()) = caller.end() else {                        // leaves its shards: its number can be claimed again
 //!         return Err(Refusal::Waiting);
@@ -195,7 +195,7 @@ pub use sh_grown::{
     Caller, Chunk, Growing, GrowingShare, GrownGuard, GrownReceipt, GrownTotals, NotTold,
 };
 pub use sh_key::{Deep, KeyLayout, Tagged, Tiny, Wide};
-pub use sh_member::{Reader, ToldKey, fetch_told, insert_told, next_own_key};
+pub use sh_member::{NextHeld, NextLive, Reader, ToldKey, fetch_told, insert_told, next_own_key};
 pub use sh_pass::{Guard, Heap, NextKey, Pass, Receipt, Seats, remove_then_get};
 pub use sh_plain::{Lookup, Store};
 pub use sh_shape::Shape;

@@ -16,7 +16,8 @@ use Rattle.script_orders.specs.declared.state.State.{State}
 use Rattle.script_orders.specs.Changes.{changes_with, Leaves}
 use Rattle.script_orders.specs.Lanes.{Did, and_then}
 use Rattle.script_orders.specs.Orders.{reply_line}
-use Rattle.script_orders.specs.Reached.{plan_in, world_before, done_by, world_by, IsNext, lanes_of, IsReached, HasPlayed}
+use Rattle.script_orders.specs.Reached.{plan_in, world_before, done_by, world_by, IsNext, lanes_of, IsReached}
+use Rattle.script_orders.specs.Reached.{HasPlayed}
 use Rattle.script_orders.specs.Seen.{Sees}
 use Rattle.script_orders.specs.States.{Follows}
 use Rattle.script_orders.specs.Walks.{GoesTo}

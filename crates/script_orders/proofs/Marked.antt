@@ -34,8 +34,8 @@ sum_kept f xs i y d less same =
 pub counted_more : (a b : ℕ) → counted (counted a + counted b) ≡ counted (a + b)
 counted_more a b = omega arith
 
-pub bytes_push : (states all : List State) (state : State) (bytes more : ℕ) → bytes ≡ counted (sum_by state_bytes states)
-    → more ≡ counted (state_bytes state) → all ≡ states ++ state ∷ []
+pub bytes_push : (states all : List State) (state : State) (bytes more : ℕ)
+    → bytes ≡ counted (sum_by state_bytes states) → more ≡ counted (state_bytes state) → all ≡ states ++ state ∷ []
     → counted (bytes + more) ≡ counted (sum_by state_bytes all)
 bytes_push states all state bytes more are some is =
     (λ i. counted (are i + some i))

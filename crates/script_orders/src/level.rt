@@ -1,5 +1,6 @@
 //! The states after one number of steps.
-ghost use Rattle.std.specs.Prelude.{◌≡◌, ◌++◌, ◌∷◌, ◌↔◌, [], ℕ, Some, IsTrue, MatchOption, IfOk, OnOk, OnErr, slice_get};
+ghost use Rattle.std.specs.Prelude.{◌≡◌, ◌++◌, ◌∷◌, ◌↔◌, [], ℕ, Some, IsTrue, MatchOption, IfOk, OnOk, OnErr};
+ghost use Rattle.std.specs.Prelude.{slice_get};
 ghost use Rattle.std.specs.List.{sum_by};
 ghost use Rattle.script_orders.specs.Bytes.{counted, state_bytes};
 ghost use Rattle.script_orders.specs.Marks.{mark_of};

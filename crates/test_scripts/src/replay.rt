@@ -1,6 +1,6 @@
 //! Tests of whole runs that need more than a script and its output: readers and writers that fail, refused memory, long
 //! scripts, and workers in threads. Scripts with their whole output are data in `examples/worked`, which
-//! `scripts/examples` runs.
+//! `scripts/program-checks examples` runs.
 mod ends;
 mod forged;
 mod gates;

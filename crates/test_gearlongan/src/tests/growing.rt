@@ -11,7 +11,7 @@ fn stored(alloc: Global) -> Result<Value, Refusal> {
     let growing = GrowingShare::open(alloc, 64, 256)?;
     let mut caller = growing.claim(alloc)?;
     let key = caller.insert(alloc, &Value::of([7, 8]))?;
-    let value = caller.fetch(key)?;
+    let value = caller.look(key)?;
     caller.remove(key)?;
     let Ok(()) = caller.end() else {
         return Err(Refusal::Waiting);
@@ -39,7 +39,7 @@ fn a_caller_reads_by_its_hold_what_another_one_removed(rt: HostRuntime) {
     agree(&rt, one.remove(key), Ok(()));
     agree(&rt, other.read(hold), Ok(Value::from(7)));
     agree(&rt, other.release(hold), Ok(()));
-    agree(&rt, one.fetch(key), Err(Refusal::Gone));
+    agree(&rt, one.look(key), Err(Refusal::Gone));
 }
 
 // Chunk 0 has a value, and chunk 1 is opened ahead.
@@ -72,5 +72,5 @@ fn a_key_that_came_with_a_receipt_of_its_caller_is_found(rt: HostRuntime) {
     let mut one = growing.claim(rt.alloc()).expect(&rt, "a caller");
     let mut other = growing.claim(rt.alloc()).expect(&rt, "another caller");
     let key = sends_key(&rt, rt.alloc(), &mut one, &mut other, 7);
-    agree(&rt, other.fetch(key), Ok(Value::from(7)));
+    agree(&rt, other.look(key), Ok(Value::from(7)));
 }

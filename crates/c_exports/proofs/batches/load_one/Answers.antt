@@ -1,23 +1,18 @@
-use Rattle.std.proofs.Common.{refl}
-use Rattle.c_exports.proofs.ReadingInto.{fetches_into}
+use Rattle.std.proofs.Common.{Ok, Err, ap}
+use Rattle.c_exports.specs.declared.batches.Loaded.{Loaded}
 use Rattle.c_exports.proofs.batches.load_one.Goals as goal
 
-pub returns-in-Ok : goal.returns-in-Ok
-returns-in-Ok c = (
-  _,
-  record {
-    key = refl;
-    told = (c.write_words-load.ensures.count, c.write_words-load.ensures.words);
-    does_it = fetches_into _ _ _ _ _ _ c.in-Ok.ensures;
-  },
-)
-
 pub returns-in-Err : goal.returns-in-Err
-returns-in-Err c = (
-  _,
-  record {
-    key = refl;
-    told = (c.number-load.ensures, refl, refl);
-    does_it = fetches_into _ _ _ _ _ _ c.in-Err.ensures;
-  },
-)
+returns-in-Err c =
+    let f = c.in-Err.ensures in (
+      Err c.in-Err.refusal,
+      record {
+        key = ap (λ (l : Loaded). l.key) f.1;
+        told = (c.number-load.ensures, ap (λ (l : Loaded). l.words) f.1, ap (λ (l : Loaded). l.length) f.1);
+        does_it = f.0;
+      },
+    )
+
+pub returns-in_default : goal.returns-in_default
+returns-in_default c =
+    let f = c.in_default.ensures in (Ok f.0, record { key = f.2.key; told = f.2.told; does_it = f.1 })

@@ -35,8 +35,8 @@ loop-alloc-preserved g c =
     let goes = c.in_ok-next.ensures in
     let reached : All (IsReached layout p) next =
     subst (λ (o : Result Level Limit). IfOk o (λ l. All (IsReached layout p) l.states.items)) c.in-Ok.is goes.reached in
-    let followed = subst (λ (o : Result Level Limit). IfOk o (λ l. (place : ℕ) (s : State) → slice_get level place ≡ Some s
-    → (pass : ℕ) → pass < p.shape.passes → IsFollowed layout p l.states.items s pass)) c.in-Ok.is goes.followed in
+    let followed = subst (λ (o : Result Level Limit). IfOk o (λ l. (place : ℕ) (s : State)
+    → slice_get level place ≡ Some s → (pass : ℕ) → pass < p.shape.passes → IsFollowed layout p l.states.items s pass)) c.in-Ok.is goes.followed in
     let ends = subst (λ (o : Result Level Limit). IfOk o (λ l. (place : ℕ) (s : State) → slice_get level place ≡ Some s
     → AllRest layout p s → HasEnd layout p new s)) c.in-Ok.is goes.ends in
     record {

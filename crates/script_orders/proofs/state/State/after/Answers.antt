@@ -28,7 +28,8 @@ returns c = record {
       ∙ ap (λ (d : Did). s.order.items ++ lines_within c.args.lines.now c.args.pass d.behind c.args.lane.behind) same;
   passes = grind (arith, common_steps);
   lanes = map-set (λ lane. did (rc_value lane)) c.in_ok-lanes.lanes.items c.args.pass c.in_ok-lanes-2.field-0
-      ∙ ap (λ (d : Did). slice_set (map (λ lane. did (rc_value lane)) c.in_ok-lanes.lanes.items) c.args.pass d) (ap did c.in_ok-lanes-2.ensures.ok)
+      ∙ ap (λ (d : Did). slice_set (map (λ lane. did (rc_value lane)) c.in_ok-lanes.lanes.items) c.args.pass d)
+      (ap did c.in_ok-lanes-2.ensures.ok)
       ∙ ap (λ (ls : List Did). slice_set ls c.args.pass (did c.args.lane)) (c.in_ok-lanes.ensures
       ∙ (λ i. map (λ lane. did (rc_value lane)) (c.as_slice-3.ensures.value i)));
   changes_are = refl;
