@@ -28,6 +28,7 @@ TYPES = {
     '&mut u64': ['uint64_t *'], '&mut u32': ['uint32_t *'],
     '&mut PageReport': ['shardheap_page *'], '&mut SumsReport': ['shardheap_sums *'],
     '&mut [Loaded]': ['shardheap_loaded *', 'size_t'],
+    '&mut LiveKey': ['shardheap_live_key *'], '&mut HeldKey': ['shardheap_held_key *'],
     '': ['void'],
 }
 
@@ -65,7 +66,8 @@ def record_of(text, pattern, field):
 
 def records():
     """The fields of each record, in the library and in the header: the type and the name of each."""
-    for rust, c in (('PageReport', 'shardheap_page'), ('SumsReport', 'shardheap_sums'), ('Loaded', 'shardheap_loaded')):
+    for rust, c in (('PageReport', 'shardheap_page'), ('SumsReport', 'shardheap_sums'), ('Loaded', 'shardheap_loaded'),
+                    ('LiveKey', 'shardheap_live_key'), ('HeldKey', 'shardheap_held_key')):
         library = record_of(SOURCES, rf'pub struct {rust} \{{(.*?)\n\}}', r'pub (\w+): ([^,]+),')
         header = record_of(HEADER, rf'typedef struct {c} \{{(.*?)\n\}} {c};', r'^ +uint(\d+)_t (\w+)(?:\[(\d+)\])?;')
         yield (c, library and [(FIELDS.get(kind, kind), name) for name, kind in library],

@@ -45,7 +45,7 @@ static void refused(shardheap *heap, shardheap_pass *pass, uint64_t key, uint32_
     each_call_of_a_heap(heap, code);
     TRUE(misuses - before == 15 && last_misuse == code);
     each_call_of_a_pass(pass, key, code);
-    TRUE(misuses - before == 15 + 22 && last_misuse == code);
+    TRUE(misuses - before == 15 + 25 && last_misuse == code);
 }
 
 static void copied_and_moved(void) {
@@ -202,6 +202,25 @@ static void tagged(void) {
     closes(&heap, &pass, key);
 }
 
+/* The predicate of a removal may not use its pass, and gets keys as the caller has them. */
+static bool uses_its_pass(void *pass, const shardheap_live_key *met) {
+    IS(shardheap_remove(pass, met->key), SHARDHEAP_BUSY);
+    return met->key == shared_key;
+}
+
+static void removal(void) {
+    shardheap heap = SHARDHEAP_INIT;
+    shardheap_pass pass = SHARDHEAP_INIT;
+    uint64_t second, removed = 77;
+    uint32_t before = misuses;
+    shared_key = opens(&heap, &pass, SHARDHEAP_WIDE);
+    IS(shardheap_insert(&pass, words, 3, &second), SHARDHEAP_OK);
+    IS(shardheap_remove_if(&pass, uses_its_pass, &pass, &removed), SHARDHEAP_OK);
+    TRUE(removed == 1 && misuses - before == 2 && last_misuse == SHARDHEAP_BUSY);
+    IS(shardheap_remove(&pass, shared_key), SHARDHEAP_GONE);
+    closes(&heap, &pass, second);
+}
+
 /* Keys of layout deep use all their bits, so that they are as without the mode. */
 static void deep(void) {
     shardheap heap = SHARDHEAP_INIT;
@@ -234,6 +253,7 @@ int main(void) {
     for (uint32_t layout = SHARDHEAP_WIDE; layout <= SHARDHEAP_TINY; layout++) receipts(layout);
     shared_heap();
     tagged();
+    removal();
     deep();
     many_heaps();
     printf("checked: %d checks passed\n", checks);

@@ -43,10 +43,14 @@ static void each_call_of_a_receipt(shardheap_receipt *receipt, uint32_t refused)
     shardheap_close(&ready);
 }
 
+static bool is_any(void *context, const shardheap_live_key *met) { return (void)context, met->key != 0; }
+
 static void each_call_of_a_pass(shardheap_pass *pass, uint64_t key, uint32_t refused) {
     shardheap_pass was = *pass;
     shardheap_receipt receipt = SHARDHEAP_INIT;
     shardheap_loaded batch[1] = {{key, 99, 66, {0}}};
+    shardheap_live_key live = {66, 55, 44, {0}};
+    shardheap_held_key held = {66, 55, 44};
     uint64_t words[16] = {0}, length = 99, other = 77, place = 44;
     uint32_t page = 55;
     IS(shardheap_give(pass), refused);
@@ -62,6 +66,9 @@ static void each_call_of_a_pass(shardheap_pass *pass, uint64_t key, uint32_t ref
     IS(shardheap_pages_left(pass, &other), refused);
     IS(shardheap_slots_out(pass, &other), refused);
     IS(shardheap_next_own_key(pass, &place, &other), refused);
+    IS(shardheap_next_live(pass, 0, 1, &live), refused);
+    IS(shardheap_next_held(pass, 0, 1, &held), refused);
+    IS(shardheap_remove_if(pass, is_any, 0, &other), refused);
     IS(shardheap_adopt(pass, 0), refused);
     IS(shardheap_leave(pass), refused);
     IS(shardheap_leave_idle(pass), refused);
@@ -73,6 +80,8 @@ static void each_call_of_a_pass(shardheap_pass *pass, uint64_t key, uint32_t ref
     IS(shardheap_pass_lose(pass), refused);
     TRUE(memcmp(pass, &was, sizeof was) == 0);
     TRUE(length == 99 && other == 77 && page == 55 && place == 44 && words[0] == 0);
+    TRUE(live.key == 66 && live.behind == 55 && live.length == 44 && live.words[0] == 0);
+    TRUE(held.key == 66 && held.behind == 55 && held.held == 44);
     TRUE(batch[0].key == key && batch[0].length == 99 && batch[0].code == 66 && batch[0].words[0] == 0);
 }
 

@@ -86,6 +86,9 @@ static void into_handles(shardheap *heap, shardheap_pass *pass, uint64_t key) {
     IS(shardheap_next_own_key(pass, &length, &length), SHARDHEAP_OVERLAP);
     IS(shardheap_next_own_key(pass, bytes, &length), SHARDHEAP_OVERLAP);
     IS(shardheap_next_own_key(pass, &length, last), SHARDHEAP_OVERLAP);
+    IS(shardheap_next_live(pass, 0, 1, bytes), SHARDHEAP_OVERLAP);
+    IS(shardheap_next_held(pass, 0, 1, last), SHARDHEAP_OVERLAP);
+    IS(shardheap_remove_if(pass, is_any, 0, last), SHARDHEAP_OVERLAP);
     IS(shardheap_next_key(heap, &length, &length), SHARDHEAP_OVERLAP);
     IS(shardheap_next_key(heap, (void *)heap, &length), SHARDHEAP_OVERLAP);
     IS(shardheap_next_key(heap, &length, (void *)((char *)heap + 24)), SHARDHEAP_OVERLAP);

@@ -10,12 +10,13 @@
 #define STACK (UINT64_C(64) << 10)
 #define PATTERN 0xa5
 #define SHORT_CALLS 1024u
+#define WALK_CALLS (4u * 1024)
 #define LONG_CALLS (8u * 1024)
 
 static _Alignas(64) unsigned char stack[STACK];
 static ucontext_t here, there;
 static void (*action)(void);
-static size_t base, most_of_short, most_of_long, most_in_growing;
+static size_t base, most_of_short, most_of_walks, most_of_long, most_in_growing;
 static int shows;
 
 static shardheap heap, other;
@@ -26,6 +27,8 @@ static uint32_t code, page, tag, layout;
 static shardheap_page told;
 static shardheap_sums sums;
 static shardheap_loaded batch[9];
+static shardheap_live_key live;
+static shardheap_held_key held;
 
 static void on_the_stack(void) { action(); }
 
@@ -51,8 +54,9 @@ static void measure(const char *name, void (*what)(void), size_t *most) {
     if (shows) printf("%4zu bytes: %s, %s\n", used, name, shardheap_name(code));
 }
 
-/* What shardheap.h says takes at most 1 KiB, and what takes at most 8 KiB. */
+/* What shardheap.h says takes at most 1 KiB, what takes at most 4 KiB, and what takes at most 8 KiB. */
 #define SHORT_CALL(call) measure(#call, call, &most_of_short)
+#define WALK_CALL(call) measure(#call, call, &most_of_walks)
 #define LONG_CALL(call) measure(#call, call, &most_of_long)
 /* A call in a growing heap, of which the header says no number. */
 #define GROWING_CALL(call) measure(#call " in a growing heap", call, &most_in_growing)
@@ -102,6 +106,13 @@ static void pages_left(void) { code = shardheap_pages_left(&owner, &number); }
 static void slots_out(void) { code = shardheap_slots_out(&owner, &number); }
 static void next_own_key(void) { code = shardheap_next_own_key(&owner, &place, &key); }
 static void next_key(void) { code = shardheap_next_key(&heap, &place, &key); }
+static bool is_any(void *context, const shardheap_live_key *met) { return (void)context, met->key != 0; }
+static void next_live(void) { code = shardheap_next_live(&pass, live.behind, UINT64_MAX, &live); }
+static void next_held(void) { code = shardheap_next_held(&pass, held.behind, UINT64_MAX, &held); }
+static void own_next_live(void) { code = shardheap_next_live(&owner, live.behind, UINT64_MAX, &live); }
+static void own_next_held(void) { code = shardheap_next_held(&owner, held.behind, UINT64_MAX, &held); }
+static void remove_if(void) { code = shardheap_remove_if(&pass, is_any, 0, &number); }
+static void own_remove_if(void) { code = shardheap_remove_if(&owner, is_any, 0, &number); }
 static void give(void) { code = shardheap_give(&pass); }
 static void close_pass(void) { code = shardheap_pass_close(&owner); }
 static void lose(void) { code = shardheap_pass_lose(&pass); }
@@ -148,6 +159,23 @@ static void receipts(void) {
     for (code = 0, place = 0; code == SHARDHEAP_OK;) SHORT_CALL(next_own_key);
 }
 
+/* Walks by each, over a value of no word and one of 16, and removals of both. */
+static void walks(void) {
+    for (length = 0; length <= 16; length += 16) LONG_CALL(insert);
+    live.behind = held.behind = 0;
+    WALK_CALL(next_live);
+    WALK_CALL(own_next_live);
+    WALK_CALL(next_live);
+    WALK_CALL(next_held);
+    IS(shardheap_release(&pass, held.key), SHARDHEAP_OK);
+    WALK_CALL(own_next_held);
+    IS(shardheap_release(&owner, held.key), SHARDHEAP_OK);
+    WALK_CALL(remove_if);
+    for (length = 0; length <= 16; length += 16) LONG_CALL(insert);
+    WALK_CALL(own_remove_if);
+    TRUE(number == 2);
+}
+
 /* Fills the shard, empties it by another pass and by its owner, and fills it with longer values. */
 static void many_values(void) {
     static uint64_t keys[8 * 8 * 48];
@@ -181,6 +209,7 @@ static void a_heap(void) {
     for (uint64_t count = 0; count <= 17; count++) one_value(count);
     for (uint64_t count = 0; count <= 16; count++) one_taken(count);
     receipts();
+    walks();
     many_values();
     SHORT_CALL(put_tag);
     SHORT_CALL(take_tag);
@@ -238,6 +267,7 @@ int main(int argc, char **argv) {
     a_growing_heap();
     printf("stack: at most %zu bytes in a growing heap\n", most_in_growing);
     TRUE(most_in_growing > 0 && most_in_growing < STACK / 2);
+    TRUE(most_of_walks > 0 && most_of_walks <= WALK_CALLS);
     TRUE(most_of_short > 0 && most_of_short <= SHORT_CALLS && most_of_long <= LONG_CALLS);
     return 0;
 }

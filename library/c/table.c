@@ -10,14 +10,21 @@ enum { WHOLE = 384, ALL_OWN = 60 };
 
 static const uint64_t words[17] = {7, 8, 9};
 
+/* Whether the first word of a value is odd. */
+static bool is_odd(void *none, const shardheap_live_key *met) {
+    return none == NULL && met->words[0] % 2 == 1;
+}
+
 /* Calls that do nothing: pointers that are null or overlap, and a handle that is empty, full or none. */
 static void refuses(void) {
     static union {
         shardheap_table table;
         uint64_t words[8];
+        shardheap_live_key next;
     } it;
     shardheap_table *table = &it.table, none = SHARDHEAP_INIT;
     uint64_t room[16], key = 77, length = 77;
+    shardheap_live_key next = {0, 0, 0, {0}};
     memset(&it, 1, sizeof it);
     const uint32_t refused = SHARDHEAP_NO_HANDLE;
     IS(shardheap_table_open(table), refused);
@@ -27,6 +34,8 @@ static void refuses(void) {
     IS(shardheap_table_contains(table, 1), refused);
     IS(shardheap_table_remove(table, 1), refused);
     IS(shardheap_table_take(table, 1, room, 16, &length), refused);
+    IS(shardheap_table_next(table, 0, &next), refused);
+    IS(shardheap_table_remove_if(table, is_odd, NULL, &key), refused);
     IS(shardheap_table_enter(table), refused);
     IS(shardheap_table_rest(table), refused);
     TRUE(shardheap_table_length(table) == 0);
@@ -43,6 +52,11 @@ static void refuses(void) {
     IS(shardheap_table_contains(NULL, 1), SHARDHEAP_NULL);
     IS(shardheap_table_remove(NULL, 1), SHARDHEAP_NULL);
     IS(shardheap_table_take(NULL, 1, room, 16, &length), SHARDHEAP_NULL);
+    IS(shardheap_table_next(NULL, 0, &next), SHARDHEAP_NULL);
+    IS(shardheap_table_next(&none, 0, NULL), SHARDHEAP_NULL);
+    IS(shardheap_table_remove_if(NULL, is_odd, NULL, &key), SHARDHEAP_NULL);
+    IS(shardheap_table_remove_if(&none, NULL, NULL, &key), SHARDHEAP_NULL);
+    IS(shardheap_table_remove_if(&none, is_odd, NULL, NULL), SHARDHEAP_NULL);
     IS(shardheap_table_enter(NULL), SHARDHEAP_NULL);
     IS(shardheap_table_rest(NULL), SHARDHEAP_NULL);
     TRUE(shardheap_table_length(NULL) == 0);
@@ -54,6 +68,8 @@ static void refuses(void) {
     IS(shardheap_table_contains(table, 1), SHARDHEAP_EMPTY);
     IS(shardheap_table_remove(table, 1), SHARDHEAP_EMPTY);
     IS(shardheap_table_take(table, 1, room, 16, &length), SHARDHEAP_EMPTY);
+    IS(shardheap_table_next(table, 0, &next), SHARDHEAP_EMPTY);
+    IS(shardheap_table_remove_if(table, is_odd, NULL, &key), SHARDHEAP_EMPTY);
     IS(shardheap_table_enter(table), SHARDHEAP_EMPTY);
     IS(shardheap_table_rest(table), SHARDHEAP_EMPTY);
     shardheap_table_close(table);
@@ -63,11 +79,13 @@ static void refuses(void) {
     IS(shardheap_table_get(table, 1, it.words, 1, &length), SHARDHEAP_OVERLAP);
     IS(shardheap_table_get(table, 1, room, 16, it.words + 3), SHARDHEAP_OVERLAP);
     IS(shardheap_table_take(table, 1, room, 16, room + 15), SHARDHEAP_OVERLAP);
+    IS(shardheap_table_next(table, 0, &it.next), SHARDHEAP_OVERLAP);
+    IS(shardheap_table_remove_if(table, is_odd, NULL, it.words + 3), SHARDHEAP_OVERLAP);
     IS(shardheap_table_open_for(table, 0, 1, 1, 1), SHARDHEAP_BAD_SHAPE);
     IS(shardheap_table_open_for(table, 65, 1, 1, 1), SHARDHEAP_BAD_SHAPE);
     IS(shardheap_table_open_for(table, 1, 1, 17, 1), SHARDHEAP_BAD_SHAPE);
     IS(shardheap_table_open_for(table, 1, 1, 1, 257), SHARDHEAP_BAD_SHAPE);
-    TRUE(!table->full && key == 77 && length == 77);
+    TRUE(!table->full && key == 77 && length == 77 && next.behind == 0);
 }
 
 /* One thread. The handle begins as zeroed bytes. */
@@ -117,6 +135,9 @@ static void serves_one(void) {
     IS(shardheap_table_contains(&copy, 1), refused);
     IS(shardheap_table_remove(&copy, 1), refused);
     IS(shardheap_table_take(&copy, 1, room, 16, &length), refused);
+    shardheap_live_key next;
+    IS(shardheap_table_next(&copy, 0, &next), refused);
+    IS(shardheap_table_remove_if(&copy, is_odd, NULL, &key), refused);
     IS(shardheap_table_enter(&copy), refused);
     IS(shardheap_table_rest(&copy), refused);
 #endif

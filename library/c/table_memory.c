@@ -173,6 +173,8 @@ static void uses(void) {
     TRUE(length == 16 && room[1] == 2);
     IS(shardheap_table_insert(&table, words, 5, &key), SHARDHEAP_OK);
     IS(shardheap_table_contains(&table, key), SHARDHEAP_OK);
+    shardheap_live_key next;
+    IS(shardheap_table_next(&table, 0, &next), SHARDHEAP_OK);
     TRUE(shardheap_table_length(&table) <= shardheap_table_capacity(&table, 16) && shardheap_table_bytes(&table) > 0);
     if (opened % 2) IS(shardheap_table_remove(&table, key), SHARDHEAP_OK);
     else IS(shardheap_table_take(&table, key, room, 16, &length), SHARDHEAP_OK);
@@ -249,14 +251,21 @@ static void *inserts_by_shared(void *none) {
     return none;
 }
 
+static bool is_any(void *none, const shardheap_live_key *met) {
+    return none == met; /* (no key is met) */
+}
+
 static void is_refused(void) {
-    uint64_t room[16], key = 77, length = 77;
+    uint64_t room[16], key = 77, length = 77, count = 77;
+    shardheap_live_key next = {0, 0, 0, {0}};
     IS(shardheap_table_get(&table, there, room, 16, &length), SHARDHEAP_NO_PLACE);
     IS(shardheap_table_contains(&table, there), SHARDHEAP_NO_PLACE);
     IS(shardheap_table_insert(&table, words, 1, &key), SHARDHEAP_NO_PLACE);
     IS(shardheap_table_remove(&table, there), SHARDHEAP_NO_PLACE);
     IS(shardheap_table_take(&table, there, room, 16, &length), SHARDHEAP_NO_PLACE);
-    TRUE(key == 77 && length == 77);
+    IS(shardheap_table_next(&table, 0, &next), SHARDHEAP_NO_PLACE);
+    IS(shardheap_table_remove_if(&table, is_any, NULL, &count), SHARDHEAP_NO_PLACE);
+    TRUE(key == 77 && length == 77 && next.behind == 0 && count == 0);
     not_served++;
 }
 

@@ -92,6 +92,12 @@ uint32_t __wrap_shardheap_raw_load(shardheap_pass *pass, uint64_t of, uint64_t *
     USE(pass, __real_shardheap_raw_load(pass, of, words, room, length));
 }
 
+uint32_t __real_shardheap_raw_next_live(shardheap_pass *pass, uint64_t from, uint64_t end, shardheap_live_key *next);
+uint32_t __wrap_shardheap_raw_next_live(shardheap_pass *pass, uint64_t from, uint64_t end, shardheap_live_key *next);
+uint32_t __wrap_shardheap_raw_next_live(shardheap_pass *pass, uint64_t from, uint64_t end, shardheap_live_key *next) {
+    USE(pass, __real_shardheap_raw_next_live(pass, from, end, next));
+}
+
 /* ---- What the threads do ---- */
 
 static shardheap_table table = SHARDHEAP_INIT;
@@ -103,6 +109,8 @@ static void calls(void) {
     IS(shardheap_table_insert(&table, &value, 1, &key), SHARDHEAP_OK);
     IS(shardheap_table_get(&table, key, room, 1, &length), SHARDHEAP_OK);
     TRUE(length == 1 && room[0] == value);
+    shardheap_live_key met = {0, 0, 0, {0}};
+    while (met.key != key) IS(shardheap_table_next(&table, met.behind, &met), SHARDHEAP_OK);
     if (any() % 3 == 0) IS(shardheap_table_rest(&table), SHARDHEAP_OK);
     IS(shardheap_table_remove(&table, key), SHARDHEAP_OK);
 }

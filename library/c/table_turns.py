@@ -14,7 +14,7 @@ TOP = pathlib.Path(__file__).resolve().parent.parent.parent
 SOURCE = TOP / "library/src"
 FLAGS = ["-std=c11", "-D_DEFAULT_SOURCE", "-g", "-O1", "-I", TOP / "library/include"]
 WARNINGS = ["-Wall", "-Wextra", "-Wpedantic", "-Wconversion", "-Werror"]
-WRAPS = "-Wl," + ",".join(f"--wrap=shardheap_raw_{it}" for it in ("insert", "remove", "load"))
+WRAPS = "-Wl," + ",".join(f"--wrap=shardheap_raw_{it}" for it in ("insert", "remove", "load", "next_live"))
 
 # What is planted, what of places.h it replaces, by what, and what the program says.
 FAULTS = [

@@ -64,7 +64,7 @@ all() {
   local compiler=$1 rounds=$2 name
   shift 2
   for name in session growing_table connections blocks misuse pointers whole reuse taking batches receipts keys \
-    own_keys growing memory checked table table_ends table_memory; do
+    own_keys walks growing memory checked table table_walks table_ends table_memory; do
     compiled "$compiler" "$name" "$@"
     run "$name"
   done
@@ -75,8 +75,8 @@ all() {
 in_checked_mode() {
   local compiler=$1 rounds=$2 name
   shift 2
-  for name in session growing_table connections pointers whole reuse taking batches receipts keys own_keys growing \
-    memory table table_ends table_memory; do
+  for name in session growing_table connections pointers whole reuse taking batches receipts keys own_keys walks \
+    growing memory table table_walks table_ends table_memory; do
     compiled "$compiler" "$name" -DSHARDHEAP_CHECKED "$@"
     run "$name"
   done
@@ -118,11 +118,12 @@ head_example() {
 examples() {
   echo "== the headers' examples"
   {
-    printf '#include "shardheap_table.h"\nuint64_t examples(void);\nuint64_t examples(void) {\n'
+    printf '#include "shardheap_table.h"\nbool is_over(void *now, const shardheap_live_key *met);\n'
+    printf 'uint64_t examples(void);\nuint64_t examples(void) {\n'
     printf '    shardheap heap = SHARDHEAP_INIT;\n    shardheap_pass pass = SHARDHEAP_INIT;\n'
     printf '    shardheap_receipt receipt = SHARDHEAP_INIT;\n    shardheap_table table = SHARDHEAP_INIT;\n'
     printf '    uint32_t code, page = 0, layout = 0;\n'
-    printf '    uint64_t words[2] = {7, 8}, room[16], key = 0, second = 1, length = 0, count;\n'
+    printf '    uint64_t words[2] = {7, 8}, room[16], key = 0, second = 1, length = 0, now = 7, count;\n'
     sed -n '/---- A heap/,$s/^ \{7\}\([^ ].*;\)\(    .*\)\{0,1\}\( \*\/\)\{0,1\}$/    \1/p' library/include/shardheap.h
     sed -n '/---- A table/,$s/^ \{7\}\([^ ].*;\)\(    .*\)\{0,1\}\( \*\/\)\{0,1\}$/    \1/p' \
       library/include/shardheap_table.h

@@ -90,6 +90,7 @@ TEST(keys_that_are_listed) {
     const auto key = shard.insert({7});
     THROWS(elsewhere.take(key), other_heap);
     CHECK(reported(SHARDHEAP_OTHER_HEAP));
+    CHECK(shard.walk().begin()->key == key);
     shard.close();
     int found = 0;
     for (const auto it : heap.keys()) found += it == key; // it has the number of its heap

@@ -48,7 +48,7 @@ void one_round(gearlongan::heap &heap) {
     CHECK(pass.try_adopt(9, shard) == errc::no_shard && pass && !shard);
     IS_OK(pass.try_adopt(0, shard));
     std::uint32_t page = 99;
-    std::uint64_t pages = 99, slots = 99;
+    std::uint64_t pages = 99, slots = 99, removed = 99;
     CHECK(shard.try_prepare(17, page) == errc::too_long && page == 99);
     IS_OK(shard.try_insert({7, 8}, key));
     IS_OK(shard.try_insert_record(1.5, record));
@@ -58,6 +58,12 @@ void one_round(gearlongan::heap &heap) {
     IS_OK(shard.try_pages_left(pages));
     IS_OK(shard.try_slots_out(slots));
     CHECK(pages == 6 && slots == 2);
+    gearlongan::live_key met;
+    std::uint64_t from = 0;
+    IS_OK(other.try_next_live(from, met));
+    CHECK(met.key == key && met.value.size() == 2);
+    IS_OK(other.try_remove_if([](gearlongan::key, const gearlongan::value &value) { return value.empty(); }, removed));
+    CHECK(removed == 0);
     std::uint64_t place = 0;
     gearlongan::key first, second, none;
     IS_OK(shard.try_next_key(place, first));

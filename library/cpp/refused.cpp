@@ -32,6 +32,9 @@ void tables(gearlongan::table<double> &numbers, gearlongan::table<float> &others
     // Several threads call what is const and what is not. A const table does not change.
     const gearlongan::table<double> &constant = numbers;
     (void)constant.get(half), (void)constant.contains(half), (void)constant.size();
+    (void)constant.begin();
+    constant.begin()->record = 0.5; //~ read-only
+    constant.remove_if([](auto, double) { return true; }); //~ const
     constant.remove(half); //~ const
     (void)constant.insert(0.5); //~ const
     (void)constant.take(half); //~ const
@@ -66,10 +69,11 @@ void refused(gearlongan::heap &heap, gearlongan::pass &pass, gearlongan::shard &
     gearlongan::guard late = heap.take().get(key); //~ get
     gearlongan::guard later = heap.take().find(key); //~ find
 
-    // Nor does a range of keys outlive that of its heap or its shard.
+    // Nor does a range of keys outlive that of its heap, its shard or its pass.
     (void)heap.share().keys(); //~ keys
     (void)gearlongan::key_range(); //~ no matching
     (void)heap.take().adopt(0).keys(); //~ keys
+    (void)heap.take().walk(); //~ walk
 
     // What must not be dropped.
     pass.get(key); //~ nodiscard
@@ -82,6 +86,7 @@ void refused(gearlongan::heap &heap, gearlongan::pass &pass, gearlongan::shard &
     shard.slots_out(); //~ nodiscard
     heap.keys(); //~ nodiscard
     shard.keys(); //~ nodiscard
+    shard.walk(); //~ nodiscard
     heap.take(); //~ nodiscard
     std::move(pass).adopt(0); //~ nodiscard
     std::move(shard).leave(); //~ nodiscard
@@ -107,6 +112,7 @@ void refused(gearlongan::heap &heap, gearlongan::pass &pass, gearlongan::shard &
     (void)static_cast<const gearlongan::shard &>(shard).slots_out(); //~ const
     (void)static_cast<const gearlongan::heap &>(heap).keys(); //~ const
     (void)static_cast<const gearlongan::shard &>(shard).keys(); //~ const
+    (void)constant.walk(); //~ const
     static_cast<const gearlongan::heap &>(heap).take(); //~ const
     (void)constant, (void)heap, (void)shard;
 }

@@ -1,9 +1,11 @@
 // Tables: records of several sizes, keys, objects that are moved and closed, and threads.
 #include "check.hpp"
 
+#include <algorithm>
 #include <array>
 #include <atomic>
 #include <cstdint>
+#include <iterator>
 #include <optional>
 #include <thread>
 #include <unordered_set>
@@ -83,6 +85,36 @@ TEST(a_table_refuses) {
     CHECK(std::error_code(gearlongan::errc::no_place).message() == std::string("NoPlace"));
 }
 
+TEST(a_table_is_walked) {
+    auto entities = table<entity>::open({1, 1, 64});
+    CHECK(entities.begin() == entities.end());
+    std::vector<key_of<entity>> keys;
+    for (std::uint32_t n = 0; n < 1000; n++) keys.push_back(entities.insert(entity(n)));
+    std::vector<bool> seen(1000);
+    for (const auto &[key, record] : std::as_const(entities)) {
+        CHECK(keys[record.number] == key && !seen[record.number] && record.tail == 't');
+        seen[record.number] = true;
+        // (the loop may call the table)
+        if (record.number % 4 == 0) CHECK(entities.remove(key));
+    }
+    CHECK(std::count(seen.begin(), seen.end(), true) == 1000 && entities.size() == 750);
+    auto at = entities.begin();
+    CHECK(at->record.number == at++->record.number && at != entities.begin() && at != entities.end());
+    const auto is_odd = [&](key_of<entity> key, const entity &of) { return entities.contains(key) && of.number % 2; };
+    CHECK(entities.remove_if(is_odd) == 500 && entities.remove_if(is_odd) == 0 && entities.size() == 250);
+    // (a call of C may store what is no record of the table: a walk passes over it)
+    std::uint64_t words[1] = {1}, key = 0, place = 0;
+    CHECK(shardheap_table_insert(entities.raw(), words, 1, &key) == SHARDHEAP_OK);
+    CHECK(std::distance(entities.begin(), entities.end()) == 250);
+    entities.close();
+    entity into(7);
+    IS(entities.try_next(place, keys[0], into), empty);
+    IS(entities.try_remove_if(is_odd, key), empty);
+    THROWS(entities.begin(), empty);
+    THROWS(entities.remove_if(is_odd), empty);
+    CHECK(into.number == 7 && place == 0);
+}
+
 TEST(keys_of_tables_are_ordered_and_hashed) {
     auto numbers = table<double>::open();
     std::unordered_set<key_of<double>> keys;
@@ -112,11 +144,13 @@ TEST(threads_use_one_table) {
     auto entities = table<entity>::open();
     const auto common = entities.insert(entity(77));
     std::atomic<int> removed{0};
+    const auto is_whole = [](const table<entity>::entry &met) { return met.record.tail == 't'; };
     std::vector<std::thread> threads;
     for (std::uint32_t n = 0; n < 16; n++)
-        threads.emplace_back([&entities, &removed, common, n] {
+        threads.emplace_back([&is_whole, &entities, &removed, common, n] {
             if (n % 2 == 0) entities.enter();
             for (std::uint64_t round = 0; round < rounds; round++) {
+                if (round % 500 == n) CHECK(std::all_of(entities.begin(), entities.end(), is_whole));
                 const auto key = entities.insert(entity(n));
                 CHECK(entities.get(key)->number == n);
                 if (round % 100 == 0) entities.rest();

@@ -36,14 +36,15 @@
    there. A pass keeps the shard of its last insert in each chunk, and no other pass inserts there meanwhile. So
    `owners` is how many threads insert: with fewer, a pass may find each shard taken, and then its insert opens a chunk,
    or is FULL beside free room. leave_idle lets go of the shards between inserts, and then one shard serves many passes.
-   leave leaves all shards of the pass. So do give and pass_close, which may be WAITING as leave may. An insert is FULL
-   only if all chunks are open. A pass has 16 holds in each chunk, and keeps them when it is given and taken again. For
+   leave leaves all shards of the pass. So do give and pass_close, which may be WAITING as leave may. Before it opens a
+   chunk, an insert collects in each shard that no other pass owns, so the lengths of values may change. It is FULL only
+   if all chunks are open. A pass has 16 holds in each chunk, and keeps them when it is given and taken again. For
    each call on a key BAD_KEY also comes for a chunk that is not open. A key has no room for a tag: tag is BAD_KEY for
    one of a further chunk, except in checked mode, where the chunk is lost. Two calls of one pass are in their order if
    they are in one chunk. A receipt covers all chunks that its pass has used, and a pass that heeds it has used them
    too.
    These calls do nothing on a growing heap: adopt, prepare, pages_left, slots_out and next_own_key return NO_SHARD;
-   gather, accounts, totals and next_key return AWAY. (TAKEN comes from a call on a key and from an insert only if
+   gather, accounts, totals and next_key return AWAY. (TAKEN comes from a call on a key, an insert and a walk only if
    another handle's bytes were forged.)
 
    KEYS. A key belongs to one heap and ends with it. The first keys of two heaps are the same number. So a pass that
@@ -59,7 +60,8 @@
 
    SIGNALS AND STACK. A signal handler is to the calls like another thread: it needs handles that nothing else uses.
    Calls that take and give back no memory are async-signal-safe then: get, release, read, load, load_each, remove,
-   collect, passes, chunks, capacity, bytes, layout_of, tag, untag, take_value, pages_left, slots_out and next_own_key.
+   collect, passes, chunks, capacity, bytes, layout_of, tag, untag, take_value, pages_left, slots_out, next_own_key,
+   next_live, next_held and remove_if.
    The others are not, because they call malloc, aligned_alloc, realloc or free. The head of each section below has the
    most stack that its calls took in a test, with the allocator of glibc and a heap of a fixed shape.
 
@@ -256,6 +258,24 @@ typedef struct shardheap_loaded {
     uint64_t words[16]; /* the value: words[0] to words[length - 1] */
 } shardheap_loaded;
 
+/* A live key that a walk met, with its value: see shardheap_next_live. */
+typedef struct shardheap_live_key {
+    uint64_t key;
+    uint64_t behind;    /* the place behind that of the key: the walk goes on there */
+    uint64_t length;    /* how many words the value has */
+    uint64_t words[16]; /* the value: words[0] to words[length - 1] */
+} shardheap_live_key;
+
+/* A live key that a walk met: see shardheap_next_held. */
+typedef struct shardheap_held_key {
+    uint64_t key;
+    uint64_t behind; /* the place behind that of the key: the walk goes on there */
+    uint32_t held;   /* 1 with a hold on the key, and 0 if it has as many as it may have */
+} shardheap_held_key;
+
+/* Whether shardheap_remove_if removes a key. */
+typedef bool shardheap_predicate(void *context, const shardheap_live_key *met);
+
 SHARDHEAP_ASSERT(sizeof(void *) == 8 && sizeof(size_t) == 8 && sizeof(bool) == 1, "the library is for 64 bits");
 SHARDHEAP_ASSERT(offsetof(shardheap, full) == 8 && offsetof(shardheap_pass, full) == 8, "the library's part");
 SHARDHEAP_ASSERT(offsetof(shardheap, seal) == 16 && offsetof(shardheap_pass, seal) == 16, "the header's part");
@@ -263,6 +283,8 @@ SHARDHEAP_ASSERT(sizeof(shardheap) == 32 && sizeof(shardheap_pass) == 32, "a han
 SHARDHEAP_ASSERT(offsetof(shardheap_receipt, full) == 8 && sizeof(shardheap_receipt) == 32, "a handle");
 SHARDHEAP_ASSERT(offsetof(shardheap_receipt, seal) == 16, "the header's part");
 SHARDHEAP_ASSERT(offsetof(shardheap_loaded, words) == 24 && sizeof(shardheap_loaded) == 152, "a key and its value");
+SHARDHEAP_ASSERT(offsetof(shardheap_live_key, words) == 24 && sizeof(shardheap_live_key) == 152, "a key and its value");
+SHARDHEAP_ASSERT(offsetof(shardheap_held_key, held) == 16 && sizeof(shardheap_held_key) == 24, "a key that is held");
 SHARDHEAP_ASSERT(sizeof(shardheap_page) == 24 && sizeof(shardheap_sums) == 24, "six numbers of 32 bits");
 
 /* The calls of the library. They check no pointer and no handle: use the functions below, which do. */
@@ -301,6 +323,8 @@ uint32_t shardheap_raw_read(shardheap_pass *pass, uint64_t key, uint64_t *words,
 uint32_t shardheap_raw_load(shardheap_pass *pass, uint64_t key, uint64_t *words, size_t room, uint64_t *length);
 uint32_t shardheap_raw_load_each(shardheap_pass *pass, shardheap_loaded *loads, size_t count);
 uint32_t shardheap_raw_take_value(shardheap_pass *pass, uint64_t key, uint64_t *words, size_t room, uint64_t *length);
+uint32_t shardheap_raw_next_live(shardheap_pass *pass, uint64_t from, uint64_t before, shardheap_live_key *next);
+uint32_t shardheap_raw_next_held(shardheap_pass *pass, uint64_t from, uint64_t before, shardheap_held_key *next);
 uint32_t shardheap_raw_pages_left(shardheap_pass *pass, uint64_t *pages);
 uint32_t shardheap_raw_slots_out(shardheap_pass *pass, uint64_t *slots);
 uint32_t shardheap_raw_next_own_key(shardheap_pass *pass, uint64_t *place, uint64_t *key);
@@ -788,6 +812,78 @@ SHARDHEAP_API uint32_t shardheap_remove(shardheap_pass *pass, uint64_t key) {
 SHARDHEAP_API uint32_t shardheap_take_value(shardheap_pass *pass, uint64_t key, uint64_t *words, size_t room,
                                             uint64_t *length) {
     return shardheap_fill(shardheap_raw_take_value, pass, key, words, room, length);
+}
+
+/* ---- Walks ----
+
+   A walk meets the live keys in the order of their places, each place once. A key that is live from its begin to its
+   end is met. One that is inserted or removed meanwhile is met or not, and a key that is met was live at that moment.
+   A pass that heeded a receipt meets the keys whose inserts it covers, unless they were removed.
+
+   Places are numbers of slots over the whole heap, 48 for a page. In a growing heap bits 56 to 63 are the number of the
+   chunk, and a key of a chunk that opens meanwhile is met or not. A walk over all begins at place 0, goes on at the
+   place behind that of each key, and ends before UINT64_MAX.
+
+   Threads and signals: as of a pass. Stack: measured at most 4 KiB. */
+
+/* Finds the first live key at a place from `from` on and before `before`, and writes it with its value. It writes
+   nothing to shared memory and takes no hold. It takes one atomic load for a place without a live key, at most 21 for
+   each that it passes, and w + 5 for a value of w words. NO_KEY, if no key is met; EMPTY, OVERLAP.
+
+       shardheap_live_key met = {0, 0, 0, {0}};
+       while (shardheap_next_live(&pass, met.behind, UINT64_MAX, &met) == SHARDHEAP_OK) count += met.length; */
+SHARDHEAP_API uint32_t shardheap_next_live(shardheap_pass *pass, uint64_t from, uint64_t before,
+                                           shardheap_live_key *next) {
+    if (!pass || !next) return SHARDHEAP_NULL;
+    if (shardheap_overlap(next, sizeof *next, pass, sizeof *pass)) return SHARDHEAP_OVERLAP;
+    uint32_t code = shardheap_begin_pass(pass);
+    if (code != SHARDHEAP_OK) return code;
+    code = shardheap_raw_next_live(pass, from, before, next);
+    if (code == SHARDHEAP_OK) next->key = shardheap_marked(pass->seal.mark, next->key);
+    return shardheap_end(&pass->seal, code);
+}
+
+/* The same with a hold on the key, in place of its value, so that the value can be read until the hold is given back.
+   HOLDS_FULL, if a key is met and the pass has 16 holds, or in a growing heap 16 in the key's chunk: after a release, a
+   call from the same place on goes on. NO_KEY, EMPTY, OVERLAP.
+
+       shardheap_held_key held = {0, 0, 0};
+       code = shardheap_next_held(&pass, 0, UINT64_MAX, &held);    the first live key
+       if (code == SHARDHEAP_OK && held.held) code = shardheap_release(&pass, held.key); */
+SHARDHEAP_API uint32_t shardheap_next_held(shardheap_pass *pass, uint64_t from, uint64_t before,
+                                           shardheap_held_key *next) {
+    if (!pass || !next) return SHARDHEAP_NULL;
+    if (shardheap_overlap(next, sizeof *next, pass, sizeof *pass)) return SHARDHEAP_OVERLAP;
+    uint32_t code = shardheap_begin_pass(pass);
+    if (code != SHARDHEAP_OK) return code;
+    code = shardheap_raw_next_held(pass, from, before, next);
+    if (code == SHARDHEAP_OK) next->key = shardheap_marked(pass->seal.mark, next->key);
+    return shardheap_end(&pass->seal, code);
+}
+
+/* Walks over all keys, and removes each key for which `predicate` is true and that nobody else removed. It writes to
+   `count` how many it removed. `predicate` is called with `context` and each key that is met, and makes no call of this
+   pass: in checked mode that is BUSY. EMPTY, OVERLAP, with nothing written.
+
+       static bool is_over(void *now, const shardheap_live_key *met) { return met->words[0] <= *(uint64_t *)now; }
+       ..
+       code = shardheap_remove_if(&pass, is_over, &now, &count); */
+SHARDHEAP_API uint32_t shardheap_remove_if(shardheap_pass *pass, shardheap_predicate *predicate, void *context,
+                                           uint64_t *count) {
+    if (!pass || !predicate || !count) return SHARDHEAP_NULL;
+    if (shardheap_overlap(count, sizeof *count, pass, sizeof *pass)) return SHARDHEAP_OVERLAP;
+    uint32_t code = shardheap_begin_pass(pass);
+    if (code != SHARDHEAP_OK) return code;
+    shardheap_live_key met = {0, 0, 0, {0}};
+    uint64_t removed = 0;
+    while ((code = shardheap_raw_next_live(pass, met.behind, UINT64_MAX, &met)) == SHARDHEAP_OK) {
+        uint64_t key = met.key;
+        met.key = shardheap_marked(pass->seal.mark, key);
+        if (predicate(context, &met) && shardheap_raw_remove(pass, key) == SHARDHEAP_OK) removed++;
+    }
+    if (code != SHARDHEAP_NO_KEY) return shardheap_end(&pass->seal, code);
+    *count = removed;
+    return shardheap_end(&pass->seal, SHARDHEAP_OK);
 }
 
 /* ---- Receipts ----

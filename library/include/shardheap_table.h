@@ -84,6 +84,7 @@ uint32_t shardheap_table_raw_get(shardheap_places *of, uint64_t at, uint64_t *wo
 uint32_t shardheap_table_raw_contains(shardheap_places *of, uint64_t at);
 uint32_t shardheap_table_raw_remove(shardheap_places *of, uint64_t at);
 uint32_t shardheap_table_raw_take(shardheap_places *of, uint64_t at, uint64_t *words, size_t room, uint64_t *length);
+uint32_t shardheap_table_raw_next(shardheap_places *of, uint64_t from, shardheap_live_key *next);
 uint64_t shardheap_table_raw_length(shardheap_places *of);
 uint64_t shardheap_table_raw_capacity(shardheap_places *of, uint32_t words);
 uint64_t shardheap_table_raw_bytes(shardheap_places *of);
@@ -215,6 +216,40 @@ SHARDHEAP_API uint32_t shardheap_table_remove(shardheap_table *table, uint64_t k
 SHARDHEAP_API uint32_t shardheap_table_take(shardheap_table *table, uint64_t key, uint64_t *words, size_t room,
                                             uint64_t *length) {
     return shardheap_table_fill(shardheap_table_raw_take, table, key, words, room, length);
+}
+
+/* Finds the first live key at a place from `from` on, and writes it with its value and the place behind it. A walk
+   begins at place 0, and goes on behind each key. It meets the live keys in the order of their places, each place once.
+   A key that is live from its begin to its end is met. One that is inserted or removed meanwhile is met or not, and a
+   key that is met was live at that moment. Between two calls of a walk the thread has no place and no lock for it, so
+   that it may make any other call, and another thread may go on. NO_KEY, if no key is met; NO_PLACE, EMPTY, OVERLAP.
+
+       shardheap_live_key found = {0, 0, 0, {0}};
+       while (shardheap_table_next(&table, found.behind, &found) == SHARDHEAP_OK) count += found.length; */
+SHARDHEAP_API uint32_t shardheap_table_next(const shardheap_table *table, uint64_t from, shardheap_live_key *next) {
+    if (!table || !next) return SHARDHEAP_NULL;
+    if (shardheap_overlap(next, sizeof *next, table, sizeof *table)) return SHARDHEAP_OVERLAP;
+    uint32_t code = shardheap_table_opened(table);
+    return code == SHARDHEAP_OK ? shardheap_table_raw_next(table->at, from, next) : code;
+}
+
+/* Walks over all keys, and removes each key for which `predicate` is true and that nobody else removed. It writes to
+   `count` how many it removed. `predicate` is called with `context` and each key that is met, and may call the table.
+   EMPTY, OVERLAP, with nothing written; NO_PLACE, with the count until then.
+
+       code = shardheap_table_remove_if(&table, is_over, &now, &count);    see shardheap_remove_if */
+SHARDHEAP_API uint32_t shardheap_table_remove_if(shardheap_table *table, shardheap_predicate *predicate, void *context,
+                                                 uint64_t *count) {
+    if (!table || !predicate || !count) return SHARDHEAP_NULL;
+    if (shardheap_overlap(count, sizeof *count, table, sizeof *table)) return SHARDHEAP_OVERLAP;
+    uint32_t code = shardheap_table_opened(table);
+    if (code != SHARDHEAP_OK) return code;
+    shardheap_live_key met = {0, 0, 0, {0}};
+    uint64_t removed = 0;
+    while ((code = shardheap_table_raw_next(table->at, met.behind, &met)) == SHARDHEAP_OK)
+        if (predicate(context, &met) && shardheap_table_raw_remove(table->at, met.key) == SHARDHEAP_OK) removed++;
+    *count = removed;
+    return code == SHARDHEAP_NO_KEY ? (uint32_t)SHARDHEAP_OK : code;
 }
 
 /* How many values the table has: exact if no call runs, and otherwise off by at most the calls that run. 0 of an empty

@@ -66,6 +66,12 @@ fn a_slab_is_shared_while_all_its_values_are_looked_at(mut slab: Slab<String>, k
     drop(all);
 }
 
+fn an_entry_of_a_walk_outlives_its_slab(slab: Slab<String>) {
+    let entry = slab.iter().next();
+    drop(slab); //~ E0505
+    drop(entry);
+}
+
 fn all_values_are_looked_at_while_one_has_a_guard(mut slab: Slab<String>, key: usize) {
     let entry = slab.get(key);
     slab.unique_iter(); //~ E0502

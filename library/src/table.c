@@ -129,6 +129,15 @@ uint32_t shardheap_table_raw_take(shardheap_places *of, uint64_t at, uint64_t *w
     return it ? take_by(it, at, words, room, length) : take_slowly(of, at, words, room, length);
 }
 
+uint32_t shardheap_table_raw_next(shardheap_places *of, uint64_t from, shardheap_live_key *next) {
+    turn it;
+    uint32_t code = begin_turn(of, &it);
+    if (code != SHARDHEAP_OK) return code;
+    code = shardheap_raw_next_live(&it.place->pass, from, UINT64_MAX, next);
+    end_turn(of, &it);
+    return code;
+}
+
 uint64_t shardheap_table_raw_length(shardheap_places *of) {
     int64_t sum = 0;
     for (int n = 0; n < PLACES; n++) sum += atomic_load_explicit(&of->all[n].count, memory_order_relaxed);

@@ -3,7 +3,6 @@
 #define GEARLONGAN_PASSES_HPP
 
 #include "gearlongan/inserters.hpp"
-#include "gearlongan/ranges.hpp"
 
 #include <cstdint>
 

@@ -1,9 +1,11 @@
-// The keys of a heap or of a shard as a range. A part of shardheap.hpp, which says what holds of all.
+// The keys of a heap or of a shard, and the live keys that a walk meets, as ranges. A part of shardheap.hpp, which says
+// what holds of all.
 #ifndef GEARLONGAN_RANGES_HPP
 #define GEARLONGAN_RANGES_HPP
 
 #include "gearlongan/errors.hpp"
 #include "gearlongan/keys.hpp"
+#include "gearlongan/values.hpp"
 
 #include <cstddef>
 #include <cstdint>
@@ -12,30 +14,38 @@
 namespace gearlongan {
 
 class heap;
+class reader;
 class shard;
 
+/// A live key that a walk met, with its value.
+struct live_key {
+    gearlongan::key key;
+    gearlongan::value value;
+};
+
 #if defined(__cpp_exceptions)
-/// The keys of a heap whose passes were gathered (heap::keys), or of a shard (shard::keys), as a range of input
-/// iterators. It and its iterators refer to that object, which is not moved or destroyed while they are used. A begin
-/// and an increment are a try_next_key of it, and throw what that refuses, except no_key: that is the end.
+/// The keys of a heap whose passes were gathered (heap::keys) or of a shard (shard::keys), or the live keys that a walk
+/// meets (reader::walk), as a range of input iterators. It and its iterators refer to that object, which is not moved
+/// or destroyed while they are used. A begin and an increment are a try_next_key or a try_next_live of it, and throw
+/// what that refuses, except no_key: that is the end.
 ///
 ///     const gearlongan::shard_key_range range = shard.keys();
 ///     assert(std::vector<gearlongan::key>(range.begin(), range.end()) == std::vector<gearlongan::key>{key});
-template <class T> class keys_of {
+template <class T, class Met> class range_of {
 public:
     class iterator {
     public:
         using iterator_category = std::input_iterator_tag;
-        using value_type = key;
+        using value_type = Met;
         using difference_type = std::ptrdiff_t;
-        using pointer = const key *;
-        using reference = const key &;
+        using pointer = const Met *;
+        using reference = const Met &;
 
         iterator() noexcept = default; ///< The end.
-        [[nodiscard]] reference operator*() const noexcept { return key_; }
-        [[nodiscard]] pointer operator->() const noexcept { return &key_; }
+        [[nodiscard]] reference operator*() const noexcept { return met_; }
+        [[nodiscard]] pointer operator->() const noexcept { return &met_; }
         iterator &operator++() {
-            const errc code = of_->try_next_key(place_, key_);
+            const errc code = next(*of_, place_, met_);
             if (code == errc::no_key) return *this = iterator();
             detail::check(code);
             return *this;
@@ -52,11 +62,15 @@ public:
         friend bool operator!=(const iterator &a, const iterator &b) noexcept { return !(a == b); }
 
     private:
-        friend class keys_of;
+        friend class range_of;
         explicit iterator(T &of) : of_(&of) { ++*this; }
+        static errc next(T &of, std::uint64_t &place, key &into) noexcept { return of.try_next_key(place, into); }
+        static errc next(T &of, std::uint64_t &place, live_key &into) noexcept {
+            return of.try_next_live(place, into);
+        }
         T *of_ = nullptr;
         std::uint64_t place_ = 0;
-        key key_;
+        Met met_;
     };
 
     [[nodiscard]] iterator begin() const { return iterator(*of_); }
@@ -64,13 +78,14 @@ public:
 
 private:
     friend T;
-    explicit keys_of(T &of) noexcept : of_(&of) {}
+    explicit range_of(T &of) noexcept : of_(&of) {}
     T *of_;
 };
 
-/// The ranges of keys of a heap and of a shard.
-using key_range = keys_of<heap>;
-using shard_key_range = keys_of<shard>;
+/// The ranges of keys of a heap and of a shard, and of the live keys that a pass, a shard or a caller meets.
+using key_range = range_of<heap, key>;
+using shard_key_range = range_of<shard, key>;
+using live_range = range_of<reader, live_key>;
 #endif
 
 } // namespace gearlongan

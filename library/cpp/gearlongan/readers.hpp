@@ -3,6 +3,7 @@
 #define GEARLONGAN_READERS_HPP
 
 #include "gearlongan/keys.hpp"
+#include "gearlongan/ranges.hpp"
 #include "gearlongan/receipts.hpp"
 #include "gearlongan/values.hpp"
 
@@ -127,6 +128,44 @@ public:
         return code;
     }
 
+    /// Finds the first live key of the heap at a place or behind it, with its value. Places are numbers of slots over
+    /// the whole heap, and `place` becomes the one behind that of the key. A walk is a loop that begins at place 0. It
+    /// meets the live keys in the order of their places, each place once. A key that is live from its begin to its end
+    /// is met; one that is inserted or removed meanwhile is met or not, and a key that is met was live at that moment.
+    /// It takes no hold. no_key, if no key is met.
+    ///
+    ///     std::uint64_t place = 0;
+    ///     gearlongan::live_key met;
+    ///     assert(pass.try_next_live(place, met) == gearlongan::errc::ok && met.key == key && met.value[1] == 8);
+    ///     assert(pass.try_next_live(place, met) == gearlongan::errc::no_key);
+    errc try_next_live(std::uint64_t &place, live_key &into) noexcept {
+        shardheap_live_key met; // NOLINT(cppcoreguidelines-pro-type-member-init,hicpp-member-init)
+        const auto code = static_cast<errc>(shardheap_next_live(&raw_, place, UINT64_MAX, &met));
+        if (code != errc::ok) return code;
+        place = met.behind;
+        into.key = gearlongan::key(met.key);
+        into.value.fill({met.words, static_cast<std::size_t>(met.length)});
+        return code;
+    }
+
+    /// Walks over all keys, and removes each key for which `predicate` is true and that nobody else removed. It writes
+    /// to `removed` how many it removed. `predicate` is called with a gearlongan::key and a const gearlongan::value &,
+    /// and makes no call of this pass.
+    ///
+    ///     std::uint64_t removed = 0;
+    ///     const auto is_seven = [](gearlongan::key, const gearlongan::value &value) { return value[0] == 7; };
+    ///     assert(pass.try_remove_if(is_seven, removed) == gearlongan::errc::ok && removed == 1);
+    template <class Predicate> errc try_remove_if(Predicate &&predicate, std::uint64_t &removed) {
+        live_key met;
+        std::uint64_t place = 0, count = 0;
+        errc code = try_next_live(place, met);
+        for (; code == errc::ok; code = try_next_live(place, met))
+            if (predicate(met.key, std::as_const(met.value)) && try_remove(met.key) == errc::ok) count++;
+        if (code != errc::no_key) return code;
+        removed = count;
+        return errc::ok;
+    }
+
     /// Makes a receipt into an empty one. It covers all calls of this pass until now, and what the receipts cover that
     /// the pass heeded. memory; occupied, if `into` is not empty.
     ///
@@ -230,6 +269,21 @@ public:
         std::optional<T> record = load_record<T>(of);
         if (record && !remove(of)) record.reset();
         return record;
+    }
+
+    /// The live keys of the heap with their values, as try_next_live meets them.
+    ///
+    ///     for (const auto &[met, value] : pass.walk()) assert(met == key && value[1] == 8);
+    [[nodiscard]] live_range walk() & noexcept { return live_range(*this); }
+
+    /// Removes each key for which `predicate` is true, as try_remove_if does, and returns how many.
+    ///
+    ///     assert(pass.remove_if([](gearlongan::key, const gearlongan::value &value) { return value[0] == 7; }) == 1);
+    ///     assert(!pass.load(key));
+    template <class Predicate> std::uint64_t remove_if(Predicate &&predicate) {
+        std::uint64_t removed = 0;
+        detail::check(try_remove_if(predicate, removed));
+        return removed;
     }
 
     /// Makes a receipt, which covers all calls of this pass until now.

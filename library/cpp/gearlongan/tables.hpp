@@ -9,7 +9,9 @@
 #include <cstdint>
 #include <cstring>
 #include <functional>
+#include <iterator>
 #include <optional>
+#include <utility>
 
 namespace gearlongan {
 
@@ -123,6 +125,52 @@ public:
         return words.copied(shardheap_table_take(raw(), of.number(), words.all, words.most, &words.length), into);
     }
 
+    /// Meets the first key at a place or behind it, and copies its record. `place` becomes the one behind the key. A
+    /// walk is a loop that begins at place 0. It meets the live keys in the order of their places, each place once. A
+    /// key that is live from its begin to its end is met; one that is inserted or removed meanwhile is met or not, and
+    /// a key that is met was live at that moment. Between two calls the walk has no place of the table and no lock.
+    /// no_key, if no key is met; no_place.
+    ///
+    ///     auto numbers = gearlongan::table<double>::open();
+    ///     const auto half = numbers.insert(0.5);
+    ///     std::uint64_t place = 0;
+    ///     gearlongan::key_of<double> met;
+    ///     double number = 0;
+    ///     assert(numbers.try_next(place, met, number) == gearlongan::errc::ok && met == half && number == 0.5);
+    ///     assert(numbers.try_next(place, met, number) == gearlongan::errc::no_key);
+    errc try_next(std::uint64_t &place, key_type &met, R &into) const noexcept {
+        shardheap_live_key next; // NOLINT(cppcoreguidelines-pro-type-member-init,hicpp-member-init)
+        const errc code = find_next(place, next);
+        if (code != errc::ok) return code;
+        met = key_type(next.key);
+        std::memcpy(static_cast<void *>(&into), next.words, sizeof(R));
+        return code;
+    }
+
+    /// Walks over all keys, and removes each for which `predicate` is true and that nobody else removed. It writes to
+    /// `removed` how many it removed. `predicate` is called with a key and a const R &, and may call the table.
+    /// no_place.
+    ///
+    ///     auto numbers = gearlongan::table<double>::open();
+    ///     const auto half = numbers.insert(0.5);
+    ///     std::uint64_t removed = 0;
+    ///     const auto is_half = [](gearlongan::key_of<double>, double number) { return number == 0.5; };
+    ///     assert(numbers.try_remove_if(is_half, removed) == gearlongan::errc::ok && removed == 1);
+    ///     assert(numbers.try_contains(half) == gearlongan::errc::gone);
+    template <class Predicate> errc try_remove_if(Predicate &&predicate, std::uint64_t &removed) {
+        shardheap_live_key next; // NOLINT(cppcoreguidelines-pro-type-member-init,hicpp-member-init)
+        std::uint64_t place = 0, count = 0;
+        errc code = find_next(place, next);
+        for (; code == errc::ok; code = find_next(place, next)) {
+            detail::record_room<R> room;
+            room.fill(next.words);
+            const key_type met(next.key);
+            if (predicate(met, std::as_const(room.record)) && try_remove(met) == errc::ok) count++;
+        }
+        removed = count;
+        return code == errc::no_key ? errc::ok : code;
+    }
+
     /// Takes a place for this thread beforehand. Calls are served without it. memory, no_place.
     ///
     ///     auto numbers = gearlongan::table<double>::open();
@@ -214,6 +262,78 @@ public:
         return room.record;
     }
 
+    /// A key that a walk met, with a copy of its record.
+    struct entry {
+        key_type key;
+        R record;
+    };
+
+    /// A walk, as an input iterator. It refers to the table, which is not moved or closed while it is used. A begin and
+    /// an increment are a try_next, and throw what that refuses, except no_key: that is the end.
+    class iterator {
+    public:
+        using iterator_category = std::input_iterator_tag;
+        using value_type = entry;
+        using difference_type = std::ptrdiff_t;
+        using pointer = const entry *;
+        using reference = const entry &;
+
+        iterator() noexcept = default; ///< The end.
+        [[nodiscard]] reference operator*() const noexcept { return *met_; }
+        [[nodiscard]] pointer operator->() const noexcept { return &*met_; }
+        iterator &operator++() {
+            shardheap_live_key next; // NOLINT(cppcoreguidelines-pro-type-member-init,hicpp-member-init)
+            const errc code = of_->find_next(place_, next);
+            met_.reset();
+            if (code == errc::no_key) {
+                of_ = nullptr;
+                place_ = 0;
+                return *this;
+            }
+            detail::check(code);
+            detail::record_room<R> room;
+            room.fill(next.words);
+            met_.emplace(entry{key_type(next.key), room.record});
+            return *this;
+        }
+        iterator operator++(int) {
+            iterator before = *this;
+            ++*this;
+            return before;
+        }
+
+        friend bool operator==(const iterator &a, const iterator &b) noexcept {
+            return a.of_ == b.of_ && a.place_ == b.place_;
+        }
+        friend bool operator!=(const iterator &a, const iterator &b) noexcept { return !(a == b); }
+
+    private:
+        friend class table;
+        explicit iterator(const table &of) : of_(&of) { ++*this; }
+        const table *of_ = nullptr;
+        std::uint64_t place_ = 0;
+        std::optional<entry> met_;
+    };
+
+    /// All keys with copies of their records, as try_next meets them.
+    ///
+    ///     auto numbers = gearlongan::table<double>::open();
+    ///     const auto half = numbers.insert(0.5);
+    ///     for (const auto &[met, number] : numbers) assert(met == half && number == 0.5);
+    [[nodiscard]] iterator begin() const { return iterator(*this); }
+    [[nodiscard]] iterator end() const noexcept { return {}; }
+
+    /// Removes each key for which `predicate` is true, as try_remove_if does, and returns how many.
+    ///
+    ///     auto numbers = gearlongan::table<double>::open();
+    ///     const auto half = numbers.insert(0.5);
+    ///     assert(numbers.remove_if([half](gearlongan::key_of<double> met, double) { return met == half; }) == 1);
+    template <class Predicate> std::uint64_t remove_if(Predicate &&predicate) {
+        std::uint64_t removed = 0;
+        detail::check(try_remove_if(predicate, removed));
+        return removed;
+    }
+
     /// Takes a place for this thread beforehand, as try_enter does.
     ///
     ///     auto numbers = gearlongan::table<double>::open();
@@ -228,6 +348,16 @@ public:
 #endif
 
 private:
+    // Meets the first key at a place or behind it that has a record. (A call of C may have stored another value.)
+    errc find_next(std::uint64_t &place, shardheap_live_key &next) const noexcept {
+        do {
+            const auto code = static_cast<errc>(shardheap_table_next(raw(), place, &next));
+            if (code != errc::ok) return code;
+            place = next.behind;
+        } while (next.length != detail::words_of<R>);
+        return errc::ok;
+    }
+
     // What a get and a take read into.
     struct words_read {
         static constexpr std::size_t most = detail::words_of<R>;

@@ -4,13 +4,12 @@
 //! `end TOKEN` ends the session. A token is the key of the session: one that was ended, or whose time is over, finds
 //! nothing, for ever. (A key is no secret. A real server adds a random number to the record and to the token.)
 //!
-//! A queue has the time at which each session ends, in order, so that the janitor looks at no other.
+//! A janitor walks over the table now and then, and removes the sessions whose time is over.
 use gearlongan::table::Key;
 use gearlongan::Table;
-use std::collections::VecDeque;
 use std::io::{self, BufRead, BufReader, Write};
 use std::net::{SocketAddr, TcpListener, TcpStream};
-use std::sync::{Arc, Mutex, PoisonError};
+use std::sync::Arc;
 use std::thread;
 use std::time::{Duration, Instant};
 
@@ -21,38 +20,30 @@ gearlongan::record! {
     #[derive(Clone, Copy, Debug, PartialEq)]
     struct Session {
         user: u32,
-        opened: u64,
+        until: u64, // milliseconds after the start of the server
     }
 }
 
 /// What all connections share.
 struct Sessions {
     table: Table<Session>,
-    ends: Mutex<VecDeque<(Instant, Key<Session>)>>,
     start: Instant,
 }
 
 impl Sessions {
     fn new() -> Sessions {
-        Sessions { table: Table::new(), ends: Mutex::default(), start: Instant::now() }
+        Sessions { table: Table::new(), start: Instant::now() }
     }
 
     fn open(&self, user: u32) -> Result<Key<Session>, gearlongan::Error> {
-        let now = Instant::now();
-        let opened = now.duration_since(self.start).as_millis() as u64;
-        let key = self.table.insert(&Session { user, opened })?;
-        self.ends.lock().unwrap_or_else(PoisonError::into_inner).push_back((now + LIFETIME, key));
-        Ok(key)
+        let until = (self.start.elapsed() + LIFETIME).as_millis() as u64;
+        self.table.insert(&Session { user, until })
     }
 
     /// Removes the sessions whose time is over: how many this call removed. Others were ended before.
     fn sweep(&self) -> usize {
-        let now = Instant::now();
-        let mut ends = self.ends.lock().unwrap_or_else(PoisonError::into_inner);
-        let over = ends.partition_point(|(end, _)| *end <= now);
-        let keys: Vec<_> = ends.drain(..over).collect();
-        drop(ends);
-        keys.iter().filter(|(_, key)| self.table.remove(*key)).count()
+        let now = self.start.elapsed().as_millis() as u64;
+        self.table.remove_if(|_, session| session.until <= now)
     }
 
     /// The reply to a line of a client.

@@ -167,7 +167,8 @@ impl Caller {
     ///
     /// # Errors
     ///
-    /// [`Error::TooLong`], [`Error::Memory`], and [`Error::Full`] if the heap may have no more chunks.
+    /// [`Error::TooLong`], [`Error::Memory`], and [`Error::Full`] if the heap may have no more chunks, and each shard
+    /// that no other caller owns is full after a collect.
     ///
     /// ```
     /// # use gearlongan::{Error, Heap, Room};
@@ -201,6 +202,21 @@ impl Caller {
     #[inline]
     pub fn insert_record<R: Record>(&self, record: &R) -> Result<Key, Error> {
         with_words(record, |words| self.insert(words))
+    }
+
+    /// Removes keys of all chunks, as [`Pass::remove_if`] does.
+    ///
+    /// ```
+    /// # use gearlongan::{Error, Heap, Room};
+    /// # let heap = Heap::growing(Room { owners: 1, values: 1, words: 1, passes: 1 }, 256)?;
+    /// let mut caller = heap.take()?;
+    /// (0..1000).try_for_each(|n| caller.insert(&[n]).map(|_| ()))?;
+    /// assert_eq!(caller.remove_if(|_, words| words[0] < 900), 900);
+    /// assert_eq!(caller.walk().count(), 100);
+    /// # Ok::<(), Error>(())
+    /// ```
+    pub fn remove_if(&mut self, predicate: impl FnMut(Key, &[u64]) -> bool) -> usize {
+        self.pass.remove_if(predicate)
     }
 
     /// Collects what others freed in each shard that the caller owns, so that pages of which nothing is used may take

@@ -45,10 +45,16 @@ pub struct Guard<'p> {
 }
 
 impl<'p> Guard<'p> {
+    // The pass has a hold on the key for it.
+    #[inline]
+    pub(crate) fn of(pass: &'p PassHandle, key: Key) -> Guard<'p> {
+        Guard { pass, key, value: Kept::unread() }
+    }
+
     #[inline]
     pub(crate) fn take(pass: &'p PassHandle, key: Key) -> Result<Guard<'p>, Error> {
         pass.get(key)?;
-        Ok(Guard { pass, key, value: Kept::unread() })
+        Ok(Guard::of(pass, key))
     }
 
     /// The key that is held.

@@ -51,6 +51,12 @@
 //! takes w + 4 atomic loads for a value of w words, and at most 20 if the key was removed. A [`get`](Pass::get) pins
 //! the value in place. It and the drop of its guard each change a word that all readers of the key share.
 //!
+//! # Walks
+//!
+//! A walk ([`Pass::walk`], [`Table::iter`]) meets the live keys in the order of their places, each place once. A key
+//! that is live from its begin to its end is met. One that is inserted or removed meanwhile is met or not, and a key
+//! that is met was live at that moment.
+//!
 //! # Threads
 //!
 //! | Type | [`Send`] | [`Sync`] | So |
@@ -154,6 +160,7 @@ mod threads;
 #[cfg(not(feature = "record"))]
 mod unrecorded;
 mod value;
+mod walk;
 mod words;
 
 #[cfg(not(feature = "record"))]
@@ -181,3 +188,4 @@ pub use shard::Shard;
 #[cfg(target_pointer_width = "64")]
 pub use table::Table;
 pub use value::{Value, MAX_WORDS};
+pub use walk::{HeldWalk, Walk};

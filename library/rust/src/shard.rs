@@ -199,6 +199,20 @@ impl Shard {
         ShardKeys::of(&self.pass.handle)
     }
 
+    /// Removes keys of the whole heap, as [`Pass::remove_if`] does.
+    ///
+    /// ```
+    /// # use gearlongan::{Error, Heap, Layout, Shape};
+    /// # let heap = Heap::open(Layout::Wide, Shape { shards: 1, segments: 1, passes: 1 })?;
+    /// let mut shard = heap.take()?.adopt(0)?;
+    /// let key = shard.insert(&[7])?;
+    /// assert_eq!(shard.remove_if(|met, words| met == key && *words == [7]), 1);
+    /// # Ok::<(), Error>(())
+    /// ```
+    pub fn remove_if(&mut self, predicate: impl FnMut(Key, &[u64]) -> bool) -> usize {
+        self.pass.remove_if(predicate)
+    }
+
     /// Leaves the shard, with all that is in it, to the pass that adopts it next, and gets the pass back.
     ///
     /// # Errors

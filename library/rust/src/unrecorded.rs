@@ -1,5 +1,6 @@
 //! What replaces the module `history` without the feature `record`: nothing is kept, and each call is only made.
 use crate::error::Error;
+use crate::ffi::LiveKey;
 use crate::key::Key;
 use crate::value::Value;
 
@@ -63,6 +64,19 @@ impl Log {
         call: impl FnOnce(&mut Value) -> Result<(), Error>,
     ) -> Result<(), Error> {
         call(value)
+    }
+
+    #[inline(always)]
+    pub(crate) fn next_live(&self, met: &mut LiveKey, call: impl FnOnce(&mut LiveKey) -> bool) -> bool {
+        call(met)
+    }
+
+    #[inline(always)]
+    pub(crate) fn next_held(
+        &self,
+        call: impl FnOnce() -> Result<Option<(Key, bool)>, Error>,
+    ) -> Result<Option<(Key, bool)>, Error> {
+        call()
     }
 
     pub(crate) fn close(&mut self) {}

@@ -22,6 +22,7 @@ pub const MAX_WORDS: usize = 16;
 /// # Ok::<(), Error>(())
 /// ```
 #[derive(Clone, Copy)]
+#[repr(transparent)]
 pub struct Value {
     pub(crate) words: Words,
 }

@@ -6,8 +6,9 @@ use std::cell::{Cell, UnsafeCell};
 use std::mem::MaybeUninit;
 use std::slice;
 
-/// A number of words, at most 16.
+/// A number of words, at most 16. C has a length and words in this order too.
 #[derive(Clone, Copy)]
+#[repr(C)]
 pub(crate) struct Words {
     // At most 16, and as many words are written.
     length: usize,

@@ -43,6 +43,30 @@ fn a_load_is_recorded_as_a_look_and_a_take_in_parts() -> Result<(), Error> {
 }
 
 #[test]
+fn a_walk_is_recorded_as_looks_or_gets() -> Result<(), Error> {
+    let (heap, recording) = recorded(Layout::Tiny, 2);
+    let (shard, mut pass) = (heap.take()?.adopt(0)?, heap.take()?);
+    let (one, other) = (shard.insert(&[7, 8])?, shard.insert(&[])?);
+    let guards = [shard.get(one)?, shard.get(one)?, shard.get(one)?, shard.get(one)?];
+    let walked: Vec<Result<usize, Error>> = pass.walk_held().map(|guard| guard.map(|guard| guard.len())).collect();
+    assert_eq!(walked, [Err(Error::Crowded), Ok(0)]);
+    assert_eq!(pass.remove_if(|key, _| key == other), 1);
+    drop(guards);
+    drop((shard, pass));
+    let of_pass = lines(&recording).into_iter().filter_map(|line| line.strip_prefix("1 ").map(str::to_string));
+    let wanted = [
+        format!("Crowded {one}"),
+        format!("Got {other} 0"),
+        format!("Released {other}"),
+        format!("Seen {one} 2 7 8"),
+        format!("Seen {other} 0"),
+        format!("Removed {other}"),
+    ];
+    assert_eq!(of_pass.collect::<Vec<_>>(), wanted);
+    Ok(())
+}
+
+#[test]
 fn a_value_is_recorded_if_it_was_read() -> Result<(), Error> {
     let (heap, recording) = recorded(Layout::Wide, 1);
     let shard = heap.take()?.adopt(1)?;

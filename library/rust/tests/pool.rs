@@ -207,6 +207,22 @@ fn a_value_whose_clear_panics_is_dropped() {
 const SMALL_ROOM: usize = 4 * 384;
 
 #[test]
+fn a_walk_meets_what_is_shared_and_not_removed() {
+    let pool: Pool<String> = Pool::new();
+    let keys: Vec<usize> = (0..200).flat_map(|n| pool.create_with(|text| text.push_str(&n.to_string()))).collect();
+    let (written, held) = (pool.create(), pool.get(keys[7]));
+    assert!(keys.iter().skip(7).step_by(10).all(|key| pool.clear(*key)));
+    let met = || pool.iter().map(|text| text.key()).collect::<Vec<_>>();
+    let there: Vec<usize> = keys.iter().copied().filter(|key| pool.get(*key).is_some()).collect();
+    assert_eq!((met(), there.len()), (there, 180));
+    pool.retain(|key, text| pool.get(key).is_some_and(|same| *same == *text) && text.ends_with('0'));
+    assert_eq!(met(), keys.iter().copied().step_by(10).collect::<Vec<_>>());
+    assert!(held.is_some_and(|text| *text == "7"));
+    drop(written);
+    assert_eq!(met().len(), 21);
+}
+
+#[test]
 fn a_full_pool_returns_none() {
     let pool: Arc<Pool<String, Small>> = Arc::new(Pool::<String>::new_with_config());
     let keys: Vec<usize> = std::iter::from_fn(|| pool.create_with(|_| {})).collect();

@@ -122,6 +122,47 @@ fn a_slab_grows_and_finds_all_values() {
     }
 }
 
+/// Where a value is: its heap, and the shard, page and slot there.
+fn place(key: usize) -> (usize, usize) {
+    (key >> 52, key % (1 << 20))
+}
+
+#[test]
+fn a_walk_meets_what_keys_find_in_the_order_of_their_places() {
+    let slab = Slab::new();
+    assert_eq!(slab.iter().count(), 0);
+    let mut all: Vec<(usize, usize)> = (0..COUNT).map(|n| (slab.insert(n).expect("there is room"), n)).collect();
+    let (vacant, held) = (slab.vacant_entry(), slab.get(all[3].0));
+    all.retain(|(key, n)| n % 5 != 3 || !slab.remove(*key));
+    all.sort_unstable_by_key(|(key, _)| place(*key));
+    let met = || slab.iter().map(|entry| (entry.key(), *entry)).collect::<Vec<_>>();
+    assert!(vacant.is_some() && held.is_some());
+    assert_eq!(met(), all);
+    // The closure may call the slab.
+    let mut seen = Vec::new();
+    slab.retain(|key, n| {
+        seen.push((key, *n));
+        slab.contains(key) && (n % 2 == 0 || !slab.remove(key))
+    });
+    assert_eq!(seen, all);
+    all.retain(|(_, n)| n % 2 == 0);
+    assert_eq!(met(), all);
+    slab.retain(|_, n| *n == all[0].1);
+    assert_eq!(met(), all[..1]);
+}
+
+#[test]
+fn a_walk_that_ends_early_has_no_value_any_more() {
+    let dropped = Arc::new(AtomicUsize::new(0));
+    let slab = Slab::new();
+    let keys: Vec<usize> = (0..100).flat_map(|n| slab.insert(Counted(n, dropped.clone()))).collect();
+    assert_eq!(slab.iter().nth(50).map(|entry| entry.0), Some(50));
+    assert!(catch_unwind(AssertUnwindSafe(|| slab.retain(|_, value| panic!("at {}", value.0)))).is_err());
+    assert_eq!(dropped.load(SeqCst), 0);
+    assert!(keys.iter().all(|key| slab.remove(*key)));
+    assert_eq!(dropped.load(SeqCst), 100);
+}
+
 #[test]
 fn a_vacant_entry_that_is_dropped_leaves_its_place() {
     let slab = Slab::<u64>::new();

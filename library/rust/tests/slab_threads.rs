@@ -7,9 +7,10 @@ mod small;
 use counted::Counted;
 use gearlongan::slab::Slab;
 use small::Small;
-use std::sync::atomic::{AtomicUsize, Ordering::SeqCst};
+use std::collections::HashSet;
+use std::sync::atomic::{AtomicBool, AtomicUsize, Ordering::SeqCst};
 use std::sync::mpsc::channel;
-use std::sync::{Arc, Barrier};
+use std::sync::{Arc, Barrier, Mutex};
 use std::thread;
 use std::time::Duration;
 
@@ -81,6 +82,45 @@ fn two_hundred_threads() {
                 assert_eq!(keys.len(), 200);
             });
         }
+    });
+}
+
+/// Others insert and remove meanwhile, on the same pages.
+#[test]
+fn a_walk_meets_each_value_that_stays_once() {
+    const STAYS: usize = 7;
+    const GOES: usize = 8;
+    let (slab, stay) = (Slab::new(), Mutex::<HashSet<usize>>::default());
+    let (begin, over) = (Barrier::new(4), AtomicBool::new(false));
+    let work = || {
+        let keys: Vec<usize> = (0..800).flat_map(|n| slab.insert(if n % 2 == 0 { STAYS } else { GOES })).collect();
+        stay.lock().expect("no thread panics").extend(keys.iter().step_by(2));
+        let mut going: Vec<usize> = keys.into_iter().skip(1).step_by(2).collect();
+        begin.wait();
+        while !over.load(SeqCst) {
+            // (A walk may have removed it.)
+            going.drain(..).for_each(|key| _ = slab.remove(key));
+            going.extend((0..400).flat_map(|_| slab.insert(GOES)));
+        }
+    };
+    thread::scope(|scope| {
+        (0..3).for_each(|_| drop(scope.spawn(work)));
+        begin.wait();
+        let stay = stay.lock().expect("no thread panics");
+        let is_right = |sweep| {
+            let mut met: Vec<usize> = Vec::new();
+            match sweep % 2 {
+                0 => met.extend(slab.iter().filter(|entry| **entry == STAYS).map(|entry| entry.key())),
+                _ => slab.retain(|key, value| {
+                    met.extend((*value == STAYS).then_some(key));
+                    *value == STAYS
+                }),
+            }
+            met.len() == stay.len() && met.iter().all(|key| stay.contains(key))
+        };
+        let right = (0..COUNT / 10).filter(|sweep| is_right(*sweep)).count();
+        over.store(true, SeqCst);
+        assert_eq!((right, stay.len()), (COUNT / 10, 1200));
     });
 }
 

@@ -46,6 +46,7 @@ fn use_table() {
             // A place that was free may be taken meanwhile, and then the call finds nothing.
             assert!(matches!(table.get(key), None | Some(7)));
             assert!(table.capacity() > 0 && table.bytes() > 0);
+            assert!(table.keys().take(4).count() <= 4);
             while !table.remove(key) {
                 thread::yield_now();
             }

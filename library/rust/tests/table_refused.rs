@@ -1,5 +1,5 @@
 //! Each allocation that a call of a table makes is refused in turn, those of Rust and those of the heap. An insert is
-//! refused as `Memory` or does without. A get, a take and a remove are never refused, and all is as it was afterwards.
+//! refused as `Memory` or does without. The other calls are never refused, and all is as it was afterwards.
 #![cfg(all(target_os = "linux", target_env = "gnu"))]
 #[path = "common/malloc.rs"]
 mod malloc;
@@ -70,15 +70,16 @@ fn an_insert_is_refused_and_loses_nothing() {
 }
 
 #[test]
-fn get_take_and_remove_are_never_refused() {
+fn get_take_remove_and_walks_are_never_refused() {
     let table = Table::new();
     let all = |number: &usize| {
         let keys: Vec<_> = (0..3).map(|n| table.insert(&n).expect("there is room")).collect();
         table.rest();
         let was_refused = refused(*number, || {
+            assert_eq!((table.keys().count(), table.iter().map(|(_, n)| n).sum::<u64>()), (3, 3));
             assert_eq!((table.get(keys[0]), table.contains(keys[1])), (Some(0), true));
             assert_eq!((table.take(keys[1]), table.remove(keys[2])), (Some(1), true));
-            assert!(table.remove(keys[0]));
+            assert_eq!(table.remove_if(|key, _| key == keys[0]), 1);
         });
         assert!(table.is_empty(), "allocation {number}");
         was_refused

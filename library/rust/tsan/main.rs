@@ -82,6 +82,10 @@ fn slab(threads: usize) {
                 Some(old) => assert!(slab.remove(old)),
                 None => {}
             }
+            if round % 400 == 0 {
+                drop(entry);
+                assert!(slab.iter().all(|value| **value < ROUNDS));
+            }
         }
     });
 }
@@ -145,6 +149,9 @@ fn use_table(table: &Records, board: &Board, number: usize, rounds: usize) {
         }
         if round % 100 == number {
             table.rest();
+        }
+        if round % 400 == number {
+            assert!(table.iter().all(|(_, words)| words == [words[0]; 3]));
         }
     }
 }

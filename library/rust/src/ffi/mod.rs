@@ -43,12 +43,17 @@ fn written<T: Default>(call: impl FnOnce(&mut T) -> u32) -> Result<T, Error> {
 /// The code of the library for no further key.
 const NO_KEY: u32 = 28;
 
+/// Whether a call found a next key, by its code.
+fn is_found(code: u32) -> Result<bool, Error> {
+    match code {
+        NO_KEY => Ok(false),
+        code => told(code).map(|()| true),
+    }
+}
+
 /// What a code means of a call that writes the next key.
 fn next_told(code: u32, key: u64) -> Result<Option<Key>, Error> {
-    match code {
-        NO_KEY => Ok(None),
-        code => told(code).map(|()| Some(Key::from(key))),
-    }
+    Ok(is_found(code)?.then(|| Key::from(key)))
 }
 
 /// What C's `shardheap_page` is: used, class, live, marked, retired, queued.
@@ -76,6 +81,31 @@ impl Loaded {
         told(self.code)?;
         Value::new(&self.words[..MAX_WORDS.min(self.length as usize)])
     }
+}
+
+/// What C's `shardheap_live_key` is: a live key that a walk met, the place behind it, and its value.
+#[repr(C)]
+#[derive(Debug)]
+pub(crate) struct LiveKey {
+    pub(crate) key: Key,
+    behind: u64,
+    pub(crate) value: Value,
+}
+
+impl LiveKey {
+    /// A walk goes on behind it over all keys.
+    pub(crate) fn none() -> LiveKey {
+        LiveKey { key: Key::from(0), behind: 0, value: Value::default() }
+    }
+}
+
+/// What C's `shardheap_held_key` is: the same with a hold in place of the value, or without one.
+#[repr(C)]
+#[derive(Default)]
+struct HeldKey {
+    key: u64,
+    behind: u64,
+    held: u32,
 }
 
 extern "C" {
@@ -116,6 +146,8 @@ extern "C" {
     fn shardheap_raw_load(pass: *mut Raw, key: u64, words: *mut u64, room: usize, length: *mut u64) -> u32;
     fn shardheap_raw_load_each(pass: *mut Raw, loads: *mut Loaded, count: usize) -> u32;
     fn shardheap_raw_take_value(pass: *mut Raw, key: u64, words: *mut u64, room: usize, length: *mut u64) -> u32;
+    fn shardheap_raw_next_live(pass: *mut Raw, from: u64, before: u64, next: *mut LiveKey) -> u32;
+    fn shardheap_raw_next_held(pass: *mut Raw, from: u64, before: u64, next: *mut HeldKey) -> u32;
     fn shardheap_raw_pages_left(pass: *mut Raw, pages: *mut u64) -> u32;
     fn shardheap_raw_slots_out(pass: *mut Raw, slots: *mut u64) -> u32;
     fn shardheap_raw_next_own_key(pass: *mut Raw, place: *mut u64, key: *mut u64) -> u32;

@@ -119,6 +119,34 @@ impl PassHandle {
         }
     }
 
+    /// Meets the first live key behind the one that was met last: whether there is one.
+    #[inline]
+    pub(crate) fn next_live(&self, met: &mut LiveKey) -> bool {
+        self.log.next_live(met, |met| {
+            // SAFETY: as in `get`. The library writes a key, the place behind it, and as many words as the length says.
+            let code = unsafe { shardheap_raw_next_live(self.at(), met.behind, u64::MAX, met) };
+            is_found(code).unwrap_or_else(|error| unreachable!("a walk is not refused: {error}"))
+        })
+    }
+
+    /// The first live key from a place on, which becomes the place behind it; and whether the pass got a hold on it.
+    pub(crate) fn next_held(&self, place: &mut u64) -> Result<Option<(Key, bool)>, Error> {
+        let next = self.log.next_held(|| {
+            let mut met = HeldKey::default();
+            // SAFETY: as in `get`.
+            let code = unsafe { shardheap_raw_next_held(self.at(), *place, u64::MAX, &mut met) };
+            let is_found = is_found(code)?;
+            if is_found {
+                *place = met.behind;
+            }
+            Ok(is_found.then_some((Key::from(met.key), met.held == 1)))
+        })?;
+        if let Some((_, true)) = next {
+            self.holds.set(self.holds.get() + 1);
+        }
+        Ok(next)
+    }
+
     // A batch of loads that are recorded one by one.
     #[cold]
     fn load_one_by_one(&self, keys: &[Key], results: &mut [Result<Value, Error>]) {

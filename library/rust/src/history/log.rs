@@ -1,6 +1,7 @@
 //! What one pass recorded.
 use super::book::Recording;
 use crate::error::Error;
+use crate::ffi::LiveKey;
 use crate::key::Key;
 use crate::value::Value;
 use std::cell::RefCell;
@@ -247,6 +248,29 @@ impl Log {
             Err(error) => entries.borrow_mut().note_refused(span, key, error),
         }
         answer
+    }
+
+    /// A step of a walk: a look at the key that it meets.
+    #[inline]
+    pub(crate) fn next_live(&self, met: &mut LiveKey, call: impl FnOnce(&mut LiveKey) -> bool) -> bool {
+        let Some(entries) = &self.entries else { return call(met) };
+        let (span, is_met) = Span::of(|| call(met));
+        if is_met {
+            entries.borrow_mut().note(span, met.key, Answer::Seen((*met.value).into()));
+        }
+        is_met
+    }
+
+    /// The same with a hold: a get of the key.
+    pub(crate) fn next_held(
+        &self,
+        call: impl FnOnce() -> Result<Option<(Key, bool)>, Error>,
+    ) -> Result<Option<(Key, bool)>, Error> {
+        self.noted(call, |entries, span, answer| match answer {
+            Ok(Some((key, true))) => entries.note_got(span, *key),
+            Ok(Some((key, false))) => entries.note(span, *key, Answer::Crowded),
+            _ => {}
+        })
     }
 
     /// Hands the entries over. It comes before the pass is at home, where another thread may take it.

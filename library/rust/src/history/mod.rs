@@ -42,11 +42,13 @@
 //! | insert | `Ok` | `Insert`, with the value |
 //! | get | `Ok` | `Got`; with the value, if a guard or the pass reads it before the release |
 //! | get, load, take, remove | [`Gone`](crate::Error::Gone) | `Gone` |
-//! | get, load, take | [`Crowded`](crate::Error::Crowded) | `Crowded` |
+//! | get, load, take, walk_held | [`Crowded`](crate::Error::Crowded) | `Crowded` |
 //! | a guard that is dropped | | `Released` |
 //! | remove | `Ok` | `Removed` |
 //! | load | `Ok` | `Seen`, with the value |
 //! | take | `Ok` | `Got`, with the value, `Removed` and `Released` |
+//! | walk, remove_if | a key that is met | `Seen`, with the value |
+//! | walk_held | a guard | `Got`, as of a get |
 //!
 //! A recorded take is made as a get, a read, a removal and a release, and each load of a batch as a call. So each line
 //! has the times of a call of its own. Other refusals say nothing about a key and are not recorded, and neither are the

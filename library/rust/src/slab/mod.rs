@@ -253,6 +253,40 @@ impl<T, C: Config> Slab<T, C> {
         self.get(key).is_some()
     }
 
+    /// Returns a guard of each value, while other threads insert and remove. A value that is there from the begin to
+    /// the end is met once. One that is inserted or removed meanwhile is met or not.
+    ///
+    /// ```
+    /// # use gearlongan::slab::Slab;
+    /// let slab = Slab::new();
+    /// let (seven, eight) = (slab.insert(7), slab.insert(8));
+    /// for entry in slab.iter().filter(|entry| *entry == 7) {
+    ///     assert!(Some(entry.key()) == seven && slab.remove(entry.key()));
+    /// }
+    /// assert_eq!(slab.iter().map(|entry| entry.key()).collect::<Vec<_>>(), Vec::from_iter(eight));
+    /// ```
+    pub fn iter(&self) -> impl Iterator<Item = Entry<'_, T, C>> + '_ {
+        self.store.begin_each().map(|(number, node)| Entry::of(self, node, number as usize))
+    }
+
+    /// Removes each key for which `keep` returns false, of those that [`iter`](Slab::iter) meets. `keep` may call the
+    /// slab.
+    ///
+    /// ```
+    /// # use gearlongan::slab::Slab;
+    /// let slab = Slab::new();
+    /// let (seven, eight) = (slab.insert(7).expect("there is room"), slab.insert(8).expect("there is room"));
+    /// slab.retain(|_, value| *value > 7);
+    /// assert!(!slab.contains(seven) && slab.contains(eight));
+    /// ```
+    pub fn retain(&self, mut keep: impl FnMut(usize, &T) -> bool) {
+        for entry in self.iter() {
+            if !keep(entry.key(), &entry) {
+                self.remove(entry.key());
+            }
+        }
+    }
+
     /// Returns all values, in no order.
     ///
     /// ```

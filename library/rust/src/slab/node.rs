@@ -171,6 +171,12 @@ impl<T> Node<T> {
         false
     }
 
+    /// Becomes a user of the value that a key finds now: the generation of that key.
+    pub(super) fn begin_any(&self) -> Option<u32> {
+        let generation = (self.state.load(Relaxed) >> 32) as u32;
+        self.begin(generation).then_some(generation)
+    }
+
     /// Ends one use: whether it was the last one of a removed key. The node is the caller's alone then, who ends the
     /// value.
     ///
@@ -255,11 +261,11 @@ mod tests {
         let node = node();
         node.fill(7, 'a');
         assert!(!node.begin(6) && !node.begin(8) && node.remove(8) == Removal::Nothing);
-        assert!(node.begin(7));
+        assert_eq!(node.begin_any(), Some(7));
         // SAFETY: it was just begun, and the key was not removed.
         assert!(!unsafe { node.end() });
         assert_eq!(node.remove(7), Removal::Alone);
-        assert!(!node.begin(7) && node.remove(7) == Removal::Nothing);
+        assert!(!node.begin(7) && node.begin_any().is_none() && node.remove(7) == Removal::Nothing);
         // SAFETY: the removal left the node to this test, and a character needs no drop.
         unsafe { node.free(false) };
         node.fill(8, 'b');
@@ -280,7 +286,7 @@ mod tests {
     fn a_written_value_is_found_once_it_is_shared() {
         let node = node();
         node.begin_writing(7, || 'a');
-        assert!(!node.begin(7));
+        assert!(!node.begin(7) && node.begin_any().is_none());
         // SAFETY: the exclusive use is this test's.
         unsafe { node.share() };
         assert!(node.begin(7));

@@ -22,6 +22,16 @@ pub(super) fn number(heap: usize, key: Key) -> u64 {
     (heap as u64) << KEY_BITS | u64::from(key)
 }
 
+/// The number of the first place of a page, of generation 0.
+pub(super) fn first_of_page(heap: usize, shard: usize, page: usize) -> u64 {
+    (heap as u64) << KEY_BITS | (shard as u64) << 14 | (page as u64) << 6
+}
+
+/// The number of the same place with this generation, in place of 0.
+pub(super) fn with_generation(place: u64, generation: u32) -> u64 {
+    place | u64::from(generation) << 20
+}
+
 /// The key without its heap.
 #[inline]
 pub(super) fn key(number: u64) -> Key {
@@ -69,6 +79,7 @@ mod tests {
         assert_eq!(parts(number), (0xABC, 0x1234_5678, 33, 200, 47));
         assert_eq!(super::number(3, Key::from(7 << 20)), 3 << 52 | 7 << 20);
         assert_eq!(key(number), Key::from(number & ((1 << 52) - 1)));
+        assert_eq!(with_generation(first_of_page(0xABC, 33, 200) + 47, 0x1234_5678), number);
         // Each bit changes one of them.
         assert!((0..64).all(|bit| parts(number ^ 1 << bit) != parts(number)));
     }

@@ -148,6 +148,23 @@ impl<T> Places<T> {
         self.node(number)
     }
 
+    /// The nodes of each page of which a key was issued, in the order of their places, with the numbers of these. A
+    /// page whose first key is issued meanwhile is met or not.
+    pub(super) fn nodes(&self) -> impl Iterator<Item = (u64, &Node<T>)> + '_ {
+        self.heaps.iter().enumerate().flat_map(|(heap, pages)| {
+            let table = pages.table.load(Acquire);
+            let of_shard = pages.of_shard.load(Relaxed);
+            let length = if table.is_null() { 0 } else { MOST_SHARDS as usize * of_shard };
+            (0..length).flat_map(move |at| {
+                let first = number::first_of_page(heap, at / of_shard, at % of_shard);
+                // SAFETY: a table has this many entries. It stays as long as `self`, and so does a page that was
+                // published.
+                let page = unsafe { (*table.add(at)).load(Acquire).as_ref() };
+                (first..).zip(page.into_iter().flatten())
+            })
+        })
+    }
+
     // The nodes of each block that was allocated.
     fn blocks_mut(&mut self) -> impl Iterator<Item = &mut [Node<T>]> + '_ {
         self.heaps.iter_mut().flat_map(|pages| {

@@ -186,6 +186,37 @@ impl<T: Clear + Default, C: Config> Pool<T, C> {
         Some(OwnedRef::of(self, node, key))
     }
 
+    /// Returns a guard of each value that a key finds, as [`Slab::iter`](super::Slab::iter) does.
+    ///
+    /// ```
+    /// # use gearlongan::slab::Pool;
+    /// let pool: Pool<String> = Pool::new();
+    /// let key = pool.create_with(|text| text.push_str("hello")).expect("there is room");
+    /// assert!(pool.iter().all(|text| text.key() == key && *text == "hello"));
+    /// assert_eq!(pool.iter().count(), 1);
+    /// ```
+    pub fn iter(&self) -> impl Iterator<Item = Ref<'_, T, C>> + '_ {
+        self.store.begin_each().map(|(number, node)| Ref::of(self, node, number as usize))
+    }
+
+    /// Removes each key for which `keep` returns false, of those that [`iter`](Pool::iter) meets. `keep` may call the
+    /// pool.
+    ///
+    /// ```
+    /// # use gearlongan::slab::Pool;
+    /// let pool: Pool<String> = Pool::new();
+    /// let key = pool.create_with(|text| text.push_str("hello")).expect("there is room");
+    /// pool.retain(|_, text| text.len() < 5);
+    /// assert!(pool.get(key).is_none());
+    /// ```
+    pub fn retain(&self, mut keep: impl FnMut(usize, &T) -> bool) {
+        for value in self.iter() {
+            if !keep(value.key(), &value) {
+                self.clear(value.key());
+            }
+        }
+    }
+
     /// Removes a key, and returns whether this call did. Its value is cleared when its last guard is dropped.
     ///
     /// ```

@@ -174,6 +174,11 @@ impl<T, E: Ending<T>> Store<T, E> {
         Some(unsafe { ptr::read(node.at()) })
     }
 
+    /// Becomes a user of each value that a key finds as its place is met.
+    pub(super) fn begin_each(&self) -> impl Iterator<Item = (u64, &Node<T>)> + '_ {
+        self.places.nodes().filter_map(|(place, node)| Some((number::with_generation(place, node.begin_any()?), node)))
+    }
+
     /// All values whose keys are not removed.
     pub(super) fn values(&mut self) -> impl Iterator<Item = &T> + '_ {
         // SAFETY: a value that a key finds is there, and stays as long as the store is borrowed.

@@ -1,5 +1,6 @@
 //! Which place of a table each thread has.
 use super::places::{is_within, within, Open, Owned, Places};
+use crate::ffi::LiveKey;
 use crate::threads::{number, Leave, Slots};
 use crate::{Error, Key, Room, Value};
 use std::sync::{Arc, Weak};
@@ -88,29 +89,35 @@ impl Members {
     // Whether it succeeds with the place of this thread, or another. `act` takes no memory. False, too, if `elsewhere`
     // finds no place.
     #[inline]
-    fn succeeds(&self, act: impl FnOnce(Open<'_>) -> Result<(), Error>) -> bool {
+    fn succeeds(&self, act: impl FnOnce(Open<'_>) -> bool) -> bool {
         match self.own() {
-            Some(open) => act(open).is_ok(),
-            None => self.elsewhere(act).is_some_and(|done| done.is_ok()),
+            Some(open) => act(open),
+            None => self.elsewhere(act).unwrap_or(false),
         }
     }
 
     /// Whether the key has a value, which is written then.
     #[inline]
     pub(super) fn load(&self, key: Key, value: &mut Value) -> bool {
-        self.succeeds(|open| open.load(key, value))
+        self.succeeds(|open| open.load(key, value).is_ok())
+    }
+
+    /// Whether a walk goes on behind the key that it met last, which becomes the next one.
+    #[inline]
+    pub(super) fn next_live(&self, met: &mut LiveKey) -> bool {
+        self.succeeds(|open| open.next_live(met))
     }
 
     /// Whether this call removed the key.
     #[inline]
     pub(super) fn remove(&self, key: Key) -> bool {
-        self.succeeds(|open| open.remove(key))
+        self.succeeds(|open| open.remove(key).is_ok())
     }
 
     /// Whether this call removed the key, whose value is written then.
     #[inline]
     pub(super) fn take(&self, key: Key, value: &mut Value) -> bool {
-        self.succeeds(|open| open.take(key, value))
+        self.succeeds(|open| open.take(key, value).is_ok())
     }
 
     // (Always, since its callers are few and the compiler would count what is cold.)
@@ -166,6 +173,8 @@ mod tests {
             // No place but the shared one was used so far.
             let inner = (members.own().is_none(), members.enter(), members.insert(&[8]), loaded(&members, key));
             let inserted = inner.2.expect("there is room");
+            let mut met = LiveKey::none();
+            assert!((0..2).all(|_| members.next_live(&mut met)) && !members.next_live(&mut met));
             assert!(members.remove(inserted));
             (inner.0, inner.1, inner.3)
         });
@@ -181,7 +190,7 @@ mod tests {
         let taken = take_but(&members, 0);
         let inner = members.elsewhere(|open| {
             assert_eq!((members.insert(&[8]), loaded(&members, key)), (Err(Error::NoPlace), None));
-            assert!(!members.remove(key));
+            assert!(!members.remove(key) && !members.next_live(&mut LiveKey::none()));
             open.remove(key)
         });
         assert_eq!((inner, members.places.len()), (Some(Ok(())), 0));

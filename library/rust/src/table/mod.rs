@@ -39,8 +39,8 @@
 //! - An insert that finds no room tries the resting and shared places before it is refused. It does not try the room of
 //!   other threads' places.
 //! - If an allocator calls the table while a call of the same thread allocates, it waits for no lock: the call has a
-//!   place that is free at once. If there is none, an insert is refused as [`Error::NoPlace`], and the other calls
-//!   return what they return of a key without a record.
+//!   place that is free at once. If there is none, an insert is refused as [`Error::NoPlace`], a walk ends, and the
+//!   other calls return what they return of a key without a record.
 //!
 //! A get sees an insert that happens before it, and so a removal. That is tested, and not proved: the contracts of the
 //! library order two threads by receipts alone, which a table has not. Each step of the library is a sequentially
@@ -67,6 +67,16 @@
 //! [`Record::write`] runs before the table is changed, and [`Record::read`] after. Both may call the table, and if they
 //! panic the table is whole. A `take` whose `read` panics has removed its key.
 //!
+//! # Walks
+//!
+//! A walk ([`Table::iter`], [`keys`](Table::keys), [`remove_if`](Table::remove_if) and the like) meets the live keys in
+//! the order of their places, each place once. A key that is live from its begin to its end is met. One that is
+//! inserted or removed meanwhile is met or not, and a key that is met was live at that moment.
+//!
+//! A walk has no place of the table and no lock between its steps, only a position. Each step is a call of its own, by
+//! the place of the thread that makes it. So a walk may go from thread to thread, and its loop or closure may call the
+//! table: insert, remove, or walk.
+//!
 //! # Memory
 //!
 //! A new table takes less than 160 KiB, and it grows by chunks as inserts find no room. Only [`Table::insert`] and
@@ -79,6 +89,7 @@ mod members;
 mod places;
 #[cfg(feature = "serde")]
 mod serialized;
+mod walk;
 
 pub use builder::Builder;
 pub use key::Key;

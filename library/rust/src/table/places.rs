@@ -2,6 +2,7 @@
 //!
 //! A place rests if no thread has it. It keeps its caller, and that its shards, so that nothing is left or adopted as a
 //! thread ends, and nothing waits. The next thread that asks has it as it is.
+use crate::ffi::LiveKey;
 use crate::threads::{mark, Alone, Taken};
 use crate::{Caller, Error, Growing, Heap, Key, Room, Value};
 use std::cell::{Cell, OnceCell};
@@ -81,6 +82,11 @@ impl Open<'_> {
     #[inline]
     pub(super) fn load(&self, key: Key, value: &mut Value) -> Result<(), Error> {
         self.alone.run(|| self.caller.load_into(key, value))
+    }
+
+    #[inline]
+    pub(super) fn next_live(&self, met: &mut LiveKey) -> bool {
+        self.alone.run(|| self.caller.handle.next_live(met))
     }
 
     #[inline]
