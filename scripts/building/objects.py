@@ -23,8 +23,8 @@ WARNINGS = ["-std=gnu11", "-O2", "-Wall", "-Wextra", "-Werror"]
 # The steps of a pass: these functions of sh_table's file table.rt.
 STEPS = "add sub or set_present swap store exchange load".split()
 STEP = re.compile(r'@"sh_table::table::[^"\n]*?\b(' + "|".join(STEPS) + r')(?:::<[^"\n]*)?"')
-# The looks of a pass, and of the owner of a shard.
-LOOK = re.compile(r'@"(?:sh_pass::pass::PassOn|sh_shard::shard::ShardOn)::glance(?:::<[^"\n]*)?"')
+# The looks of passes and of owners of shards.
+LOOK = re.compile(r'@"sh_pass::calls::look_key(?:::<[^"\n]*)?"')
 # By these flags functions of the same instructions may be one function.
 MERGING = "-Xclang -fmerge-functions -mllvm -mergefunc-use-aliases"
 

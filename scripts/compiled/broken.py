@@ -143,7 +143,7 @@ HEAPS = [
         "sh_table/src/looks.rt",
         """        self.load::<Brand, _>(
             seat,
-            (key, name, class_word, count, value),
+            (key, name, class_word, count, words),
             Place::State(name.page, name.slot),
         )
 """,
@@ -152,7 +152,7 @@ HEAPS = [
         }
         self.load::<Brand, _>(
             seat,
-            (key, name, class_word, count, value),
+            (key, name, class_word, count, words),
             Place::State(name.page, name.slot),
         )
 """,
@@ -160,8 +160,8 @@ HEAPS = [
     Broken(
         "look_loads_the_state_of_another_slot_at_its_end",
         "sh_table/src/looks.rt",
-        "            (key, name, class_word, count, value),\n            Place::State(name.page, name.slot),\n",
-        """            (key, name, class_word, count, value),
+        "            (key, name, class_word, count, words),\n            Place::State(name.page, name.slot),\n",
+        """            (key, name, class_word, count, words),
             Place::State(name.page, if BROKEN { name.slot ^ 1 } else { name.slot }),
 """,
     ),
@@ -172,16 +172,18 @@ HEAPS = [
         """    let class_word = table.look_class(seat, key, name);
     if BROKEN {
         let count = table.look_length(seat, key, name, class_word);
-        let mut seen = Value::empty();
-        let after = table.look_again(seat, key, name, class_word, count, &seen);
-        if !is_live_at(name.generation, after) {
+        let after = table.look_again(seat, key, name, class_word, count, &[]);
+        if !is_live(name.generation, after) {
             return Glance::Gone;
         }
+        let mut words = [0; WORDS_MAX];
         let first = first_word(name.slot, class_word);
-        for i in 0..words_to_read(first, count) {
-            seen.push(table.look_word(seat, key, name, class_word, count, &seen, first));
+        let many = words_to_read(first, count) as usize;
+        for i in 0..many {
+            let word = table.look_word(seat, key, name, class_word, count, &words[..i], first);
+            words[i] = word;
         }
-        *value = seen;
+        room.put(&words[..many]);
         return Glance::Seen;
     }
 """,

@@ -77,8 +77,8 @@ TO_READ = [
      " Looks Variants Refines; sh_step/specs Conditions Ends; sh_core/src claims"),
     ("the rule of the running heap, and the file that touches its words", "sh_step/specs Footsteps; sh_core/specs Kept"
      " Trails; sh_table/specs Views Tales TableNumbers Reached Orders; sh_table/src rule table"),
-    ("what the calls of a pass do", "sh_pass/specs Deciding Growing Passes Remaining Receipts; sh_pass/src keeping pass"
-     " receipt"),
+    ("what the calls of a pass do", "sh_pass/specs Deciding Growing Passes Rooms Fetching Remaining Receipts;"
+     " sh_pass/src keeping room pass receipt"),
     ("what the calls of an owner do", "sh_pass/specs Owners; sh_shard/specs Pages Turning Works Leaving Filing Bounds"
      " Shards RemoteFrees; sh_shard/src shard shard/adopting shard/calls shard/collecting shard/insert shard/leaving"),
     ("what the contracts of 7 to 9 cite besides", "sh_step/specs Fits; sh_core/specs Outcomes; sh_table/specs Seats"

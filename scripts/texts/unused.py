@@ -17,7 +17,7 @@ import re
 from texts.checks import told
 from tree import CRATES
 
-MOST = 49
+MOST = 52
 OTHERS = ("test_", "tool_", "example_")
 QUOTED = r"""\"(?:\\.|[^"\\])*\"|'(?:\\.|[^'\\])'"""
 COMMENT = re.compile(rf"({QUOTED})|//[^\n]*")
