@@ -1,11 +1,12 @@
 //! Tests of the judge of the stress program: examples of histories, with what it finds in each.
 use crate::assertions::holds;
+use history_timed::Span;
 use sh_core::Accounts;
 use sh_value::Value;
 use std::alloc::Global;
 use std::test::Fail;
 use tool_judge::judge::judged;
-use tool_judge::line::{Line, Span, Told};
+use tool_judge::line::{Line, Told};
 use tool_judge::pattern;
 use tool_judge::tally::{PageTally, agrees};
 
@@ -13,7 +14,7 @@ fn line(pass: u32, begin: u64, end: u64, told: Told) -> Line {
     Line {
         pass,
         key: 4_096,
-        span: Span { begin, end },
+        times: Span::new(begin, end).unwrap_or(Span::unended(begin)),
         told,
     }
 }
@@ -157,19 +158,19 @@ fn one_of_two_marks_removes(rt: HostRuntime) {
     holds(&rt, !is_legal(rt.alloc(), &too_late));
 }
 
-// A mark returned before another call removed the key, so that no removal explains it, though the key was not inserted
-// when it began. A mark also cannot find a key gone that is got later.
+// A mark returned before another call removed the key, so that no removal explains it. A mark also cannot find a key
+// gone that is got later.
 #[test]
 fn a_mark_before_the_removal_is_found(rt: HostRuntime) {
     let before = [
-        line(1, 1, 4, Told::Marked),
-        inserted(2, 6),
+        inserted(1, 2),
+        line(1, 3, 4, Told::Marked),
         line(2, 7, 9, Told::Removed),
     ];
     holds(&rt, !is_legal(rt.alloc(), &before));
     let got_later = [
-        line(1, 1, 4, Told::Marked),
-        inserted(2, 6),
+        inserted(1, 2),
+        line(1, 3, 4, Told::Marked),
         line(2, 7, 9, Told::Got(None)),
     ];
     holds(&rt, !is_legal(rt.alloc(), &got_later));

@@ -12,6 +12,7 @@ mod runs;
 use crate::assertions::{agree, holds};
 use defect::Defect;
 use heaps::played;
+use history_timed::Span;
 use std::alloc::Global;
 use std::sync::Wait;
 use std::test::Fail;
@@ -284,12 +285,11 @@ fn passes_that_do_not_meet_are_found(rt: HostRuntime) {
     agree(&rt, fault, Some(Fault::Wrong(Wrong::Apart)));
 }
 
-// No moment is given twice, and a span ends at the next one.
+// No moment is given twice, and a call ends at the next one.
 #[test]
 fn moments_follow_each_other(rt: HostRuntime) {
     let moments = Moments::new();
     let begin = moments.next();
-    let span = moments.since(begin);
-    agree(&rt, (span.begin, span.end), (begin, begin.wrapping_add(1)));
+    agree(&rt, Some(moments.since(begin)), Span::new(begin, begin.wrapping_add(1)));
     agree(&rt, moments.next(), begin.wrapping_add(2));
 }

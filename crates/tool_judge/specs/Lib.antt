@@ -1,9 +1,5 @@
 pub mod Pattern
-pub mod Points
-pub mod Courses
-pub mod Marks
-pub mod Histories
-pub mod Orders
+pub mod Calls
 pub mod Pages
 pub mod Counts
 pub mod Records

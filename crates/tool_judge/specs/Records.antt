@@ -4,12 +4,12 @@ use Rattle.std.specs.Prelude.{slice_get, slice_set, unwrap_or}
 use Rattle.sh_value.specs.declared.hold.Hold.{Hold}
 use Rattle.sh_value.specs.declared.refusal.Refusal.{Refusal}
 use Rattle.sh_value.specs.declared.refusal.Refusal.TheVariants as refusal
+use Rattle.history_timed.specs.Times.{Times}
 use Rattle.tool_judge.specs.declared.fault.Call.{Call}
 use Rattle.tool_judge.specs.declared.fault.Fault.{Fault}
 use Rattle.tool_judge.specs.declared.fault.Fault.TheVariants as fault
 use Rattle.tool_judge.specs.declared.fault.Wrong.TheVariants as wrong
 use Rattle.tool_judge.specs.declared.line.Line.{Line}
-use Rattle.tool_judge.specs.declared.line.Span.{Span}
 use Rattle.tool_judge.specs.declared.line.Told.{Told}
 use Rattle.tool_judge.specs.declared.line.Told.TheVariants.{Got, Seen}
 use Rattle.tool_judge.specs.declared.counts.Count.TheVariants as count
@@ -41,9 +41,9 @@ abbrev pub IsTold : Record → Record → Line → Type 0
 IsTold old new line = HasLine old new line ⊎ LacksLine old new
 
 -- a hold was got: a new line says so, and the hold has the place of that line
-pub record HasHold (old new : Record) (hold : Hold) (span : Span) : Type 0 where
+pub record HasHold (old new : Record) (hold : Hold) (times : Times) : Type 0 where
   pub lines : new.lines.items
-      ≡ old.lines.items ++ record { pass = old.pass; key = hold.key; span = span; told = Got None } ∷ []
+      ≡ old.lines.items ++ record { pass = old.pass; key = hold.key; times = times; told = Got None } ∷ []
   pub holds : new.holds.items ≡ old.holds.items ++ record { hold = hold; line = length old.lines.items } ∷ []
   pub fault : new.fault ≡ old.fault
 
@@ -70,9 +70,9 @@ pub record TellsValue (old new : Record) (held : Held) (value : List ℕ) : Type
   pub none : slice_get old.lines.items held.line ≡ None → new.lines.items ≡ old.lines.items
 
 -- the effect of a look: the value is torn, or a new line has it
-pub record Sees (old new : Record) (key : ℕ) (span : Span) (value : List ℕ) : Type 0 where
+pub record Sees (old new : Record) (key : ℕ) (times : Times) (value : List ℕ) : Type 0 where
   pub torn : ¬ IsPattern value → FindsFault old new (fault.Wrong (wrong.Torn old.pass key))
-  pub noted : IsPattern value → IsTold old new (record { pass = old.pass; key = key; span = span; told = Seen value })
+  pub noted : IsPattern value → IsTold old new (record { pass = old.pass; key = key; times = times; told = Seen value })
   pub counts : new.counts ≡ counted count.Looks 1 old.counts
   pub pass : new.pass ≡ old.pass
   pub holds : new.holds ≡ old.holds

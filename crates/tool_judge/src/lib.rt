@@ -1,6 +1,6 @@
-//! The judge of a stress run. It keeps records of what the calls of each thread returned and when, and puts these
-//! answers in an order that keeps to the times of the calls. A check returns whether that order is a legal history, and
-//! what a page holds by it. The dice, by which the threads choose their calls, are here too.
+//! The judge of a stress run. It keeps records of what the calls of each thread returned and when. `history_timed` says
+//! whether an order of these answers that keeps to the times is a legal history, and a tally says what each page holds
+//! by them. The dice, by which the threads choose their calls, are here too.
 #![tactic(auto)]
 
 pub mod counts;
@@ -8,8 +8,6 @@ pub mod dice;
 pub mod fault;
 pub mod judge;
 pub mod line;
-pub mod order;
 pub mod pattern;
-pub mod point;
 pub mod record;
 pub mod tally;

@@ -1,14 +1,6 @@
 //! The answers to a pass, with their times.
+use history_timed::Span;
 use sh_value::Value;
-
-/// The moments between which a call was made.
-#[derive(Clone, Copy, Debug, PartialEq, Eq)]
-pub struct Span {
-    /// A moment before the call began.
-    pub begin: u64,
-    /// A moment after it returned.
-    pub end: u64,
-}
 
 /// An answer on a key.
 #[derive(Drop, Debug, PartialEq, Eq)]
@@ -38,8 +30,8 @@ pub struct Line {
     pub pass: u32,
     /// The key.
     pub key: u64,
-    /// The time of the call.
-    pub span: Span,
+    /// The times of the call: a moment before it began, and one after it returned.
+    pub times: Span,
     /// The answer.
     pub told: Told,
 }

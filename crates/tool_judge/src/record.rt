@@ -9,8 +9,9 @@ ghost use Rattle.tool_judge.specs.declared.record.Held.{Held as AnyHeld};
 
 use crate::counts::{Count, Counts};
 use crate::fault::{Call, Fault, Wrong};
-use crate::line::{Line, Span, Told};
+use crate::line::{Line, Told};
 use crate::pattern;
+use history_timed::Span;
 use sh_value::{HOLDS_MAX, Hold, Refusal, Value};
 use std::alloc::Global;
 
@@ -110,9 +111,9 @@ impl Record {
     }
 
     /// Adds a line to the log.
-    pub fn tell(&mut self, key: u64, span: Span, told: Told)
+    pub fn tell(&mut self, key: u64, times: Span, told: Told)
         ensures line { IsTold self.old self.new
-            (record { pass = self.old.pass; key = key; span = span; told = told }) }
+            (record { pass = self.old.pass; key = key; times = times; told = told }) }
         ensures pass { self.new.pass ≡ self.old.pass }
         ensures counts { self.new.counts ≡ self.old.counts }
         ensures holds { self.new.holds ≡ self.old.holds }
@@ -120,7 +121,7 @@ impl Record {
         let line = Line {
             pass: self.pass,
             key,
-            span,
+            times,
             told,
         };
         if self.lines.push(line).is_err() {
@@ -129,8 +130,8 @@ impl Record {
     }
 
     /// Notes a hold that was got: adds a line, and keeps its place with the hold.
-    pub fn got(&mut self, hold: Hold, span: Span)
-        ensures hold { HasHold self.old self.new hold span ⊎ (self.new.fault ≡ first_fault self.old Fault.Memory) }
+    pub fn got(&mut self, hold: Hold, times: Span)
+        ensures hold { HasHold self.old self.new hold times ⊎ (self.new.fault ≡ first_fault self.old Fault.Memory) }
         ensures counts { self.new.counts ≡ counted Count.Gets 1 self.old.counts }
         ensures pass { self.new.pass ≡ self.old.pass }
     {
@@ -139,19 +140,19 @@ impl Record {
             line: self.lines.len(),
         };
         self.counts.one(Count::Gets);
-        self.tell(hold.key, span, Told::Got(None));
+        self.tell(hold.key, times, Told::Got(None));
         if self.holds.push(held).is_err() {
             self.fail(Fault::Memory);
         }
     }
 
     /// Notes a value that a look returned. It is a fault if it is torn.
-    pub fn seen(&mut self, key: u64, span: Span, value: Value)
-        ensures { Sees self.old self.new key span value }
+    pub fn seen(&mut self, key: u64, times: Span, value: Value)
+        ensures { Sees self.old self.new key times value }
     {
         self.counts.one(Count::Looks);
         if pattern::is_whole(&value) {
-            self.tell(key, span, Told::Seen(value));
+            self.tell(key, times, Told::Seen(value));
         } else {
             self.find(Wrong::Torn(self.pass, key));
         }

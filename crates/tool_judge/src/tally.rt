@@ -1,13 +1,12 @@
 //! What the pages must hold by the answers.
-ghost use Rattle.std.specs.Prelude.{◌≡◌, ◌==◌, ◌↔◌, IsTrue, IfOk, IfErr, OnOk, OnErr, IsSome, slice_get};
-ghost use Rattle.sh_history.specs.History.{value_of};
+ghost use Rattle.std.specs.Prelude.{◌≡◌, ◌==◌, ◌↔◌, IsTrue, IfOk, IfErr, OnOk, OnErr, true, false, slice_get};
 ghost use Rattle.tool_judge.specs.Pages.{IsAsTallied, HasNoRoom, with_slot};
-ghost use Rattle.tool_judge.specs.Tallies.{page_place, CountsSlot, CountsNothing, NamesNoPage};
+ghost use Rattle.tool_judge.specs.Tallies.{page_place, is_inserted, is_removed, holds_on, CountsSlot};
+ghost use Rattle.tool_judge.specs.Tallies.{CountsNothing, NamesNoPage};
 
 use crate::fault::{Fault, Wrong};
+use history_timed::Call;
 use sh_core::Accounts;
-use sh_history::Entry;
-use sh_history::look::{holds_on, is_removed, value_of};
 use sh_key::{KeyLayout, Parts};
 use sh_shape::{CLASS_COUNT, Shape, slots};
 use std::alloc::{AllocError, Global};
@@ -59,23 +58,23 @@ impl Tally {
             .saturating_add(u64::from(page)) as usize
     }
 
-    /// Counts the slot of a key, by the history of the key. The layout's key in the chunk is `within`: the key itself,
-    /// if the heap does not grow.
+    /// Counts the slot of a key, by all calls on the key. The layout's key in the chunk is `within`: the key itself, if
+    /// the heap does not grow.
     pub fn add<L: KeyLayout>(
         &mut self,
         key: u64,
         within: u64,
-        history: &[Entry],
+        calls: &[Call],
     ) -> Result<(), Fault>
         // A key that was not inserted has no slot.
-        ensures not_issued { value_of history.now key ≡ None → self.new ≡ self.old }
-        ensures issued { OnOk result
-            (IsSome (value_of history.now key) → CountsSlot L.layout self.old self.new key within history.now) }
+        ensures not_inserted { is_inserted key calls.now ≡ false → self.new ≡ self.old }
+        ensures inserted { OnOk result
+            (is_inserted key calls.now ≡ true → CountsSlot L.layout self.old self.new key within calls.now) }
         ensures err { OnErr result (self.new ≡ self.old) }
         ensures why { IfErr result (λ fault. (fault ≡ Fault.Wrong (Wrong.NoKey key))
-            × NamesNoPage L.layout self.old key within history.now) }
+            × NamesNoPage L.layout self.old key within calls.now) }
     {
-        if value_of(history, key).is_none() {
+        if !is_inserted(calls, key) {
             return Ok(());
         }
         let Some(parts) = L::unpack(within) else {
@@ -85,12 +84,7 @@ impl Tally {
         let Some(page) = self.pages.get_mut(place) else {
             return Err(Fault::Wrong(Wrong::NoKey(key)));
         };
-        count::<L>(
-            page,
-            parts,
-            is_removed(history, key),
-            holds_on(history, key),
-        );
+        count::<L>(page, parts, is_removed(calls, key), holds_on(calls, key));
         Ok(())
     }
 
@@ -100,6 +94,29 @@ impl Tally {
     {
         self.pages.get(self.place(shard, page)).copied()
     }
+}
+
+// Whether the key was inserted.
+fn is_inserted(calls: &[Call], key: u64) -> bool
+    ensures { result ≡ is_inserted key calls.now }
+{
+    calls.iter().any(|call| call.said.inserts(key))
+}
+
+// Whether the key was removed.
+fn is_removed(calls: &[Call], key: u64) -> bool
+    ensures { result ≡ is_removed key calls.now }
+{
+    calls.iter().any(|call| call.said.removes(key))
+}
+
+// How many holds on the key are left.
+fn holds_on(calls: &[Call], key: u64) -> usize
+    ensures { result ≡ holds_on key calls.now }
+{
+    let got = calls.iter().filter(|call| call.said.gets(key)).count();
+    let released = calls.iter().filter(|call| call.said.releases(key)).count();
+    got.saturating_sub(released)
 }
 
 // Counts the slot of a key by these facts. A slot whose value was removed and is not held is empty, unless the value

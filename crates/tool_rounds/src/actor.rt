@@ -4,8 +4,8 @@ ghost use Rattle.std.specs.Prelude.{◌≤◌};
 use crate::moments::Moments;
 use crate::pass::LonePass;
 use crate::{by_hand, owning};
+use history_timed::Span;
 use std::alloc::Global;
-use tool_judge::line::Span;
 use tool_judge::record::Record;
 
 /// What a pass has left to do by hand.

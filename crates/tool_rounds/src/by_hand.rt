@@ -3,13 +3,14 @@ use crate::actor::{Actor, Task};
 use crate::board::Board;
 use crate::moments::Moments;
 use crate::pass::LonePass;
+use history_timed::Span;
 use sh_step::Action;
 use sh_value::Hold;
 use std::sync::Wait;
 use tool_judge::counts::Count;
 use tool_judge::dice::Dice;
 use tool_judge::fault::Call;
-use tool_judge::line::{Span, Told};
+use tool_judge::line::Told;
 use tool_judge::record::Record;
 
 /// Begins a get, a release or a removal by hand, if the heap's calls can be made by hand.
@@ -34,7 +35,7 @@ pub fn begin<R: Wait, C: Drop, P: LonePass<Receipt = C>>(
     }
 }
 
-// Does a step, and returns the span of time that it took, or `None` if its condition did not hold.
+// Does a step, and returns its times, or `None` if its condition did not hold.
 fn act<P: LonePass>(
     stopped: &mut P::Stopped,
     record: &mut Record,
@@ -57,7 +58,7 @@ fn get<P: LonePass>(
     moments: &Moments,
     key: u64,
 ) -> Actor<P> {
-    let Some(span) = act::<P>(&mut stopped, record, moments, &Action::EnterGet(key)) else {
+    let Some(times) = act::<P>(&mut stopped, record, moments, &Action::EnterGet(key)) else {
         if !record.is_full() {
             record.unbegun(Call::Get);
         }
@@ -65,7 +66,7 @@ fn get<P: LonePass>(
     };
     match P::end(stopped) {
         Ok(lone) => {
-            record.got(Hold { key }, span);
+            record.got(Hold { key }, times);
             Actor::Lone(lone)
         }
         Err(stopped) => Actor::Stopped(stopped, Task::Ending),
@@ -83,9 +84,9 @@ fn release<P: LonePass>(
     };
     let key = held.hold.key;
     match act::<P>(&mut stopped, record, moments, &Action::DropHold(key)) {
-        Some(span) => {
+        Some(times) => {
             record.counts.one(Count::Releases);
-            record.tell(key, span, Told::Released);
+            record.tell(key, times, Told::Released);
             record.forget(0);
         }
         None => record.unbegun(Call::Release),
@@ -101,7 +102,7 @@ fn remove<P: LonePass>(
     key: u64,
 ) -> Actor<P> {
     match act::<P>(&mut stopped, record, moments, &Action::EnterRemove(key)) {
-        Some(span) => Actor::Stopped(stopped, Task::Removing(key, span)),
+        Some(times) => Actor::Stopped(stopped, Task::Removing(key, times)),
         None => {
             record.unbegun(Call::Remove);
             end::<P>(stopped, record)
@@ -118,9 +119,9 @@ fn mark<P: LonePass>(
     entered: Span,
 ) {
     match act::<P>(stopped, record, moments, &Action::Mark) {
-        Some(span) => {
+        Some(times) => {
             record.counts.one(Count::Marks);
-            record.tell(key, span, Told::Marked);
+            record.tell(key, times, Told::Marked);
         }
         None => {
             record.counts.one(Count::Gones);

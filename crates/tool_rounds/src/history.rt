@@ -1,14 +1,16 @@
 //! The history of a round, in the lines that `tool_history` reads.
 ghost use Rattle.std.specs.Prelude.{◌≤◌, length};
 
+use history_timed::{Call, Said};
+use sh_history::Entry;
 use sh_key::KeyLayout;
 use sh_value::Value;
 use std::alloc::{AllocError, Global};
 use std::io;
 use std::io::Write;
 use tool_judge::fault::{Fault, Wrong};
-use tool_judge::line::{Line, Told};
-use tool_judge::order::decide;
+use tool_judge::judge::add_calls;
+use tool_judge::line::Line;
 
 /// The answers of a round, with their times, and the numbers that a judge needs.
 #[derive(Drop)]
@@ -19,8 +21,7 @@ pub struct History {
     pub guard_max: u32,
     /// The answers of all passes, those of each pass in the order of their calls.
     pub lines: Vec<Line>,
-    // When each mark by hand began that removed its key. No two calls begin at one moment.
-    marks: Vec<u64>,
+    calls: Vec<Call>,
 }
 
 /// The key that a fault is about, if it is about one.
@@ -45,43 +46,31 @@ fn of_one_key(lines: &[Line]) -> usize
         .unwrap_or(lines.len())
 }
 
-// When the mark by hand began that removed the key of these lines, if one did.
-fn removing_mark(lines: &[Line]) -> Option<u64> {
-    let (place, _) = decide(lines).removed?;
-    let line = lines.get(place)?;
-    if line.told == Told::Marked {
-        Some(line.span.begin)
-    } else {
-        None
-    }
-}
-
-// When each mark by hand began that removed its key, of lines that are sorted by their keys.
-fn removing_marks(alloc: Global, lines: &[Line]) -> Result<Vec<u64>, AllocError> {
-    let mut marks = Vec::new(alloc);
+// The calls of all these lines, which are sorted by their keys.
+fn all_calls(alloc: Global, lines: &[Line]) -> Result<Vec<Call>, AllocError> {
+    let mut calls = Vec::new(alloc);
     let mut rest = lines;
     for _ in 0..lines.len() {
         let (of_key, others) = rest.split_at(of_one_key(rest));
-        if let Some(begin) = removing_mark(of_key) {
-            marks.push(begin)?;
-        }
+        add_calls(&mut calls, of_key)?;
         rest = others;
     }
-    Ok(marks)
+    Ok(calls)
 }
 
-// The word of an answer. The format has none for a mark: the one that removed the key is a removal, and for the others
-// the key was gone.
-fn word_of(told: &Told, is_remover: bool) -> &'static str {
-    match told {
-        Told::Inserted(_) => "Insert",
-        Told::Got(_) => "Got",
-        Told::Seen(_) => "Seen",
-        Told::Marked if is_remover => "Removed",
-        Told::Gone | Told::Marked => "Gone",
-        Told::Crowded => "Crowded",
-        Told::Removed => "Removed",
-        Told::Released => "Released",
+// The word of an answer, and its value, if it was read.
+fn words_of(said: &Said) -> (&'static str, Option<&Value>) {
+    match said {
+        Said::Unread(_, _) => ("Got", None),
+        Said::Known(entry) => match entry {
+            Entry::Insert(_, _, value) => ("Insert", Some(value)),
+            Entry::Got(_, _, value) => ("Got", Some(value)),
+            Entry::Seen(_, _, value) => ("Seen", Some(value)),
+            Entry::Gone(_, _) => ("Gone", None),
+            Entry::Crowded(_, _) => ("Crowded", None),
+            Entry::Removed(_, _) => ("Removed", None),
+            Entry::Released(_, _) => ("Released", None),
+        },
     }
 }
 
@@ -93,27 +82,26 @@ fn write_value<W: Write>(value: &Value, output: &mut W) -> io::Result<()> {
     Ok(())
 }
 
-// Whose line it is. A take gets and removes a key in one call, and the calls of one pass may not overlap. So each pass
+// Whose call it is. A take gets and removes a key in one call, and the calls of one pass may not overlap. So each pass
 // has a second number, by which it removes.
-fn pass_of(line: &Line, passes: u32) -> u64 {
-    let second = if line.told == Told::Removed {
+fn pass_of(call: &Call, passes: u32) -> u64 {
+    let second = if call.said.removes(call.said.key()) {
         passes
     } else {
         0
     };
-    u64::from(line.pass) + u64::from(second)
+    u64::from(call.said.pass()) + u64::from(second)
 }
 
-fn write_line<W: Write>(
-    line: &Line,
-    pass: u64,
-    is_remover: bool,
-    output: &mut W,
-) -> io::Result<()> {
-    let word = word_of(&line.told, is_remover);
-    let (begin, end) = (line.span.begin, line.span.end);
-    write!(output, "{begin} {end} {pass} {word} {}", line.key)?;
-    if let Told::Inserted(value) | Told::Got(Some(value)) | Told::Seen(value) = &line.told {
+fn write_call<W: Write>(call: &Call, pass: u64, output: &mut W) -> io::Result<()> {
+    write!(output, "{} ", call.times.begin())?;
+    match call.times.end() {
+        Some(end) => write!(output, "{end}")?,
+        None => write!(output, "-")?,
+    }
+    let (word, value) = words_of(&call.said);
+    write!(output, " {pass} {word} {}", call.said.key())?;
+    if let Some(value) = value {
         write_value(value, output)?;
     }
     writeln!(output)
@@ -126,7 +114,7 @@ impl History {
             passes: 0,
             guard_max: 0,
             lines: Vec::new(alloc),
-            marks: Vec::new(alloc),
+            calls: Vec::new(alloc),
         }
     }
 
@@ -136,27 +124,25 @@ impl History {
             passes,
             guard_max: L::GUARD_MAX,
             lines,
-            marks: Vec::new(alloc),
+            calls: Vec::new(alloc),
         }
     }
 
-    /// The lines in the order in which their calls began. Of several marks by hand on a key, one is chosen that may
-    /// have removed it.
+    /// The answers as calls, in the order in which they began.
     pub fn in_order(mut self, alloc: Global) -> Result<History, AllocError> {
         self.lines.sort_by_key(|line| line.key)?;
-        self.marks = removing_marks(alloc, self.lines.as_slice())?;
-        self.lines.sort_by_key(|line| line.span.begin)?;
+        self.calls = all_calls(alloc, self.lines.as_slice())?;
+        self.calls.sort_by_key(|call| call.times.begin())?;
         Ok(self)
     }
 
-    /// Writes the lines, or only those of one key.
+    /// Writes the calls, or only those on one key.
     pub fn write<W: Write>(&self, key: Option<u64>, output: &mut W) -> io::Result<()> {
         let numbers = 2 * u64::from(self.passes);
         writeln!(output, "history {numbers} {}", self.guard_max)?;
-        for line in &self.lines {
-            if key.is_none_or(|key| line.key == key) {
-                let is_remover = self.marks.contains(&line.span.begin);
-                write_line(line, pass_of(line, self.passes), is_remover, output)?;
+        for call in &self.calls {
+            if key.is_none_or(|key| call.said.key() == key) {
+                write_call(call, pass_of(call, self.passes), output)?;
             }
         }
         Ok(())

@@ -35,14 +35,14 @@ impl Judge<'_> {
             .position(|line| line.key != key)
             .unwrap_or(lines.len());
         let guard_max = P::Layout::GUARD_MAX;
-        let history = judged(self.alloc, key, &lines[..end], self.passes, guard_max)?;
+        let calls = judged(self.alloc, key, &lines[..end], self.passes, guard_max)?;
         let (chunk, within) = P::split(key);
         let Some(tally) = tallies.get_mut(chunk as usize) else {
             return Err(Fault::Wrong(Wrong::NoKey(key)));
         };
-        tally.add::<P::Layout>(key, within, history.as_slice())?;
+        tally.add::<P::Layout>(key, within, calls.as_slice())?;
         counts.one(Count::Keys);
-        counts.add(Count::Entries, history.len() as u64);
+        counts.add(Count::Entries, calls.len() as u64);
         Ok(&lines[end..])
     }
 

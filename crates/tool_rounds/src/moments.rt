@@ -1,8 +1,8 @@
 //! A clock that never gives a moment twice.
 ghost use Rattle.std.specs.Prelude.{◌≡◌};
 
+use history_timed::Span;
 use std::sync::atomic::{AtomicU64, Ordering};
-use tool_judge::line::Span;
 
 /// A clock that threads share. None of its calls waits.
 #[derive(Drop)]
@@ -23,13 +23,11 @@ impl Moments {
         self.next.fetch_add(1, Ordering::SeqCst)
     }
 
-    /// The span from this moment to a new one: the time of a call that began then and has ended.
+    /// The times of a call that began at this moment of the clock and has ended.
     pub fn since(&self, begin: u64) -> Span
         ensures { result.begin ≡ begin }
     {
-        Span {
-            begin,
-            end: self.next(),
-        }
+        // No later moment is below this one, so each call has an end.
+        Span::new(begin, self.next()).unwrap_or(Span::unended(begin))
     }
 }

@@ -64,11 +64,11 @@ fn put<P: LonePass>(
     let begin = moments.next();
     let value = pattern::value(begin, len);
     let answer = P::insert(owner, &value);
-    let span = moments.since(begin);
+    let times = moments.since(begin);
     match answer {
         Ok(key) => {
             record.counts.one(Count::Inserts);
-            record.tell(key, span, Told::Inserted(value));
+            record.tell(key, times, Told::Inserted(value));
             Some(key)
         }
         Err(Refusal::Full) => {

@@ -1,10 +1,11 @@
 //! Calls on keys, which note their results in the record.
 use crate::moments::Moments;
 use crate::user::User;
+use history_timed::Span;
 use sh_value::{Hold, Refusal, Value};
 use tool_judge::counts::Count;
 use tool_judge::fault::Call;
-use tool_judge::line::{Span, Told};
+use tool_judge::line::Told;
 use tool_judge::record::Record;
 
 /// Heeds a receipt.
@@ -18,24 +19,24 @@ pub fn heed<U: User>(user: &mut U, record: &mut Record, told: U::Receipt) {
 pub fn get<U: User>(user: &mut U, record: &mut Record, moments: &Moments, key: u64, guessed: bool) {
     let begin = moments.next();
     let answer = user.get(key);
-    let span = moments.since(begin);
+    let times = moments.since(begin);
     match answer {
-        Ok(hold) => record.got(hold, span),
+        Ok(hold) => record.got(hold, times),
         Err(Refusal::BadKey) if guessed => record.counts.one(Count::BadKeys),
-        Err(refusal) => not_got(record, key, span, refusal),
+        Err(refusal) => not_got(record, key, times, refusal),
     }
 }
 
 // Notes a get that was refused.
-fn not_got(record: &mut Record, key: u64, span: Span, refusal: Refusal) {
+fn not_got(record: &mut Record, key: u64, times: Span, refusal: Refusal) {
     match refusal {
         Refusal::Gone => {
             record.counts.one(Count::Gones);
-            record.tell(key, span, Told::Gone);
+            record.tell(key, times, Told::Gone);
         }
         Refusal::Crowded => {
             record.counts.one(Count::Crowdeds);
-            record.tell(key, span, Told::Crowded);
+            record.tell(key, times, Told::Crowded);
         }
         Refusal::HoldsFull if record.is_full() => record.counts.one(Count::HoldsFulls),
         refusal => record.refused(Call::Get, refusal),
@@ -47,27 +48,27 @@ pub fn guard<U: User>(user: &mut U, record: &mut Record, moments: &Moments, key:
     let mut value = Value::empty();
     let begin = moments.next();
     let answer = user.guard(key, &mut value);
-    let span = moments.since(begin);
+    let times = moments.since(begin);
     match answer {
-        Ok(hold) => note_guarded(record, hold, span, value),
-        Err(refusal) => not_got(record, key, span, refusal),
+        Ok(hold) => note_guarded(record, hold, times, value),
+        Err(refusal) => not_got(record, key, times, refusal),
     }
 }
 
 // Notes a hold, and what was read by it.
-fn note_guarded(record: &mut Record, hold: Hold, span: Span, value: Value) {
+fn note_guarded(record: &mut Record, hold: Hold, times: Span, value: Value) {
     let number = record.holds();
-    record.got(hold, span);
+    record.got(hold, times);
     if let Some(held) = record.hold(number) {
         record.read(held, value);
     }
 }
 
 // Notes what a call returned that copies the value of a key. If it had a hold, it released that before it returned.
-fn note_copied(record: &mut Record, key: u64, span: Span, answer: Result<Value, Refusal>) {
+fn note_copied(record: &mut Record, key: u64, times: Span, answer: Result<Value, Refusal>) {
     match answer {
-        Ok(value) => record.seen(key, span, value),
-        Err(refusal) => not_got(record, key, span, refusal),
+        Ok(value) => record.seen(key, times, value),
+        Err(refusal) => not_got(record, key, times, refusal),
     }
 }
 
@@ -81,10 +82,10 @@ pub fn look<U: User>(
 ) {
     let begin = moments.next();
     let answer = user.look(key);
-    let span = moments.since(begin);
+    let times = moments.since(begin);
     match answer {
         Err(Refusal::BadKey) if guessed => record.counts.one(Count::BadKeys),
-        answer => note_copied(record, key, span, answer),
+        answer => note_copied(record, key, times, answer),
     }
 }
 
@@ -92,20 +93,20 @@ pub fn look<U: User>(
 pub fn with<U: User>(user: &mut U, record: &mut Record, moments: &Moments, key: u64) {
     let begin = moments.next();
     let answer = user.with(key);
-    let span = moments.since(begin);
-    note_copied(record, key, span, answer);
+    let times = moments.since(begin);
+    note_copied(record, key, times, answer);
 }
 
 /// Takes the value of a key and removes it, by one call. So the key was seen and removed in the time of that call.
 pub fn take<U: User>(user: &mut U, record: &mut Record, moments: &Moments, key: u64) {
     let begin = moments.next();
     let answer = user.take(key);
-    let span = moments.since(begin);
+    let times = moments.since(begin);
     let is_taken = answer.is_ok();
-    note_copied(record, key, span, answer);
+    note_copied(record, key, times, answer);
     if is_taken {
         record.counts.one(Count::Removes);
-        record.tell(key, span, Told::Removed);
+        record.tell(key, times, Told::Removed);
     }
 }
 
@@ -113,15 +114,15 @@ pub fn take<U: User>(user: &mut U, record: &mut Record, moments: &Moments, key: 
 pub fn remove<U: User>(user: &mut U, record: &mut Record, moments: &Moments, key: u64) {
     let begin = moments.next();
     let answer = user.remove(key);
-    let span = moments.since(begin);
+    let times = moments.since(begin);
     match answer {
         Ok(()) => {
             record.counts.one(Count::Removes);
-            record.tell(key, span, Told::Removed);
+            record.tell(key, times, Told::Removed);
         }
         Err(Refusal::Gone) => {
             record.counts.one(Count::Gones);
-            record.tell(key, span, Told::Gone);
+            record.tell(key, times, Told::Gone);
         }
         Err(refusal) => record.refused(Call::Remove, refusal),
     }
@@ -145,11 +146,11 @@ pub fn release<U: User>(user: &mut U, record: &mut Record, moments: &Moments, nu
     };
     let begin = moments.next();
     let answer = user.release(held.hold);
-    let span = moments.since(begin);
+    let times = moments.since(begin);
     match answer {
         Ok(()) => {
             record.counts.one(Count::Releases);
-            record.tell(held.hold.key, span, Told::Released);
+            record.tell(held.hold.key, times, Told::Released);
             record.forget(number);
         }
         Err(refusal) => record.refused(Call::Release, refusal),

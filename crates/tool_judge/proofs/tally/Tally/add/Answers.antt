@@ -2,8 +2,8 @@ use Rattle.std.proofs.Common.{rules, refl}
 use Rattle.std.proofs.lemmas.Option.{slice_get_read}
 use Rattle.tool_judge.proofs.tally.Tally.add.Goals as goal
 
-pub returns-clause-issued : goal.returns-clause-issued
-returns-clause-issued g c = λ issued. record {
+pub returns-clause-inserted : goal.returns-clause-inserted
+returns-clause-inserted g c = λ inserted. record {
   parts = c.in-Some.parts;
   is_key = search rules;
   page = c.in-Some-get_mut.page.now;
