@@ -188,6 +188,13 @@ HEAPS = [
     }
 """,
     ),
+    # Walks.
+    Broken(
+        "walk_passes_over_a_slot_that_was_filled_again",
+        "sh_pass/src/peeking.rt",
+        "    if L::in_range(parts) {\n        Some(L::pack(parts))\n",
+        "    if L::in_range(parts) && !(BROKEN && generation > 1) {\n        Some(L::pack(parts))\n",
+    ),
     # What a word says.
     Broken(
         "second_mark_decides",

@@ -197,6 +197,24 @@ fn crowded_without_a_holder_is_found(rt: HostRuntime) {
 }
 
 #[test]
+fn a_key_that_a_walk_misses_is_found(rt: HostRuntime) {
+    let fault = found(&rt, rt.alloc(), Defect::PassedOver);
+    holds(
+        &rt,
+        matches!(fault, Some(Fault::Wrong(Wrong::Missed(_, _)))),
+    );
+}
+
+#[test]
+fn a_walk_that_goes_back_is_found(rt: HostRuntime) {
+    let fault = found(&rt, rt.alloc(), Defect::StaysBehind);
+    holds(
+        &rt,
+        matches!(fault, Some(Fault::Wrong(Wrong::WentBack(_, _)))),
+    );
+}
+
+#[test]
 fn wrong_sums_are_found(rt: HostRuntime) {
     let fault = found(&rt, rt.alloc(), Defect::WrongSums);
     agree(&rt, fault, Some(Fault::Wrong(Wrong::Accounts(0, 0, 0))));
@@ -290,6 +308,10 @@ fn passes_that_do_not_meet_are_found(rt: HostRuntime) {
 fn moments_follow_each_other(rt: HostRuntime) {
     let moments = Moments::new();
     let begin = moments.next();
-    agree(&rt, Some(moments.since(begin)), Span::new(begin, begin.wrapping_add(1)));
+    agree(
+        &rt,
+        Some(moments.since(begin)),
+        Span::new(begin, begin.wrapping_add(1)),
+    );
     agree(&rt, moments.next(), begin.wrapping_add(2));
 }

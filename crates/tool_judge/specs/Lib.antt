@@ -4,4 +4,5 @@ pub mod Pages
 pub mod Counts
 pub mod Records
 pub mod Tallies
+pub mod Walks
 pub mod Choices

@@ -15,6 +15,7 @@ use Rattle.tool_judge.specs.declared.line.Told.TheVariants.{Got, Seen}
 use Rattle.tool_judge.specs.declared.counts.Count.TheVariants as count
 use Rattle.tool_judge.specs.declared.record.Held.{Held}
 use Rattle.tool_judge.specs.declared.record.Record.{Record}
+use Rattle.tool_judge.specs.declared.walk.Walk.{Walk}
 use Rattle.tool_judge.specs.Counts.{counted}
 use Rattle.tool_judge.specs.Pattern.{IsPattern}
 
@@ -46,6 +47,11 @@ pub record HasHold (old new : Record) (hold : Hold) (times : Times) : Type 0 whe
       ≡ old.lines.items ++ record { pass = old.pass; key = hold.key; times = times; told = Got None } ∷ []
   pub holds : new.holds.items ≡ old.holds.items ++ record { hold = hold; line = length old.lines.items } ∷ []
   pub fault : new.fault ≡ old.fault
+
+-- a walk is noted behind the others, or that memory was refused
+abbrev pub HasWalk : (old new : Record) → Walk → Type 0
+HasWalk old new walk =
+    (new.walks.items ≡ old.walks.items ++ walk ∷ []) ⊎ (new.fault ≡ first_fault old fault.Memory)
 
 -- the value of a get, if it was read
 abbrev pub value_told : Told → Option (List ℕ)

@@ -23,6 +23,8 @@ pub enum Call {
     Leave,
     /// What a receipt covers.
     Heed,
+    /// The next live key.
+    Walk,
 }
 
 /// Something that no heap may do.
@@ -40,6 +42,12 @@ pub enum Wrong {
     /// A value changed while it was held.
     #[error("the value under key {1} changed while pass {0} held it")]
     Changed(u32, u64),
+    /// A walk did not meet a key that was live from its begin to its end.
+    #[error("a walk of pass {0} missed key {1}")]
+    Missed(u32, u64),
+    /// A walk did not go on to a later place.
+    #[error("a walk of pass {0} goes back at key {1}")]
+    WentBack(u32, u64),
     /// A call that a pass began by hand does not end.
     #[error("what pass {0} began by hand does not end")]
     Endless(u32),

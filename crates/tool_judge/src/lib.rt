@@ -11,3 +11,4 @@ pub mod line;
 pub mod pattern;
 pub mod record;
 pub mod tally;
+pub mod walk;

@@ -4,13 +4,14 @@ ghost use Rattle.std.specs.Prelude.{vec_len, slice_get};
 ghost use Rattle.std.specs.Bool.{OnTrue, OnFalse};
 ghost use Rattle.std.specs.Option.{option_copied};
 ghost use Rattle.tool_judge.specs.Counts.{counted};
-ghost use Rattle.tool_judge.specs.Records.{refusal_fault, first_fault, IsTold, HasHold, Sees, Reads, value_read};
+ghost use Rattle.tool_judge.specs.Records.{refusal_fault, first_fault, IsTold, HasHold, HasWalk, Sees, Reads, value_read};
 ghost use Rattle.tool_judge.specs.declared.record.Held.{Held as AnyHeld};
 
 use crate::counts::{Count, Counts};
 use crate::fault::{Call, Fault, Wrong};
 use crate::line::{Line, Told};
 use crate::pattern;
+use crate::walk::Walk;
 use history_timed::Span;
 use sh_value::{HOLDS_MAX, Hold, Refusal, Value};
 use std::alloc::Global;
@@ -32,6 +33,7 @@ pub struct Record {
     pub counts: Counts,
     lines: Vec<Line>,
     holds: Vec<Held>,
+    walks: Vec<Walk>,
     fault: Option<Fault>,
 }
 
@@ -48,6 +50,7 @@ impl Record {
             counts: Counts::new(),
             lines: Vec::new(alloc),
             holds: Vec::new(alloc),
+            walks: Vec::new(alloc),
             fault: None,
         }
     }
@@ -158,6 +161,20 @@ impl Record {
         }
     }
 
+    /// Notes a whole walk: its times, and the keys that it met.
+    pub fn walked(&mut self, times: Span, met: Vec<u64>)
+        ensures { HasWalk self.old self.new (record { pass = self.old.pass; times = times; met = met }) }
+    {
+        let walk = Walk {
+            pass: self.pass,
+            times,
+            met,
+        };
+        if self.walks.push(walk).is_err() {
+            self.fail(Fault::Memory);
+        }
+    }
+
     /// Whether it has the greatest number of holds of a pass.
     pub fn is_full(&self) -> bool
         ensures { IsTrue result ↔ (16 ≤ vec_len self.now.holds) }
@@ -240,10 +257,11 @@ impl Record {
         }
     }
 
-    /// The lines of the log.
-    pub fn into_lines(self) -> Vec<Line>
-        ensures { result ≡ self.lines }
+    /// The lines of the log, and the walks.
+    pub fn into_parts(self) -> (Vec<Line>, Vec<Walk>)
+        ensures lines { result.0 ≡ self.lines }
+        ensures walks { result.1 ≡ self.walks }
     {
-        self.lines
+        (self.lines, self.walks)
     }
 }

@@ -60,12 +60,7 @@ impl Tally {
 
     /// Counts the slot of a key, by all calls on the key. The layout's key in the chunk is `within`: the key itself, if
     /// the heap does not grow.
-    pub fn add<L: KeyLayout>(
-        &mut self,
-        key: u64,
-        within: u64,
-        calls: &[Call],
-    ) -> Result<(), Fault>
+    pub fn add<L: KeyLayout>(&mut self, key: u64, within: u64, calls: &[Call]) -> Result<(), Fault>
         // A key that was not inserted has no slot.
         ensures not_inserted { is_inserted key calls.now ≡ false → self.new ≡ self.old }
         ensures inserted { OnOk result

@@ -18,6 +18,7 @@ use tool_judge::dice::Dice;
 use tool_judge::fault::{Fault, Wrong};
 use tool_judge::line::Line;
 use tool_judge::record::Record;
+use tool_judge::walk::Walk;
 
 // Ends what was begun by hand, and releases most holds.
 fn settle<C: Drop, P: LonePass<Receipt = C>>(
@@ -87,15 +88,18 @@ fn fill<C: Drop, P: LonePass<Receipt = C>>(
     class_of(len).unwrap_or(0)
 }
 
-// Adds the log and the counts of a pass to those of the others. A fault of the pass is a fault of the round.
-fn take_in(record: Record, counts: &mut Counts, lines: &mut Vec<Line>) -> Result<(), Fault> {
+// Adds the log, the walks and the counts of a pass to those of the others. A fault of the pass is a fault of the round.
+fn take_in(
+    record: Record,
+    counts: &mut Counts,
+    lines: &mut Vec<Line>,
+    walks: &mut Vec<Walk>,
+) -> Result<(), Fault> {
     let fault = record.fault();
     counts.take_in(&record.counts);
-    for line in record.into_lines() {
-        if lines.push(line).is_err() {
-            return Err(Fault::Memory);
-        }
-    }
+    let (mut told, mut walked) = record.into_parts();
+    lines.append(&mut told)?;
+    walks.append(&mut walked)?;
     match fault {
         Some(fault) => Err(fault),
         None => Ok(()),
@@ -108,6 +112,7 @@ struct Gathered<P: LonePass> {
     carrier: Option<P>,
     counts: Counts,
     lines: Vec<Line>,
+    walks: Vec<Walk>,
     fault: Option<Fault>,
 }
 
@@ -139,7 +144,7 @@ impl<C: Drop, P: LonePass<Receipt = C>> Gathered<P> {
     // Adds one more worker: its log, its counts and its pass.
     fn gather(&mut self, worker: Worker<P>) {
         let (lone, record) = worker.finish();
-        let taken = take_in(record, &mut self.counts, &mut self.lines);
+        let taken = take_in(record, &mut self.counts, &mut self.lines, &mut self.walks);
         let met = self.meet(lone);
         self.note(taken);
         self.note(met);
@@ -155,6 +160,7 @@ fn gather_all<C: Drop, P: LonePass<Receipt = C>>(
         carrier: None,
         counts: Counts::new(),
         lines: Vec::new(alloc),
+        walks: Vec::new(alloc),
         fault: None,
     };
     for worker in workers {
@@ -178,6 +184,7 @@ pub fn ended<C: Drop, P: LonePass<Receipt = C>>(
         carrier,
         mut counts,
         mut lines,
+        walks,
         fault,
     } = gather_all(alloc, workers);
     let passes = plan.all_passes();
@@ -190,7 +197,7 @@ pub fn ended<C: Drop, P: LonePass<Receipt = C>>(
                 shapes,
                 class,
             };
-            judge.verdict(carrier, &mut lines, &mut counts)
+            judge.verdict(carrier, &mut lines, walks.as_slice(), &mut counts)
         }
         (None, None) => Err(Fault::Wrong(Wrong::Apart)),
     };

@@ -29,6 +29,7 @@ pub fn key_of(fault: Fault) -> Option<u64> {
     match fault {
         Fault::Wrong(Wrong::Torn(_, key) | Wrong::Changed(_, key)) => Some(key),
         Fault::Wrong(Wrong::NoOrder(key) | Wrong::NoKey(key)) => Some(key),
+        Fault::Wrong(Wrong::Missed(_, key) | Wrong::WentBack(_, key)) => Some(key),
         _ => None,
     }
 }

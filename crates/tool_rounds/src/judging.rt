@@ -8,6 +8,7 @@ use tool_judge::fault::{Fault, Wrong};
 use tool_judge::judge::judged;
 use tool_judge::line::Line;
 use tool_judge::tally::{Tally, agrees, is_filled};
+use tool_judge::walk::Walk;
 
 /// What the judge of a round knows of its heap.
 #[derive(Clone, Copy)]
@@ -22,10 +23,11 @@ pub struct Judge<'s> {
 }
 
 impl Judge<'_> {
-    // Judges the lines of the first key, counts its slot, and returns the lines of the other keys.
+    // Judges the lines of the first key, counts its slot, and returns the lines of the other keys. No walk missed it.
     fn judge_key<'l, P: LonePass>(
         &self,
         lines: &'l [Line],
+        walks: &[Walk],
         key: u64,
         tallies: &mut [Tally],
         counts: &mut Counts,
@@ -36,6 +38,9 @@ impl Judge<'_> {
             .unwrap_or(lines.len());
         let guard_max = P::Layout::GUARD_MAX;
         let calls = judged(self.alloc, key, &lines[..end], self.passes, guard_max)?;
+        if let Some(walk) = walks.iter().find(|walk| walk.misses(key, calls.as_slice())) {
+            return Err(Fault::Wrong(Wrong::Missed(walk.pass, key)));
+        }
         let (chunk, within) = P::split(key);
         let Some(tally) = tallies.get_mut(chunk as usize) else {
             return Err(Fault::Wrong(Wrong::NoKey(key)));
@@ -59,6 +64,7 @@ impl Judge<'_> {
     fn judge_all<P: LonePass>(
         &self,
         lines: &[Line],
+        walks: &[Walk],
         counts: &mut Counts,
     ) -> Result<Vec<Tally>, Fault> {
         let mut tallies = self.no_tallies()?;
@@ -67,7 +73,7 @@ impl Judge<'_> {
             let Some(first) = rest.first() else {
                 break;
             };
-            rest = self.judge_key::<P>(rest, first.key, tallies.as_mut_slice(), counts)?;
+            rest = self.judge_key::<P>(rest, walks, first.key, tallies.as_mut_slice(), counts)?;
         }
         Ok(tallies)
     }
@@ -133,17 +139,18 @@ impl Judge<'_> {
         Ok(())
     }
 
-    /// Judges what the calls of all passes returned, and sorts the lines by their keys. The carrier is all passes
+    /// Judges what the calls of all passes returned and their walks met, and sorts the lines by their keys. The carrier is all passes
     /// joined.
     pub fn verdict<P: LonePass>(
         &self,
         carrier: P,
         lines: &mut Vec<Line>,
+        walks: &[Walk],
         counts: &mut Counts,
     ) -> Result<(), Fault> {
         let mut whole = carrier.whole()?;
         lines.sort_by_key(|line| line.key)?;
-        let tallies = self.judge_all::<P>(lines.as_slice(), counts)?;
+        let tallies = self.judge_all::<P>(lines.as_slice(), walks, counts)?;
         self.audit::<P>(&mut whole, tallies.as_slice(), counts)
     }
 }

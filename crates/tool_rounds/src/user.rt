@@ -1,6 +1,17 @@
 //! The calls that every pass may make, whether it owns a shard or not.
 use sh_value::{Hold, Refusal, Value};
 
+/// A live key that a walk met, with its value.
+#[derive(Drop)]
+pub struct Met {
+    /// The key.
+    pub key: u64,
+    /// Its value.
+    pub value: Value,
+    /// The place after that of its slot.
+    pub behind: u64,
+}
+
 /// A pass or an owner, which gets, reads, removes and releases.
 pub trait User {
     /// What one pass gives to another, so that what the one was answered happens before the other's later calls.
@@ -23,6 +34,9 @@ pub trait User {
 
     /// The value of a key, which this call removes.
     fn take(&mut self, key: u64) -> Result<Value, Refusal>;
+
+    /// The first live key at a place from this one on, with its value. No hold is left.
+    fn next_live(&mut self, from: u64) -> Result<Option<Met>, Refusal>;
 
     /// Removes a key.
     fn remove(&mut self, key: u64) -> Result<(), Refusal>;

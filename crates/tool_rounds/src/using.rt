@@ -1,10 +1,11 @@
 //! Calls on keys, which note their results in the record.
 use crate::moments::Moments;
-use crate::user::User;
+use crate::user::{Met, User};
 use history_timed::Span;
 use sh_value::{Hold, Refusal, Value};
+use std::alloc::Global;
 use tool_judge::counts::Count;
-use tool_judge::fault::Call;
+use tool_judge::fault::{Call, Fault, Wrong};
 use tool_judge::line::Told;
 use tool_judge::record::Record;
 
@@ -95,6 +96,51 @@ pub fn with<U: User>(user: &mut U, record: &mut Record, moments: &Moments, key: 
     let answer = user.with(key);
     let times = moments.since(begin);
     note_copied(record, key, times, answer);
+}
+
+// The next key of a walk, which was seen in the time of that call. `None` also if it is refused, or not behind the place.
+fn next_met<U: User>(
+    user: &mut U,
+    record: &mut Record,
+    moments: &Moments,
+    place: u64,
+) -> Option<(u64, u64)> {
+    let begin = moments.next();
+    let answer = user.next_live(place);
+    let times = moments.since(begin);
+    match answer {
+        Ok(Some(Met { key, value, behind })) => {
+            record.seen(key, times, value);
+            if behind <= place {
+                record.find(Wrong::WentBack(record.pass, key));
+                return None;
+            }
+            Some((key, behind))
+        }
+        Ok(None) => None,
+        Err(refusal) => {
+            record.refused(Call::Walk, refusal);
+            None
+        }
+    }
+}
+
+/// Walks over all live keys.
+pub fn walk<U: User>(alloc: Global, user: &mut U, record: &mut Record, moments: &Moments) {
+    let begin = moments.next();
+    let mut met = Vec::new(alloc);
+    let mut place = 0;
+    for _ in 0..u64::MAX {
+        let Some((key, behind)) = next_met(user, record, moments, place) else {
+            break;
+        };
+        place = behind;
+        if met.push(key).is_err() {
+            record.fail(Fault::Memory);
+            return;
+        }
+    }
+    record.walked(moments.since(begin), met);
 }
 
 /// Takes the value of a key and removes it, by one call. So the key was seen and removed in the time of that call.

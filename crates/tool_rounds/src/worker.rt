@@ -163,6 +163,15 @@ impl<C: Drop, P: LonePass<Receipt = C>> Worker<P> {
         }
     }
 
+    /// Walks over all live keys, if it has begun nothing by hand.
+    pub fn walk(&mut self, moments: &Moments) {
+        match &mut self.actor {
+            Actor::Lone(lone) => using::walk(self.alloc, lone, &mut self.record, moments),
+            Actor::Owner(owner) => using::walk(self.alloc, owner, &mut self.record, moments),
+            _ => {}
+        }
+    }
+
     // Releases one of its holds.
     fn release(&mut self, moments: &Moments, number: u64) {
         match &mut self.actor {

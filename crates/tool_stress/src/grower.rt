@@ -2,6 +2,7 @@
 ghost use Rattle.std.specs.Prelude.{◌≡◌, Some};
 
 use crate::home::{GrownHomeReceipt, Home};
+use crate::lone::met;
 use crate::opened::unopened;
 use sh_chunk::Chunked;
 use sh_core::Accounts;
@@ -19,7 +20,7 @@ use tool_rounds::pass::{LonePass, PageName};
 use tool_rounds::plan::Plan;
 use tool_rounds::round;
 use tool_rounds::round::Outcome;
-use tool_rounds::user::User;
+use tool_rounds::user::{Met, User};
 
 /// A caller of the growing heap that `H` names, whether it owns shards or not.
 #[derive(Drop)]
@@ -63,6 +64,10 @@ impl<H: Home + Send> User for Grower<H> {
         let mut value = Value::empty();
         self.caller.take_into(key, WORDS_MAX, &mut value)?;
         Ok(value)
+    }
+
+    fn next_live(&mut self, from: u64) -> Result<Option<Met>, Refusal> {
+        Ok(self.caller.next_live(from, u64::MAX)?.map(met))
     }
 
     fn remove(&mut self, key: u64) -> Result<(), Refusal> {

@@ -7,7 +7,7 @@ use crate::stopped::Stopped;
 use sh_core::Accounts;
 use sh_gather::{Whole, whole};
 use sh_key::KeyLayout;
-use sh_member::{fetching, taking};
+use sh_member::{NextLive, fetching, taking, walking};
 use sh_pass::Pass;
 use sh_shard::Shard;
 use sh_step::Action;
@@ -16,7 +16,7 @@ use std::alloc::Global;
 use std::marker::PhantomData;
 use tool_judge::fault::{Fault, Wrong};
 use tool_rounds::pass::{LonePass, PageName};
-use tool_rounds::user::User;
+use tool_rounds::user::{Met, User};
 
 /// A pass of the heap that `H` names.
 #[derive(Drop)]
@@ -46,6 +46,12 @@ impl<'a, L: KeyLayout, H: Home> Lone<'a, L, H> {
     }
 }
 
+/// What a walk met, for a round.
+pub fn met(next: NextLive) -> Met {
+    let NextLive { key, value, behind } = next;
+    Met { key, value, behind }
+}
+
 impl<L: KeyLayout, H: Home + Send> User for Lone<'_, L, H> {
     type Receipt = HomeReceipt<H>;
 
@@ -73,6 +79,10 @@ impl<L: KeyLayout, H: Home + Send> User for Lone<'_, L, H> {
 
     fn take(&mut self, key: u64) -> Result<Value, Refusal> {
         taking::take(&mut self.pass, key)
+    }
+
+    fn next_live(&mut self, from: u64) -> Result<Option<Met>, Refusal> {
+        Ok(walking::next_live(&mut self.pass, from, u64::MAX).map(met))
     }
 
     fn remove(&mut self, key: u64) -> Result<(), Refusal> {

@@ -2,13 +2,13 @@
 ghost use Rattle.std.specs.Prelude.{◌≡◌, ◌<◌, Some};
 
 use crate::home::{Home, HomeReceipt};
-use crate::lone::Lone;
+use crate::lone::{Lone, met};
 use sh_key::KeyLayout;
-use sh_member::{fetching, taking};
+use sh_member::{fetching, taking, walking};
 use sh_shard::Shard;
 use sh_value::{Hold, Refusal, Value};
 use std::marker::PhantomData;
-use tool_rounds::user::User;
+use tool_rounds::user::{Met, User};
 
 /// A shard of the heap that `H` names.
 #[derive(Drop)]
@@ -84,6 +84,10 @@ impl<L: KeyLayout, H: Home + Send> User for Owner<'_, L, H> {
 
     fn take(&mut self, key: u64) -> Result<Value, Refusal> {
         taking::take(&mut self.shard, key)
+    }
+
+    fn next_live(&mut self, from: u64) -> Result<Option<Met>, Refusal> {
+        Ok(walking::next_live(&mut self.shard, from, u64::MAX).map(met))
     }
 
     fn remove(&mut self, key: u64) -> Result<(), Refusal> {

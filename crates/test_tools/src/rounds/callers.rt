@@ -9,7 +9,7 @@ use std::alloc::Global;
 use std::sync::{Mutex, Wait};
 use tool_judge::fault::Fault;
 use tool_rounds::pass::{LonePass, PageName};
-use tool_rounds::user::User;
+use tool_rounds::user::{Met, User};
 
 // What is added to a key of the second chunk: more than any key of the layout.
 const SECOND: u64 = 1 << 40;
@@ -143,6 +143,23 @@ impl<R: Wait> User for ModelCaller<'_, R> {
         let value = model.get_and_read(within)?;
         model.remove(within)?;
         Ok(value)
+    }
+
+    // The places of the second chunk are behind those of the first one.
+    fn next_live(&mut self, from: u64) -> Result<Option<Met>, Refusal> {
+        if from < SECOND {
+            let met = self.first.model.lock(self.first.rt).next_live(from);
+            if met.is_some() {
+                return Ok(met);
+            }
+        }
+        let within = from.saturating_sub(SECOND);
+        let met = self.second.model.lock(self.second.rt).next_live(within);
+        Ok(met.map(|Met { key, value, behind }| Met {
+            key: self.second_key(key),
+            value,
+            behind: behind.wrapping_add(SECOND),
+        }))
     }
 
     fn remove(&mut self, key: u64) -> Result<(), Refusal> {

@@ -27,6 +27,10 @@ pub enum Defect {
     GoneBeforeInsert,
     /// A look at a key that is yet to be inserted returns the value of the key before it.
     SeenBeforeInsert,
+    /// A walk passes over the slots that were filled again.
+    PassedOver,
+    /// A walk does not go on from a slot that was filled again.
+    StaysBehind,
     /// The accounts of a page have a value too many.
     WrongSums,
     /// A get is refused as crowded, though nobody holds the key.

@@ -67,6 +67,15 @@ fn wrong_sums_of_a_later_chunk_are_found(rt: HostRuntime) {
 }
 
 #[test]
+fn a_key_of_a_later_chunk_that_a_walk_misses_is_found(rt: HostRuntime) {
+    let fault = counts_of(&rt, rt.alloc(), Defect::PassedOver).err();
+    holds(
+        &rt,
+        matches!(fault, Some(Fault::Wrong(Wrong::Missed(_, key))) if key >> 40 == 1),
+    );
+}
+
+#[test]
 fn room_in_a_later_chunk_is_found(rt: HostRuntime) {
     let fault = counts_of(&rt, rt.alloc(), Defect::FullEarly).err();
     agree(&rt, fault, Some(Fault::Wrong(Wrong::Room(1, 0, 7))));

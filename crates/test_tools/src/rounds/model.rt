@@ -1,5 +1,6 @@
 //! A heap of one shard, as a list of slots, with a defect if one is asked for.
 mod looking;
+mod walking;
 
 use crate::rounds::defect::Defect;
 use sh_core::Accounts;

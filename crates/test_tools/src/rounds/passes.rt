@@ -9,7 +9,7 @@ use std::alloc::Global;
 use std::sync::{Mutex, Wait};
 use tool_judge::fault::{Fault, Wrong};
 use tool_rounds::pass::{LonePass, PageName};
-use tool_rounds::user::User;
+use tool_rounds::user::{Met, User};
 
 // What a pass has begun by hand.
 #[derive(Clone, Copy, Debug, PartialEq, Eq)]
@@ -130,6 +130,10 @@ impl<R: Wait> User for ModelPass<'_, R> {
             model.remove(key)?;
         }
         Ok(value)
+    }
+
+    fn next_live(&mut self, from: u64) -> Result<Option<Met>, Refusal> {
+        Ok(self.model.lock(self.rt).next_live(from))
     }
 
     fn remove(&mut self, key: u64) -> Result<(), Refusal> {
