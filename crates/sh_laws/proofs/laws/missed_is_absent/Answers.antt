@@ -1,5 +1,5 @@
-use Rattle.sh_walk.proofs.FoundOnce as once
-use Rattle.sh_walk.proofs.laws.missed_is_absent.Goals as goal
+use Rattle.sh_laws.proofs.FoundOnce as once
+use Rattle.sh_laws.proofs.laws.missed_is_absent.Goals as goal
 
 pub returns-clause-missed : goal.returns-clause-missed
 returns-clause-missed c = once.missed_is_absent

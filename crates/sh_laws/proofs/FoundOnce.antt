@@ -26,7 +26,7 @@ use Rattle.sh_core.specs.Worlds.{World, run, run_from, step, open_world, value_a
 use Rattle.sh_pass.specs.Deciding.{step_at_slot}
 use Rattle.sh_pass.specs.Missing.{StepMisses}
 use Rattle.sh_pass.specs.View.{View}
-use Rattle.sh_walk.specs.Laws.{HeardIsRemoved, MissedIsAbsent, StayingIsMet}
+use Rattle.sh_laws.specs.Walks.{HeardIsRemoved, MissedIsAbsent, StayingIsMet}
 
 -- what an event adds to a trail, by the row of the event
 abbrev added : World → Event → ℕ → List Footstep → Option Row → List Footstep

@@ -1,0 +1,5 @@
+pub mod Garbage
+pub mod StrongOrders
+pub mod Objects
+pub mod Refuted
+pub mod Walks
