@@ -6,7 +6,11 @@
 #include <unistd.h>
 
 /* The values of a word of one shard of the least table, and those of several. */
+#ifdef FEWER_ROUNDS
+enum { WHOLE = 384, COUNT = 480 };
+#else
 enum { WHOLE = 384, COUNT = 1000 };
+#endif
 
 static shardheap_table table = SHARDHEAP_INIT;
 
@@ -56,11 +60,11 @@ static void walks(void) {
 /* ---- Beside threads ---- */
 
 #ifdef FEWER_ROUNDS
-enum { ROUNDS = 3 };
+enum { ROUNDS = 3, STAY = 5, PAUSE = 100000 };
 #else
-enum { ROUNDS = 50 };
+enum { ROUNDS = 50, STAY = 20, PAUSE = 10000 };
 #endif
-enum { BESIDE = 70, STAY = 20, STAYS = 7, GOES = 8 };
+enum { BESIDE = 70, STAYS = 7, GOES = 8 };
 static uint64_t staying[BESIDE][STAY];
 static _Atomic bool over;
 static useconds_t pause_each; /* so that many threads leave some time to others */
@@ -139,7 +143,7 @@ static void walks_beside(int threads, int rounds, useconds_t pause) {
 int main(void) {
     walks();
     walks_beside(3, ROUNDS, 0);
-    walks_beside(BESIDE, 3, 10000);
+    walks_beside(BESIDE, 3, PAUSE);
     printf("table_walks: %d checks passed\n", checks);
     return 0;
 }

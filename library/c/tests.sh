@@ -64,7 +64,7 @@ all() {
   local compiler=$1 rounds=$2 name
   shift 2
   for name in session growing_table connections blocks misuse pointers whole reuse taking batches receipts keys \
-    own_keys walks growing memory checked table table_walks table_ends table_memory; do
+    own_keys walks growing seeded memory checked table table_walks table_ends table_memory; do
     compiled "$compiler" "$name" "$@"
     run "$name"
   done
@@ -76,7 +76,7 @@ in_checked_mode() {
   local compiler=$1 rounds=$2 name
   shift 2
   for name in session growing_table connections pointers whole reuse taking batches receipts keys own_keys walks \
-    growing memory table table_walks table_ends table_memory; do
+    growing seeded memory table table_walks table_ends table_memory; do
     compiled "$compiler" "$name" -DSHARDHEAP_CHECKED "$@"
     run "$name"
   done
@@ -139,6 +139,12 @@ examples() {
 tables() {
   echo "== threads of a table that take turns"
   timeout "$limit" python3 library/c/table_turns.py "$out" "$1" "$memory" "$archive"
+}
+
+# seeds SEEDS: random calls of passes beside a shadow of their heap, those of each heap from a seed, and planted faults.
+seeds() {
+  echo "== random calls beside a shadow"
+  timeout "$limit" python3 library/c/seeded.py "$out" "$1" "$memory" "$archive"
 }
 
 # The example of README.md in C, which is a whole program. Its comment says what it prints.

@@ -1,6 +1,7 @@
 // Heaps that grow: values of several chunks, receipts, callers that come home, and threads.
 #include "check.hpp"
 
+#include <atomic>
 #include <cstdint>
 #include <thread>
 #include <utility>
@@ -9,6 +10,11 @@
 namespace {
 
 constexpr std::uint64_t chunk = 384;
+#ifdef FEWER_ROUNDS
+constexpr int looks = 100;
+#else
+constexpr int looks = 20000;
+#endif
 
 // At most three chunks, each of a shard of one segment.
 gearlongan::growing_heap three_chunks(std::uint32_t passes) {
@@ -153,6 +159,30 @@ TEST(callers_move_and_come_home) {
 
 // (See cpp_sanitized in tests.sh.)
 #ifndef ONE_THREAD_GROWS
+// Threads look at one object while another takes callers of it. The room is never less than before.
+TEST(threads_look_at_a_growing_heap) {
+    auto heap = gearlongan::growing_heap::open({1, chunk, 1, 2}, 64);
+    std::atomic<int> looking{3};
+    std::vector<std::thread> threads;
+    for (int n = 0; n < 3; n++)
+        threads.emplace_back([&looking, &looked_at = std::as_const(heap)]() {
+            std::uint64_t chunks = 1, capacity = chunk, bytes = chunk * 65 / 2;
+            for (int look = 0; look < looks; look++) {
+                const auto found = looked_at.capacity(1), taken = looked_at.bytes(), open = looked_at.chunks();
+                CHECK(found >= capacity && found % chunk == 0 && taken >= bytes && open >= chunks);
+                chunks = open, capacity = found, bytes = taken;
+            }
+            looking--;
+        });
+    for (std::uint64_t n = 0; n < 4 || looking > 0; n++) {
+        auto caller = heap.take();
+        const auto keys = stored(caller, 0, chunk);
+        for (std::size_t at = n < 4 ? chunk : 0; at < chunk; at++) CHECK(caller.remove(keys[at]));
+    }
+    for (auto &it : threads) it.join();
+    CHECK(heap.chunks() >= 4 && heap.capacity(1) >= 4 * chunk);
+}
+
 TEST(threads_fill_a_growing_heap) {
     constexpr std::uint64_t each = 2000;
     auto heap = gearlongan::growing_heap::open({1, 1, 1, 4}, 256);

@@ -113,6 +113,16 @@ void refused(gearlongan::heap &heap, gearlongan::pass &pass, gearlongan::shard &
     (void)static_cast<const gearlongan::heap &>(heap).keys(); //~ const
     (void)static_cast<const gearlongan::shard &>(shard).keys(); //~ const
     (void)constant.walk(); //~ const
-    static_cast<const gearlongan::heap &>(heap).take(); //~ const
     (void)constant, (void)heap, (void)shard;
+
+    // Those that look at a heap are const, and for several threads at once. Those that change what others find are not.
+    const gearlongan::heap &looked_at = heap;
+    const gearlongan::growing_heap growing;
+    (void)looked_at.passes(), (void)looked_at.capacity(1), (void)looked_at.bytes(), (void)looked_at.layout_of();
+    (void)growing.chunks(), (void)growing.capacity(1), (void)growing.bytes(), (void)growing.passes();
+    (void)looked_at.take(); //~ const
+    (void)looked_at.share(); //~ const
+    looked_at.gather(); //~ const
+    (void)growing.take(); //~ const
+    looked_at.capacity(1); //~ nodiscard
 }

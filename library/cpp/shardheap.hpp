@@ -40,17 +40,19 @@
 //
 // THREADS. The rules are those of shardheap.h. A pass, with its guards, is used by one thread at a time, and may go to
 // another thread by whatever orders the two. The calls on a handle are therefore not const. A const member function may
-// be called by several threads at once, except those of a guard, which use its pass. All calls on a table may, except
-// that it is moved, opened, closed and destroyed by one thread alone.
+// be called by several threads at once, except those of a guard, which use its pass. All calls on a heap, a growing
+// heap and a table may, except that it is moved, opened, closed and destroyed by one thread alone. Those on a heap lock
+// a mutex of the object. A call of C on its handle (`raw`) does not, and is made while no other uses the object.
 //
 // SIGNALS. In a signal handler a program may use the forms that do not throw, of the calls that shardheap.h allows
-// there, and a guard's destructor.
+// there, and a guard's destructor. Of a heap it calls those of C on the handle, as the others lock.
 //
 // CHECKED MODE. With SHARDHEAP_CHECKED all that shardheap.h finds is found here. A handle that is moved is sealed at
 // its new place. A pass also counts its guards. If it has one, a move, an adopt and a leave do nothing; a close, a lose
 // and a destructor go on. Each of them calls SHARDHEAP_ON_MISUSE(SHARDHEAP_BUSY).
 //
-// COSTS. A call is the call of shardheap.h, inlined. No call takes memory of its own, except for the text of an error.
+// COSTS. A call is the call of shardheap.h, inlined; that on a heap also takes a lock of its object. No call takes
+// memory of its own, except for the text of an error.
 #ifndef SHARDHEAP_HPP
 #define SHARDHEAP_HPP
 

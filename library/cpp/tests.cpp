@@ -384,7 +384,8 @@ static_assert(!std::is_constructible_v<gearlongan::pass, gearlongan::shard &&>);
 static_assert(!std::is_constructible_v<gearlongan::shard, gearlongan::pass &&>);
 static_assert(!std::is_constructible_v<gearlongan::pass, gearlongan::reader &&>);
 #ifndef SHARDHEAP_CHECKED
-static_assert(sizeof(gearlongan::heap) == sizeof(shardheap) && sizeof(gearlongan::pass) == sizeof(shardheap_pass));
+static_assert(sizeof(gearlongan::receipt) == sizeof(shardheap_receipt));
+static_assert(sizeof(gearlongan::pass) == sizeof(shardheap_pass));
 static_assert(sizeof(gearlongan::guard) == 16);
 #endif
 

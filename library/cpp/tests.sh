@@ -84,7 +84,7 @@ cpp_sanitized() {
   cpp_all "$1" c++17 -O1 -DFEWER_ROUNDS -fsanitize=address,undefined -fno-sanitize-recover=all
   local archive=${SHARDHEAP_TSAN_LIB:-$archive} flags=(-O1 -DFEWER_ROUNDS -fsanitize=thread)
   [ -n "${SHARDHEAP_TSAN_LIB:-}" ] || {
-    echo "skipped: SHARDHEAP_TSAN_LIB names no archive, so no threads fill a growing heap under the thread sanitizer"
+    echo "skipped: SHARDHEAP_TSAN_LIB names no archive, so threads fill no growing heap under the thread sanitizer"
     flags+=(-DONE_THREAD_GROWS)
   }
   cpp_run "$1" c++17 tests "${flags[@]}"

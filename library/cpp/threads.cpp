@@ -4,7 +4,6 @@
 #include <array>
 #include <atomic>
 #include <functional>
-#include <mutex>
 #include <thread>
 #include <vector>
 
@@ -131,26 +130,35 @@ TEST(one_remover) {
     CHECK(removed == keys);
 }
 
-// Threads share one heap object behind a lock.
-TEST(takers_behind_a_lock) {
-    auto heap = gearlongan::heap::open(layout::wide, {4, 1, 2});
-    std::mutex lock;
+// Threads take passes of one heap object, and others look at it meanwhile.
+TEST(threads_share_a_heap) {
+    constexpr int takers = 4, lookers = 2;
+    auto heap = gearlongan::heap::open(layout::wide, {takers, 1, 2});
+    const gearlongan::heap &looked_at = heap;
     std::atomic<int> ran{0};
     std::vector<std::thread> threads;
-    for (std::uint64_t at = 0; at < 4; at++)
+    for (std::uint64_t at = 0; at < takers; at++)
         threads.emplace_back([&, at]() {
             for (int round = 0; round < 200; round++) {
                 gearlongan::pass pass;
                 while (!pass) {
-                    const std::lock_guard<std::mutex> held(lock);
                     const errc code = heap.try_take(pass);
                     CHECK(code == errc::ok || code == errc::no_pass);
                 }
                 auto shard = std::move(pass).adopt(at);
                 CHECK(shard.remove(shard.insert({at})));
+                CHECK(heap.share().passes() == 2);
                 ran++;
             }
         });
+    for (int at = 0; at < lookers; at++)
+        threads.emplace_back([&]() {
+            while (ran < takers * 200) {
+                CHECK(looked_at && looked_at.passes() == 2 && looked_at.layout_of() == layout::wide);
+                CHECK(looked_at.capacity(1) == 4 * 384 && looked_at.bytes() == 4 * (8 * 195 + 2) * 8);
+            }
+        });
     for (std::thread &it : threads) it.join();
-    CHECK(ran == 800);
+    heap.gather();
+    CHECK(ran == takers * 200 && heap.totals().live == 0);
 }

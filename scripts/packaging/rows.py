@@ -59,6 +59,8 @@ crate=$(ls -d $PWD/gearlongan-*) slab=$(ls -d $PWD/sharded-slab-*)
 """
 ALONE = BARE + UNPACKED + "unset PKG_CONFIG_PATH\nexport PREFIX=$PWD\nmkdir -p share/cargo/registry\n"
 BY_FILE = 'gearlongan = { path = "$crate" }'
+# A crate in a program's folder would be a member of its workspace, so that cargo looked for optional dependencies too.
+NO_MEMBERS = 'exclude = ["$crate", "$slab"]'
 UNCRATED, CRATED = "cd $PACKAGES\ntar -xzf gearlongan-*.crate\n", """
 tar -czf $(ls gearlongan-*.crate) gearlongan-*/
 rm -r gearlongan-*/"""
@@ -197,7 +199,7 @@ grep -q 'which SHARDHEAP_LIB_DIR names' said""",
         "sed -i 's/starts_with(minor)/contains(\"\")/' $PREFIX/share/cargo/registry/gearlongan-*/build.rs",
         ("cargo", "pkg-config")),
     Row("Rust, the crate's file beside an installed library",
-        UNPACKED + rust("$crate/examples/session.rs", BY_FILE) + """
+        UNPACKED + rust("$crate/examples/session.rs", BY_FILE, NO_MEMBERS) + """
 cargo run --offline --quiet
 grep -qF "native=$(pkg-config --variable=libdir shardheap)" target/debug/build/gearlongan-*/output
 mkdir own
@@ -251,7 +253,7 @@ done
 not pkg-config --exists shardheap
 ldconfig -p > linked
 not grep shardheap linked""", "touch /usr/share/doc/libshardheap-dev/left", debian=True),
-    Row("Rust, the crate's file alone", ALONE + rust("$crate/examples/session.rs", BY_FILE) + """
+    Row("Rust, the crate's file alone", ALONE + rust("$crate/examples/session.rs", BY_FILE, NO_MEMBERS) + """
 cargo run --offline --quiet > said 2>&1 || { cat said; exit 1; }
 not grep -i warning said
 [ $(sed -n 's/^sha256 of libshardheap.a: //p' $crate/BUILD) = $(sha256sum < $crate/lib/libshardheap.a | cut -c1-64) ]
@@ -273,9 +275,10 @@ grep -q 'supports x86-64 Linux alone, and this target is aarch64' said""",
         f"{UNCRATED}sed -i 's/^    refuse_other_targets();//' gearlongan-*/build.rs{CRATED}", ("cargo", "cc")),
     Row("Rust, the file of sharded-slab", ALONE + rust(
         "$CLIENT/slab.rs", f'{BY_FILE}\nsharded-slab = "0.1.4"',
-        '[patch.crates-io]\nsharded-slab = { path = "$slab" }') + "cargo run --offline --quiet",
+        NO_MEMBERS + '\n[patch.crates-io]\nsharded-slab = { path = "$slab" }') + "cargo run --offline --quiet",
         "rm $PACKAGES/sharded-slab-*.crate", ("cargo", "cc")),
-    Row("Rust, documents without the library", ELSEWHERE + rust(SESSION, BY_PATH) + """unset PKG_CONFIG_PATH
+    Row("Rust, documents without the library", ELSEWHERE + rust(SESSION, BY_PATH, 'exclude = ["there"]') + """
+unset PKG_CONFIG_PATH
 cargo doc --offline -p gearlongan > said 2>&1 || { cat said; exit 1; }
 grep -q 'there is no libshardheap' said
 not cargo build --offline > said 2>&1

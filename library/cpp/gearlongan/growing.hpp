@@ -69,9 +69,9 @@ public:
     void close() noexcept { reader::close(); }
 };
 
-/// A heap that grows by chunks as inserts find no room. Threads take callers of it. A growing_heap object is used by
-/// one call at a time, as a heap object is, and the heap goes with the last of these objects and its callers. The
-/// refusals of all calls here include errc::empty. It also has the calls of heap_base and of owned.
+/// A heap that grows by chunks as inserts find no room. Threads take callers of it. Any number of threads use one
+/// object, as that of a heap, and the heap goes with the last of these objects and its callers. The refusals of all
+/// calls here include errc::empty. It also has the calls of heap_base and of owned.
 ///
 ///     auto growing = gearlongan::growing_heap::open({1, 1, 1, 2}, 256);    // one segment at first, 2 passes
 ///     auto caller = growing.take();
@@ -88,8 +88,8 @@ public:
     ///     gearlongan::growing_heap growing;
     ///     assert(growing.try_open({1, 1000, 2, 8}, 257) == gearlongan::errc::bad_shape);
     errc try_open(room first, std::uint32_t chunks) noexcept {
-        return static_cast<errc>(
-            shardheap_open_growing(raw(), first.owners, first.values, first.words, first.passes, chunks));
+        return static_cast<errc>(alone(shardheap_open_growing, first.owners, first.values, first.words, first.passes,
+                                       chunks));
     }
 
 #if defined(__cpp_exceptions)
@@ -108,7 +108,7 @@ public:
     ///
     ///     auto growing = gearlongan::growing_heap::open({1, 1000, 2, 8}, 256);
     ///     assert(growing.passes() == 8 && growing.chunks() == 1);
-    [[nodiscard]] std::uint64_t chunks() noexcept { return shardheap_chunks(raw()); }
+    [[nodiscard]] std::uint64_t chunks() const noexcept { return alone(shardheap_chunks); }
 };
 
 } // namespace gearlongan

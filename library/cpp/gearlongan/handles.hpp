@@ -69,8 +69,11 @@ protected:
     }
     ~owned() { close(); }
 
+    // The same for calls of C that change the handle only until they return.
+    [[nodiscard]] Handle *handle() const noexcept { return &raw_; }
+
 private:
-    Handle raw_ = SHARDHEAP_INIT;
+    mutable Handle raw_ = SHARDHEAP_INIT;
 };
 
 } // namespace detail

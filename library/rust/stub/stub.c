@@ -377,3 +377,13 @@ uint32_t shardheap_raw_next_key(shardheap *heap, uint64_t *place, uint64_t *key)
     (void)heap, (void)place, (void)key;
     abort();
 }
+
+uint32_t shardheap_raw_next_live(shardheap_pass *pass, uint64_t from, uint64_t before, shardheap_live_key *next) {
+    (void)pass, (void)from, (void)before, (void)next;
+    abort();
+}
+
+uint32_t shardheap_raw_next_held(shardheap_pass *pass, uint64_t from, uint64_t before, shardheap_held_key *next) {
+    (void)pass, (void)from, (void)before, (void)next;
+    abort();
+}

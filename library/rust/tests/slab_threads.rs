@@ -15,6 +15,9 @@ use std::thread;
 use std::time::Duration;
 
 const COUNT: usize = if cfg!(debug_assertions) { 1_000 } else { 10_000 };
+/// How many walks there are beside threads, and how many values of each of these stay: few under memcheck.
+const SWEEPS: usize = if cfg!(debug_assertions) { 10 } else { 1_000 };
+const STAY: usize = if cfg!(debug_assertions) { 60 } else { 400 };
 
 fn pairs(threads: usize) {
     let dropped = Arc::new(AtomicUsize::new(0));
@@ -93,14 +96,14 @@ fn a_walk_meets_each_value_that_stays_once() {
     let (slab, stay) = (Slab::new(), Mutex::<HashSet<usize>>::default());
     let (begin, over) = (Barrier::new(4), AtomicBool::new(false));
     let work = || {
-        let keys: Vec<usize> = (0..800).flat_map(|n| slab.insert(if n % 2 == 0 { STAYS } else { GOES })).collect();
+        let keys: Vec<usize> = (0..2 * STAY).flat_map(|n| slab.insert(if n % 2 == 0 { STAYS } else { GOES })).collect();
         stay.lock().expect("no thread panics").extend(keys.iter().step_by(2));
         let mut going: Vec<usize> = keys.into_iter().skip(1).step_by(2).collect();
         begin.wait();
         while !over.load(SeqCst) {
             // (A walk may have removed it.)
             going.drain(..).for_each(|key| _ = slab.remove(key));
-            going.extend((0..400).flat_map(|_| slab.insert(GOES)));
+            going.extend((0..STAY).flat_map(|_| slab.insert(GOES)));
         }
     };
     thread::scope(|scope| {
@@ -118,9 +121,9 @@ fn a_walk_meets_each_value_that_stays_once() {
             }
             met.len() == stay.len() && met.iter().all(|key| stay.contains(key))
         };
-        let right = (0..COUNT / 10).filter(|sweep| is_right(*sweep)).count();
+        let right = (0..SWEEPS).filter(|sweep| is_right(*sweep)).count();
         over.store(true, SeqCst);
-        assert_eq!((right, stay.len()), (COUNT / 10, 1200));
+        assert_eq!((right, stay.len()), (SWEEPS, 3 * STAY));
     });
 }
 

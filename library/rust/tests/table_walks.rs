@@ -10,7 +10,10 @@ use std::sync::{Barrier, Mutex};
 use std::thread;
 use std::time::Duration;
 
-const SWEEPS: usize = if cfg!(debug_assertions) { 20 } else { 200 };
+/// How many walks there are beside threads, and how many keys of each of these stay: few under memcheck.
+const SWEEPS: usize = if cfg!(debug_assertions) { 10 } else { 200 };
+const STAY: usize = if cfg!(debug_assertions) { 5 } else { 20 };
+const PAUSE: Duration = Duration::from_millis(if cfg!(debug_assertions) { 100 } else { 10 });
 
 /// Numbers of several chunks.
 fn filled(count: u64) -> (Table<u64>, Vec<Key<u64>>) {
@@ -148,14 +151,14 @@ fn stays_are_met_once(threads: usize, walkers: usize, sweeps: usize, pause: Dura
     let (begin, inserted, removed) = (Barrier::new(threads + walkers), AtomicUsize::new(0), AtomicUsize::new(0));
     let come_and_go = || {
         let insert = |word: u64| table.insert(&word).expect("there is room");
-        let all: Vec<Key<u64>> = (0..40).map(|n| insert(STAYS + n % 2)).collect();
+        let all: Vec<Key<u64>> = (0..2 * STAY as u64).map(|n| insert(STAYS + n % 2)).collect();
         stay.lock().expect("no thread panics").extend(all.iter().step_by(2));
         let mut going: Vec<Key<u64>> = all.into_iter().skip(1).step_by(2).collect();
         begin.wait();
         while !over.load(SeqCst) {
             inserted.fetch_add(going.len(), SeqCst);
             removed.fetch_add(going.drain(..).filter(|key| table.remove(*key)).count(), SeqCst);
-            going.extend((0..20).map(|_| insert(GOES)));
+            going.extend((0..STAY).map(|_| insert(GOES)));
             thread::sleep(pause);
         }
         inserted.fetch_add(going.len(), SeqCst);
@@ -177,7 +180,7 @@ fn stays_are_met_once(threads: usize, walkers: usize, sweeps: usize, pause: Dura
     });
     removed.fetch_add(table.remove_if(|_, word| word == GOES), SeqCst);
     assert_eq!(removed.into_inner(), inserted.into_inner(), "each is removed once");
-    assert_eq!((table.len(), table.keys().count()), (20 * threads, 20 * threads));
+    assert_eq!((table.len(), table.keys().count()), (STAY * threads, STAY * threads));
 }
 
 #[test]
@@ -188,5 +191,5 @@ fn keys_that_stay_are_met_once_beside_three_threads() {
 #[test]
 fn keys_that_stay_are_met_once_by_threads_that_share_places() {
     // (Each leaves some time to the others.)
-    stays_are_met_once(66, 2, 4, Duration::from_millis(10));
+    stays_are_met_once(66, 2, 4, PAUSE);
 }

@@ -10,7 +10,9 @@ use std::sync::atomic::{AtomicBool, AtomicUsize, Ordering::SeqCst};
 use std::sync::{Barrier, Mutex};
 use std::thread;
 
-const SWEEPS: usize = if cfg!(debug_assertions) { 60 } else { 600 };
+/// How many walks there are beside threads, and how many keys of each of these stay: few under memcheck.
+const SWEEPS: usize = if cfg!(debug_assertions) { 9 } else { 600 };
+const STAY: usize = if cfg!(debug_assertions) { 60 } else { 300 };
 
 fn keys(pass: &Pass) -> Vec<Key> {
     pass.walk().map(|(key, _)| key).collect()
@@ -153,7 +155,7 @@ type Predicate<'a> = dyn FnMut(Key, &[u64]) -> bool + 'a;
 /// Every other value stays. The places of the others are used again and again.
 fn come_and_go<O: Deref<Target = Pass>>(game: &Game, owner: &O, insert: fn(&O, &[u64]) -> Result<Key, Error>) {
     let insert = |word| insert(owner, &[word]).expect("there is room");
-    let all: Vec<Key> = (0..600).map(|n| insert(STAYS + n % 2)).collect();
+    let all: Vec<Key> = (0..2 * STAY as u64).map(|n| insert(STAYS + n % 2)).collect();
     game.stay.lock().expect("no thread panics").extend(all.iter().step_by(2));
     let mut going: Vec<Key> = all.into_iter().skip(1).step_by(2).collect();
     game.begin.wait();
@@ -161,7 +163,7 @@ fn come_and_go<O: Deref<Target = Pass>>(game: &Game, owner: &O, insert: fn(&O, &
         game.inserted.fetch_add(going.len(), SeqCst);
         let removed = going.drain(..).filter(|key| owner.remove(*key).is_ok()).count();
         game.removed.fetch_add(removed, SeqCst);
-        going.extend((0..300).map(|_| insert(GOES)));
+        going.extend((0..STAY).map(|_| insert(GOES)));
     }
     game.inserted.fetch_add(going.len(), SeqCst);
 }
@@ -198,7 +200,7 @@ fn stays_are_met_once<O: Deref<Target = Pass> + Send>(
 ) {
     let (stay, over, inserted, removed) = Default::default();
     let game = Game { stay, begin: Barrier::new(owners.len() + 1), over, inserted, removed };
-    let stays = 300 * owners.len();
+    let stays = STAY * owners.len();
     let right = thread::scope(|scope| {
         let game = &game;
         owners.into_iter().for_each(|owner| drop(scope.spawn(move || come_and_go(game, &owner, insert))));
