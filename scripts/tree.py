@@ -8,10 +8,8 @@ TOP = pathlib.Path(__file__).resolve().parent.parent
 CRATES = TOP / "crates"
 PARTS = ("src", "specs", "proofs")
 ROW = re.compile(r"(\w+)(?: staticlib)?:([^#]*)")
-# A heading of crates.txt, under which a group of crates is listed.
-HEADING = re.compile(r"# ([^:]*)\.")
-# What is listed from this line on is the lab, and what is above it the heap.
-LAB = "# The lab:"
+# A heading of crates.txt, under which a group of crates is listed, and the one from which on they are the lab.
+HEADING, LAB = re.compile(r"# ([^:]*)\."), "# The lab:"
 # The door of the gate that looks at this tree; none if the whole gate does (.ci/run).
 DOOR = os.environ.get("DOOR")
 
@@ -25,7 +23,6 @@ class Crate:
         self.kit = [it for it in libraries if it not in names]
 
     def files(self, parts=PARTS):
-        """All files of these folders, in an order that is the same everywhere."""
         return sorted(it for part in parts for it in (self.folder / part).rglob("*") if it.is_file())
 
     def is_program(self):
@@ -60,7 +57,6 @@ class Crate:
 
 
 def listed(kind=Crate):
-    """All crates by their names, from the bottom up."""
     rows, door, group = [], "heap", ""
     for line in (TOP / "crates.txt").read_text().splitlines():
         heading, row = HEADING.fullmatch(line), ROW.fullmatch(line)
@@ -91,6 +87,5 @@ def program(name):
 
 
 def kit():
-    """The folder of the toolchain."""
     page = subprocess.run(["rt", "doc"], capture_output=True, text=True, check=True).stdout.strip()
     return pathlib.Path(page).parent

@@ -1,12 +1,10 @@
-"""The archive libc_exports.a of crates/c_exports: proved, or without a proof.
+"""The archive libc_exports.a of crates/c_exports: proved, or without a proof, for any processor of x86-64.
 
-Both are for any processor of x86-64. A program links the one as the other, with the memory functions of
-library/src/memory.c.
+A program links the one as the other, with the memory functions of library/src/memory.c.
 
-`rt ci` proves c_exports and leaves no archive, and it leaves each library below in out/rlib without the stamp by which
-`rt lib` would know it, so that `rt lib` would prove all of them again. The proved archive takes them as `rt ci` itself
-takes them for the crates above: c_exports alone is checked, on as many processors as there are, and LLVM compiles what
-was proved.
+`rt ci` leaves no archive, and each library below c_exports without the stamp by which `rt lib` would know it. The
+proved archive takes these libraries as `rt ci` itself takes them for the crates above: c_exports alone is checked, and
+LLVM compiles what was proved.
 
 `rt try` compiles a program and no archive. So the one without a proof is made of a copy of the crates, of which
 c_exports has a `main` that calls each function `shardheap_raw_..`. LLVM drops that `main`, which nothing calls.
@@ -21,24 +19,21 @@ import tempfile
 
 import tree
 from building import module
+from checks import written
 
 sys.path.insert(0, str(tree.TOP / "scripts/packaging"))
 
 import record
 
 NAME = "c_exports"
+# What fills and copies memory in instrumented code. Not every runtime of ThreadSanitizer has it.
+COPIES = tree.TOP / "scripts/compiled/copies.c"
 EXPORT = re.compile(r'pub extern "C" fn (shardheap_raw_\w+)\(([^)]*)\)')
 # A value for each kind of parameter, in the order in which they are tried.
 VALUES = [
     (r"Global", "alloc"), (r"&mut \[(\w+)\]", "&mut [0{0}; 16][..]"), (r"&\[(\w+)\]", "&[0{0}; 16][..]"),
     (r"&mut ([ui](?:\d+|size))", "&mut 0{0}"), (r"[ui](?:\d+|size)", "0"), (r"bool", "false"),
 ]
-# clang's names for what fills and copies memory in instrumented code. Not every runtime of ThreadSanitizer has them.
-TSAN_MEMORY = """#include <string.h>
-__attribute__((weak)) void *__tsan_memcpy(void *to, const void *from, size_t size) { return memcpy(to, from, size); }
-__attribute__((weak)) void *__tsan_memmove(void *to, const void *from, size_t size) { return memmove(to, from, size); }
-__attribute__((weak)) void *__tsan_memset(void *to, int byte, size_t size) { return memset(to, byte, size); }
-"""
 
 
 def proved():
@@ -63,24 +58,17 @@ def proved():
 
 
 def records(source):
-    """The structs that C shares, each with a literal of zeros."""
+    """The structs that C shares, each with a literal of zeros. (An array that C shares has the words of a value.)"""
     found = re.findall(r"#\[repr\(C\)\]\n(?:#\[[^\n]*\]\n)*pub struct (\w+) \{(.*?)\n\}", source, re.S)
-    # (An array that C shares has the words of a value, 16 of them.)
     fields = {name: re.findall(r"pub (\w+): (\[?)", body) for name, body in found}
-    zeros = {"": "0", "[": "[0; 16]"}
-    return {
-        name: f"{name} {{ {', '.join(f'{it}: {zeros[array]}' for it, array in its)} }}" for name, its in fields.items()
-    }
+    return {name: f"{name} {{ {', '.join(f'{it}: ' + ('[0; 16]' if array else '0') for it, array in its)} }}"
+            for name, its in fields.items()}
 
 
 def value_of(kind, structs):
-    """An argument of this type."""
-    struct = re.fullmatch(r"&mut (\w+)", kind)
-    if struct and struct[1] in structs:
-        return f"&mut {structs[struct[1]]}"
-    several = re.fullmatch(r"&mut \[(\w+)\]", kind)
-    if several and several[1] in structs:
-        return f"&mut [{structs[several[1]]}][..]"
+    struct = re.fullmatch(r"&mut (\[?)(\w+)\]?", kind)
+    if struct and struct[2] in structs:
+        return f"&mut [{structs[struct[2]]}][..]" if struct[1] else f"&mut {structs[struct[2]]}"
     for pattern, value in VALUES:
         found = re.fullmatch(pattern, kind)
         if found:
@@ -90,29 +78,27 @@ def value_of(kind, structs):
 
 def program(folder):
     """The text of a `main` that calls each export of the crate in this folder."""
-    root = (folder / "lib.rt").read_text()
-    uses, calls, handles = [], [], 0
+    root, uses, lines, handles = (folder / "lib.rt").read_text(), [], [], 0
     for name in re.findall(r"(?m)^(?:pub )?mod (\w+);", root):
         source = (folder / f"{name}.rt").read_text()
         structs, exports = records(source), EXPORT.findall(source)
         uses += [f"use crate::{name}::{it};" for it in [*structs, *(export for export, _ in exports)]]
         for export, parameters in exports:
-            kinds = [it.partition(":")[2].strip() for it in parameters.split(",") if it.strip()]
             arguments = []
-            for kind in kinds:
+            for kind in (it.partition(":")[2].strip() for it in parameters.split(",") if it.strip()):
                 handle = re.fullmatch(r"(&(?:mut )?)(\w+Handle)", kind)
                 if handle:
                     # Each parameter has a handle of its own.
                     handles += 1
-                    calls.append(f"    let mut handle_{handles} = {handle[2]}::empty(alloc);")
+                    lines.append(f"    let mut handle_{handles} = {handle[2]}::empty(alloc);")
                 arguments.append(f"{handle[1]}handle_{handles}" if handle else value_of(kind, structs))
-            calls.append(f"    let _ = {export}({', '.join(arguments)});")
+            lines.append(f"    let _ = {export}({', '.join(arguments)});")
     head = [line for line in root.splitlines() if not line.startswith("//!")]
     return "\n".join([
         "//! A program that calls each function of the archive.", *head, *uses,
         "use c_handles::{HeapHandle, PassHandle, ReceiptHandle};", "use std::process::ExitCode;",
         "fn main(rt: HostRuntime) -> ExitCode {", "    let alloc = rt.alloc();",
-        *calls, "    ExitCode::SUCCESS", "}", "",
+        *lines, "    ExitCode::SUCCESS", "}", "",
     ])
 
 
@@ -133,34 +119,26 @@ def exported(text):
     """The module with its functions for C under their own names, for others to call, and these names."""
     text = re.sub(r"(?m)^define ([^\n]*)@main\(", r"define internal \1@main(", text)
     text = re.sub(r'define internal ([^\n]*)@"c_exports::\w+::(shardheap_raw_\w+)"\(', r"define \1@\2(", text)
-    text, count = re.subn(r'@"c_exports::\w+::(shardheap_raw_\w+)"', r"@\1", text)
+    text = re.sub(r'@"c_exports::\w+::(shardheap_raw_\w+)"', r"@\1", text)
     return text, sorted(set(re.findall(r"(?m)^define [^\n]*@(shardheap_raw_\w+)\(", text)))
 
 
-def crates_of(text):
-    """The crates that have a function in the module. The compiled archive shows few of them."""
-    return sorted(set(re.findall(r'(?m)^define [^\n(]*@"?(\w+)::', text)))
-
-
-def archived(folder, text, extra=(), with_c=None):
+def archived(folder, text, flags=(), with_c=None):
     """Compiles the module, and puts it into folder/libc_exports.a with what is written in C."""
     folder.mkdir(parents=True, exist_ok=True)
     text, names = exported(text)
-    flags = ["-fPIC" if flag == "-fPIE" else flag for flag in module.FLAGS]
+    flags = [*("-fPIC" if flag == "-fPIE" else flag for flag in module.FLAGS), *flags]
     with tempfile.TemporaryDirectory(prefix="archive-") as room:
-        room = pathlib.Path(room)
-        objects, globals_ = [room / f"{NAME}.o"], room / "globals"
+        objects, globals_ = [pathlib.Path(room, f"{NAME}.o")], pathlib.Path(room, "globals")
         globals_.write_text("\n".join(names))
-        module.compiled(text, objects[0], [*flags, *extra])
-        subprocess.run(["objcopy", f"--keep-global-symbols={globals_}", objects[0]], check=True)
+        module.compiled(text, objects[0], flags)
+        written("objcopy", f"--keep-global-symbols={globals_}", objects[0])
         if with_c:
-            source = room / "memory.c"
-            source.write_text(with_c)
-            objects.append(room / "memory.o")
-            subprocess.run(["gcc", "-O1", "-fno-builtin", "-fPIC", "-c", source, "-o", objects[-1]], check=True)
+            objects.append(pathlib.Path(room, "memory.o"))
+            written("gcc", "-O1", "-fno-builtin", "-fPIC", "-c", with_c, "-o", objects[-1])
         made = folder / f"lib{NAME}.a"
         made.unlink(missing_ok=True)
-        subprocess.run(["ar", "rcs", made, *objects], check=True)
+        written("ar", "rcs", made, *objects)
     # (the crates that have a function in the module, since the compiled archive shows few of them)
     crates = sorted(set(re.findall(r'(?m)^define [^\n(]*@"?(\w+)::', text)))
     record.write(made, "scripts/build archive", verdict="", crates=crates)
@@ -173,4 +151,4 @@ def without_proof(out, with_tsan):
         text = text_of(pathlib.Path(copy))
     archived(out / "plain", text)
     if with_tsan:
-        archived(out / "tsan", module.with_calls(text), ["-fsanitize=thread"], TSAN_MEMORY)
+        archived(out / "tsan", module.with_calls(text), ["-fsanitize=thread"], COPIES)

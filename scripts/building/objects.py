@@ -1,8 +1,7 @@
 """Object files of a program without a proof, for schedule, tsan and locked-steps of scripts/compiled.
 
 `whole.o` and `broken.o`, which has the heaps of broken.py, have calls of ThreadSanitizer, which clang puts in at the
-end of its own passes. `steps.o` has none, but each function of STEPS and of LOOK is kept as a function, also beside
-another one of the same instructions. The toolchain's clang compiles them with the flags of a proved build.
+end of its own passes. `steps.o` has none, but each function of STEPS and of LOOK is kept as a function.
 """
 import concurrent.futures
 import contextlib
@@ -83,4 +82,4 @@ def linked(object_file, to, sources, words):
 def scheduled(object_file, to):
     """The program under the scheduler of turns.c."""
     wraps = [f"-Wl,--wrap={name}" for name in WRAPPED]
-    linked(object_file, to, [HERE / "turns.c", HERE / "calls.c", HERE / "copies.c"], wraps)
+    linked(object_file, to, [HERE / "turns.c", HERE / "copies.c"], wraps)

@@ -12,165 +12,67 @@ middle of the free, when Full is right too. A page is in the queue of its class 
 The copy's tool_rounds judges one thing more (JUDGE): while nothing else runs, a full shard has room again once another
 pass has removed one of its values, and once its owner has.
 """
-import collections
 import re
+from dataclasses import dataclass
 
-Broken = collections.namedtuple("Broken", "name file old new is_found", defaults=[True])
+
+@dataclass
+class Broken:
+    """A heap in which `new` is done in place of `old`, or stands there if it says itself when it is done (BROKEN). OLD
+    in it stands for the old text. `behind` is what the old text comes right behind, and both are once in the file."""
+    name: str
+    file: str
+    old: str
+    new: str
+    is_found: bool = True
+    behind: str = ""
+
+    def text(self):
+        new = self.new if "BROKEN" in self.new else f"if BROKEN {{ {self.new} }} else {{ OLD }}"
+        return self.behind + new.replace("OLD", self.old)
+
+
+def two_steps(name, words, stored):
+    """A heap in which a step of table.rt is a load and a store. `stored` has it in place of STORE."""
+    def of_table(step):
+        return f"self.table.shared.{step}(seat, table_number(&self.shape, place)"
+
+    old = f"""self.table
+            .shared
+            .{name}::<Does<L, D>>(seat, table_number(&self.shape, place), {words})"""
+    new = f"let found = {of_table('load::<Does<L, D>>')}); {stored} found"
+    return Broken(f"a_{name}_is_a_load_and_a_store", "sh_table/src/table.rt", old,
+                  new.replace("STORE(", f"{of_table('store::<Stores<L, D>>')}, "))
+
+
+SWAP = "self.swap::<Brand, _>(seat"
+RESTS = "            return false;\n        }\n        "
+STATE_AGAIN = "(key, name, class_word, count, words),\n            Place::State(name.page, "
 
 HEAPS = [
     # Steps that are not one.
-    Broken(
-        "a_swap_is_a_load_and_a_store",
-        "sh_table/src/table.rt",
-        """        self.table
-            .shared
-            .swap::<Does<L, D>>(seat, table_number(&self.shape, place), new)
-""",
-        """        if BROKEN {
-            let found = self.table.shared.load::<Does<L, D>>(seat, table_number(&self.shape, place));
-            self.table.shared.store::<Stores<L, D>>(seat, table_number(&self.shape, place), new);
-            found
-        } else {
-            self.table.shared.swap::<Does<L, D>>(seat, table_number(&self.shape, place), new)
-        }
-""",
-    ),
-    Broken(
-        "a_fetch_sub_is_a_load_and_a_store",
-        "sh_table/src/table.rt",
-        """        self.table
-            .shared
-            .fetch_sub::<Does<L, D>>(seat, table_number(&self.shape, place), less)
-""",
-        """        if BROKEN {
-            let found = self.table.shared.load::<Does<L, D>>(seat, table_number(&self.shape, place));
-            self.table.shared.store::<Stores<L, D>>(seat, table_number(&self.shape, place), found.wrapping_sub(less));
-            found
-        } else {
-            self.table.shared.fetch_sub::<Does<L, D>>(seat, table_number(&self.shape, place), less)
-        }
-""",
-    ),
-    Broken(
-        "a_fetch_add_is_a_load_and_a_store",
-        "sh_table/src/table.rt",
-        """        self.table
-            .shared
-            .fetch_add::<Does<L, D>>(seat, table_number(&self.shape, place), more)
-""",
-        """        if BROKEN {
-            let found = self.table.shared.load::<Does<L, D>>(seat, table_number(&self.shape, place));
-            self.table.shared.store::<Stores<L, D>>(seat, table_number(&self.shape, place), found.wrapping_add(more));
-            found
-        } else {
-            self.table.shared.fetch_add::<Does<L, D>>(seat, table_number(&self.shape, place), more)
-        }
-""",
-    ),
-    Broken(
-        "a_compare_exchange_is_a_load_and_a_store",
-        "sh_table/src/table.rt",
-        """        self.table
-            .shared
-            .compare_exchange::<Does<L, D>>(seat, table_number(&self.shape, place), old, new)
-""",
-        """        if BROKEN {
-            let found = self.table.shared.load::<Does<L, D>>(seat, table_number(&self.shape, place));
-            if found == old {
-                self.table.shared.store::<Stores<L, D>>(seat, table_number(&self.shape, place), new);
-            }
-            found
-        } else {
-            self.table.shared.compare_exchange::<Does<L, D>>(seat, table_number(&self.shape, place), old, new)
-        }
-""",
-    ),
-    Broken(
-        "a_fetch_or_is_a_load_and_a_store",
-        "sh_table/src/table.rt",
-        """        self.table
-            .shared
-            .fetch_or::<Does<L, D>>(seat, table_number(&self.shape, place), bits)
-""",
-        """        if BROKEN {
-            let found = self.table.shared.load::<Does<L, D>>(seat, table_number(&self.shape, place));
-            self.table.shared.store::<Stores<L, D>>(seat, table_number(&self.shape, place), found | bits);
-            found
-        } else {
-            self.table.shared.fetch_or::<Does<L, D>>(seat, table_number(&self.shape, place), bits)
-        }
-""",
-    ),
+    two_steps("swap", "new", "STORE(new);"),
+    two_steps("fetch_sub", "less", "STORE(found.wrapping_sub(less));"),
+    two_steps("fetch_add", "more", "STORE(found.wrapping_add(more));"),
+    two_steps("compare_exchange", "old, new", "if found == old { STORE(new); }"),
+    two_steps("fetch_or", "bits", "STORE(found | bits);"),
     # Calls of a pass.
-    Broken(
-        "get_is_gone_on_a_live_key",
-        "sh_pass/src/state.rt",
-        "        get_key(&heap.table, seat, held, key, None).0\n",
-        """        let answer = get_key(&heap.table, seat, held, key, None).0;
-        if BROKEN && answer.is_ok() { Err(Refusal::Gone) } else { answer }
-""",
-    ),
-    Broken(
-        "release_drops_no_count",
-        "sh_pass/src/pass.rt",
-        "        self.state.release(self.heap.kept(), hold)\n",
-        """        if BROKEN {
-            return if self.read(hold).is_ok() { Ok(()) } else { Err(Refusal::NotHeld) };
-        }
-        self.state.release(self.heap.kept(), hold)
-""",
-    ),
-    Broken(
-        "slot_stays_in_the_hand",
-        "sh_pass/src/ending.rt",
-        "{\n    finish(table, seat, slot_ref, generation, owned)\n",
-        "{\n    if BROKEN && slot_ref.slot == 0 { return false; }\n    finish(table, seat, slot_ref, generation, owned)\n",
-    ),
-    Broken(
-        "read_is_empty",
-        "sh_pass/src/pass.rt",
-        "        self.state.read_into(self.heap.kept(), hold, &mut value)?;\n        Ok(value)\n",
-        """        self.state.read_into(self.heap.kept(), hold, &mut value)?;
-        if BROKEN {
-            return Ok(Value::empty());
-        }
-        Ok(value)
-""",
-    ),
+    Broken("get_is_gone_on_a_live_key", "sh_pass/src/state.rt", "get_key(&heap.table, seat, held, key, None).0",
+           "let answer = OLD; if answer.is_ok() { Err(Refusal::Gone) } else { answer }"),
+    Broken("release_drops_no_count", "sh_pass/src/pass.rt", "self.state.release(self.heap.kept(), hold)",
+           "if self.read(hold).is_ok() { Ok(()) } else { Err(Refusal::NotHeld) }"),
+    Broken("slot_stays_in_the_hand", "sh_pass/src/ending.rt", "finish(table, seat, slot_ref, generation, owned)",
+           "if BROKEN && slot_ref.slot == 0 { return false; }\n    OLD", behind="{\n    "),
+    Broken("read_is_empty", "sh_pass/src/pass.rt", "Ok(value)", "Ok(Value::empty())",
+           behind="        self.state.read_into(self.heap.kept(), hold, &mut value)?;\n        "),
     # Looks.
-    Broken(
-        "look_loads_the_state_once",
-        "sh_table/src/looks.rt",
-        """        self.load::<Brand, _>(
-            seat,
-            (key, name, class_word, count, words),
-            Place::State(name.page, name.slot),
-        )
-""",
-        """        if BROKEN {
-            return sh_word::State::new(sh_word::Kind::Live, name.generation, 0).word();
-        }
-        self.load::<Brand, _>(
-            seat,
-            (key, name, class_word, count, words),
-            Place::State(name.page, name.slot),
-        )
-""",
-    ),
-    Broken(
-        "look_loads_the_state_of_another_slot_at_its_end",
-        "sh_table/src/looks.rt",
-        "            (key, name, class_word, count, words),\n            Place::State(name.page, name.slot),\n",
-        """            (key, name, class_word, count, words),
-            Place::State(name.page, if BROKEN { name.slot ^ 1 } else { name.slot }),
-""",
-    ),
-    Broken(
-        "look_loads_the_state_again_before_the_words",
-        "sh_pass/src/looking.rt",
-        "    let class_word = table.look_class(seat, key, name);\n",
-        """    let class_word = table.look_class(seat, key, name);
-    if BROKEN {
+    Broken("look_loads_the_state_once", "sh_table/src/looks.rt",
+           f"self.load::<Brand, _>(\n            seat,\n            {STATE_AGAIN}name.slot),\n        )",
+           "sh_word::State::new(sh_word::Kind::Live, name.generation, 0).word()"),
+    Broken("look_loads_the_state_of_another_slot_at_its_end", "sh_table/src/looks.rt", "name.slot", "name.slot ^ 1",
+           behind=STATE_AGAIN),
+    Broken("look_loads_the_state_again_before_the_words", "sh_pass/src/looking.rt",
+           "    let class_word = table.look_class(seat, key, name);\n", """OLD    if BROKEN {
         let count = table.look_length(seat, key, name, class_word);
         let after = table.look_again(seat, key, name, class_word, count, &[]);
         if !is_live(name.generation, after) {
@@ -186,133 +88,55 @@ HEAPS = [
         room.put(&words[..many]);
         return Glance::Seen;
     }
-""",
-    ),
+"""),
     # Walks.
-    Broken(
-        "walk_passes_over_a_slot_that_was_filled_again",
-        "sh_pass/src/peeking.rt",
-        "    if L::in_range(parts) {\n        Some(L::pack(parts))\n",
-        "    if L::in_range(parts) && !(BROKEN && generation > 1) {\n        Some(L::pack(parts))\n",
-    ),
+    Broken("walk_passes_over_a_slot_that_was_filled_again", "sh_pass/src/peeking.rt", "L::in_range(parts)",
+           "OLD && !(BROKEN && generation > 1)", behind="    if "),
     # What a word says.
-    Broken(
-        "second_mark_decides",
-        "sh_slots/src/free.rt",
-        "    !State::of(found).marked\n",
-        "    if BROKEN { State::of(found).present } else { !State::of(found).marked }\n",
-    ),
-    Broken(
-        "generation_wraps_to_1",
-        "sh_slots/src/free.rt",
-        "        retired_word(generation)\n    } else",
-        "        if BROKEN { State::new(Kind::Empty, 1, 0).word() } else { retired_word(generation) }\n    } else",
-    ),
-    Broken(
-        "finish_ignores_the_count",
-        "sh_slots/src/free.rt",
-        "    found == marked_word(generation) && generation != gen_max\n",
-        """    let state = State::of(found);
+    Broken("second_mark_decides", "sh_slots/src/free.rt", "!State::of(found).marked", "State::of(found).present",
+           behind="    "),
+    Broken("generation_wraps_to_1", "sh_slots/src/free.rt", "retired_word(generation)",
+           "State::new(Kind::Empty, 1, 0).word()", behind="        "),
+    Broken("finish_ignores_the_count", "sh_slots/src/free.rt",
+           "    found == marked_word(generation) && generation != gen_max\n", """    let state = State::of(found);
     let marked = BROKEN && state.kind() == Kind::Marked && state.generation == generation;
     (marked || found == marked_word(generation)) && generation != gen_max
-""",
-    ),
-    Broken(
-        "get_takes_one_hold_too_many",
-        "sh_slots/src/enter.rt",
-        "State::of(found).count < guard_max {",
-        "State::of(found).count < guard_max || BROKEN && State::of(found).count == guard_max {",
-        False,
-    ),
+"""),
+    Broken("get_takes_one_hold_too_many", "sh_slots/src/enter.rt", "State::of(found).count < guard_max",
+           "OLD || BROKEN && State::of(found).count == guard_max", False),
     # Steps with another word.
-    Broken(
-        "taken_bell_stays",
-        "sh_table/src/bells.rt",
-        "        self.swap::<Brand, _>(seat, shard, Place::Bell(shard), 0)\n",
-        "        let new = if BROKEN { 1 } else { 0 };\n"
-        "        self.swap::<Brand, _>(seat, shard, Place::Bell(shard), new)\n",
-    ),
-    Broken(
-        "finish_leaves_the_mark",
-        "sh_table/src/slots.rt",
-        "            finished_word(generation, gen_max::<L>()),\n",
-        "            if BROKEN { marked_word(generation) } else { finished_word(generation, gen_max::<L>()) },\n",
-    ),
-    Broken(
-        "arm_raises_no_flag",
-        "sh_table/src/bells.rt",
-        "        self.swap::<Brand, _>(seat, (page_name, page), Place::Head(page), ARMED)\n",
-        "        let flag = if BROKEN { 0 } else { ARMED };\n"
-        "        self.swap::<Brand, _>(seat, (page_name, page), Place::Head(page), flag)\n",
-    ),
+    Broken("taken_bell_stays", "sh_table/src/bells.rt", f"{SWAP}, shard, Place::Bell(shard), 0)",
+           f"{SWAP}, shard, Place::Bell(shard), 1)"),
+    Broken("finish_leaves_the_mark", "sh_table/src/slots.rt", "finished_word(generation, gen_max::<L>())",
+           "marked_word(generation)", behind="            "),
+    Broken("arm_raises_no_flag", "sh_table/src/bells.rt", f"{SWAP}, (page_name, page), Place::Head(page), ARMED)",
+           f"{SWAP}, (page_name, page), Place::Head(page), 0)"),
     # An owner's lists, and links.
-    Broken(
-        "pop_hands_a_slot_out_twice",
-        "sh_lists/src/lists.rt",
-        "        self.free.front = self.next[slot as usize];\n",
-        "        if !BROKEN {\n            self.free.front = self.next[slot as usize];\n        }\n",
-    ),
-    Broken(
-        "add_read_forgets_the_slot",
-        "sh_lists/src/lists.rt",
-        "        self.free.end = slot;\n",
-        "        if !BROKEN {\n            self.free.end = slot;\n        }\n",
-    ),
-    Broken(
-        "link_forgets_what_was_below",
-        "sh_stack/src/top.rt",
-        "{ result ≡ link_over top }\n{\n    top + 1\n",
-        "{ result ≡ link_over top }\n{\n    if BROKEN { top / 2 * 2 + 1 } else { top + 1 }\n",
-    ),
-    Broken(
-        "unwritten_link_is_the_end",
-        "sh_shard/src/pages/stack.rt",
-        "        if found == 0 {\n            return false;\n        }\n",
-        "        if found == 0 && !BROKEN {\n            return false;\n        }\n",
-    ),
+    Broken("pop_hands_a_slot_out_twice", "sh_lists/src/lists.rt", "self.free.front = self.next[slot as usize];", ""),
+    Broken("add_read_forgets_the_slot", "sh_lists/src/lists.rt", "self.free.end = slot;", ""),
+    Broken("link_forgets_what_was_below", "sh_stack/src/top.rt", "top + 1", "top / 2 * 2 + 1",
+           behind="{ result ≡ link_over top }\n{\n    "),
+    Broken("unwritten_link_is_the_end", "sh_shard/src/pages/stack.rt", "found == 0", "OLD && !BROKEN",
+           behind="        if "),
     # An owner's calls.
-    Broken(
-        "armed_page_is_told_to_rest",
-        "sh_shard/src/pages/leaving.rt",
-        "            return false;\n        }\n        !self.is_armed(page)\n",
-        "            return false;\n        }\n"
-        "        if BROKEN { self.is_armed(page) } else { !self.is_armed(page) }\n",
-    ),
-    Broken(
-        "full_is_answered_without_a_search",
-        "sh_shard/src/shard/search.rt",
-        "        for _turn in 0..opened {\n",
-        "        let turns = if BROKEN { 0 } else { opened };\n        for _turn in 0..turns {\n",
-    ),
-    Broken(
-        "bell_is_taken_and_not_followed",
-        "sh_shard/src/shard/bell.rt",
-        "        for _turn in 0..count + 1 {\n            let Some(word)",
-        "        let turns = if BROKEN { 0 } else { count + 1 };\n        for _turn in 0..turns {\n            let Some(word)",
-    ),
-    Broken(
-        "page_of_an_own_free_stays_full",
-        "sh_shard/src/shard/calls.rt",
-        "        let (answer, gained) = self.pages.remove(key);\n",
-        "        let (answer, gained) = self.pages.remove(key);\n"
-        "        let gained = if BROKEN { None } else { gained };\n",
-        False,
-    ),
+    Broken("armed_page_is_told_to_rest", "sh_shard/src/pages/leaving.rt", "!self.is_armed(page)",
+           "self.is_armed(page)", behind=RESTS),
+    Broken("full_is_answered_without_a_search", "sh_shard/src/shard/search.rt", "for _turn in 0..opened {",
+           "let turns = if BROKEN { 0 } else { opened };\n        for _turn in 0..turns {"),
+    Broken("bell_is_taken_and_not_followed", "sh_shard/src/shard/bell.rt",
+           "for _turn in 0..count + 1 {\n            let Some(word)",
+           "let turns = if BROKEN { 0 } else { count + 1 };\n"
+           "        for _turn in 0..turns {\n            let Some(word)"),
+    Broken("page_of_an_own_free_stays_full", "sh_shard/src/shard/calls.rt",
+           "        let (answer, gained) = self.pages.remove(key);\n",
+           "OLD        let gained = if BROKEN { None } else { gained };\n", False),
     # What other threads could have brought about, so that no contract refuses it.
-    Broken(
-        "a_written_link_is_taken_as_unwritten",
-        "sh_shard/src/pages/stack.rt",
-        "        if self.has_cursor(page) {\n            self.follow_on(page);\n",
-        "        if self.has_cursor(page) && !BROKEN {\n            self.follow_on(page);\n",
-    ),
-    Broken(
-        "an_armed_page_is_passed_over",
-        "sh_shard/src/pages/insert.rt",
-        "        self.collect(page);\n        if self.has_slot(page)",
-        "        if BROKEN && self.is_armed(page) {\n            return false;\n        }\n"
-        "        self.collect(page);\n        if self.has_slot(page)",
-        False,
-    ),
+    Broken("a_written_link_is_taken_as_unwritten", "sh_shard/src/pages/stack.rt",
+           "if self.has_cursor(page) {\n            self.follow_on(page);",
+           "if self.has_cursor(page) && !BROKEN {\n            self.follow_on(page);"),
+    Broken("an_armed_page_is_passed_over", "sh_shard/src/pages/insert.rt", "self.collect(page);\n        if",
+           "if BROKEN && self.is_armed(page) {\n            return false;\n        }\n        OLD", False,
+           behind="        "),
 ]
 
 # File, old text and new text of the copy's tool_rounds.
@@ -353,11 +177,9 @@ JUDGE = [
         self.put(actor);
     }
 
-    // Removes a key.
     pub fn remove_key(&mut self, moments: &Moments, key: u64) {
-        match &mut self.actor {
-            Actor::Lone(lone) => using::remove(lone, &mut self.record, moments, key),
-            _ => {}
+        if let Actor::Lone(lone) = &mut self.actor {
+            using::remove(lone, &mut self.record, moments, key);
         }
     }
 
@@ -368,8 +190,7 @@ JUDGE = [
         "tool_rounds/src/owning.rt",
         """/// Adopts a shard that nobody owns, inserts values of `len` words until it is full, and leaves it.
 """,
-        """// Whether the layout is the one with few holds.
-pub fn has_few_holds<L: sh_key::KeyLayout>() -> bool {
+        """pub fn has_few_holds<L: sh_key::KeyLayout>() -> bool {
     L::GUARD_MAX < 5
 }
 
@@ -383,14 +204,10 @@ pub fn refill<C: Drop, P: LonePass<Receipt = C>>(
 ) {
     let mut last = None;
     for _ in 0..MOST_SLOTS {
-        let Some(key) = put::<P>(owner, record, moments, len) else {
-            break;
-        };
+        let Some(key) = put::<P>(owner, record, moments, len) else { break; };
         last = Some(key);
     }
-    let Some(key) = last else {
-        return;
-    };
+    let Some(key) = last else { return; };
     other.remove_key(moments, key);
     let Some(key) = put::<P>(owner, record, moments, len) else {
         record.refused(Call::Insert, Refusal::Full);
@@ -411,7 +228,6 @@ DEFINED = re.compile(r'^define internal (?:noundef )?i64 (@"[^"\n]*::broken_(\d+
 
 
 def replace(file, old, new):
-    """Replaces a text that is once in the file."""
     text = file.read_text()
     if text.count(old) != 1:
         raise SystemExit(f"broken.py: an old text is {text.count(old)} times in {file}:\n{old}")
@@ -424,7 +240,7 @@ def break_sources(crates):
         replace(crates / file, old, new)
     for number, heap in enumerate(HEAPS, 1):
         file = crates / heap.file
-        replace(file, heap.old, heap.new.replace("BROKEN", f"(broken_{number}() != 0)"))
+        replace(file, heap.behind + heap.old, heap.text().replace("BROKEN", f"(broken_{number}() != 0)"))
         with file.open("a") as end:
             end.write(f"\n#[inline(never)]\nfn broken_{number}() -> u64 {{\n    0\n}}\n")
 

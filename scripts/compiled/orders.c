@@ -9,15 +9,9 @@
 
 static int is_weak;
 
-__attribute__((constructor)) static void begin(void)
-{
-    is_weak = getenv("TSAN_WEAK") != NULL;
-}
+__attribute__((constructor)) static void begin(void) { is_weak = getenv("TSAN_WEAK") != NULL; }
 
-static int order_of(int order)
-{
-    return is_weak ? 0 : order;
-}
+static int order_of(int order) { return is_weak ? 0 : order; }
 
 #define ONE(bits, name)                                                                                                \
     uint##bits##_t __real___tsan_atomic##bits##_##name(volatile uint##bits##_t *, uint##bits##_t, int);                \

@@ -27,8 +27,7 @@ static uintptr_t program_begin, program_end;
 /* The first object that the loader lists is the program. */
 static int note_program(struct dl_phdr_info *object, size_t size, void *unused)
 {
-    (void)size;
-    (void)unused;
+    (void)size, (void)unused;
     for (int i = 0; i < object->dlpi_phnum; i++) {
         const ElfW(Phdr) *part = &object->dlpi_phdr[i];
         if (part->p_type == PT_LOAD && (part->p_flags & PF_X)) {
@@ -65,25 +64,12 @@ static int is_refused(void *address)
     return 1;
 }
 
-void *malloc(size_t bytes)
-{
-    return is_refused(__builtin_return_address(0)) ? NULL : __libc_malloc(bytes);
-}
+#define OR_REFUSED(made) return is_refused(__builtin_return_address(0)) ? NULL : made
 
-void *calloc(size_t count, size_t bytes)
-{
-    return is_refused(__builtin_return_address(0)) ? NULL : __libc_calloc(count, bytes);
-}
-
-void *realloc(void *memory, size_t bytes)
-{
-    return is_refused(__builtin_return_address(0)) ? NULL : __libc_realloc(memory, bytes);
-}
-
-void *aligned_alloc(size_t alignment, size_t bytes)
-{
-    return is_refused(__builtin_return_address(0)) ? NULL : __libc_memalign(alignment, bytes);
-}
+void *malloc(size_t bytes) { OR_REFUSED(__libc_malloc(bytes)); }
+void *calloc(size_t count, size_t bytes) { OR_REFUSED(__libc_calloc(count, bytes)); }
+void *realloc(void *memory, size_t bytes) { OR_REFUSED(__libc_realloc(memory, bytes)); }
+void *aligned_alloc(size_t alignment, size_t bytes) { OR_REFUSED(__libc_memalign(alignment, bytes)); }
 
 int posix_memalign(void **memory, size_t alignment, size_t bytes)
 {

@@ -1,5 +1,7 @@
-/* Which thread of a program has the turn. All threads run in one thread of the system, each on a stack of its own, so a
- * switch is a few instructions and nothing but the seed decides who goes on. Variables of the environment:
+/* A program under a scheduler. It was compiled with `-fsanitize=thread`, and in place of the sanitizer's library it has
+ * this. Calls of the C library that start threads and wait come here too, by the linker's option `--wrap`. At each
+ * atomic operation the turn may go to another thread. All threads run in one thread of the system, each on a stack of
+ * its own, so a switch is a few instructions. Nothing but the seed decides who goes on. Variables of the environment:
  *
  *   SCHEDULE_SEED    the seed of all choices, 1 without it
  *   SCHEDULE_POINTS  how many points a run may have before it counts as one that does not end, 2^40 without it
@@ -10,11 +12,15 @@
  * at each point, and in others a thread does hundreds of steps before another one goes on. Now and then a thread
  * sleeps: the others take turns without it, for up to 2^14 points, as when a system stops a thread for long. */
 #define _GNU_SOURCE
-#include "turns.h"
-
+#include <errno.h>
+#include <linux/futex.h>
+#include <pthread.h>
+#include <stdarg.h>
+#include <stdint.h>
 #include <stdio.h>
 #include <stdlib.h>
 #include <sys/mman.h>
+#include <sys/syscall.h>
 #include <unistd.h>
 
 #define MOST_THREADS 64
@@ -127,7 +133,8 @@ static void draw_habit(void)
     habit_ends = points + 500 + draw() % 4000;
 }
 
-void turns_point(void)
+/* The turn may go to another thread here: before each atomic operation. */
+static void point(void)
 {
     if (++points > most_points)
         stuck("the run had not ended");
@@ -144,25 +151,31 @@ void turns_point(void)
 }
 
 /* The thread can go on no more, for now or for good. */
-static void pause_as(enum state state)
+static void pause_as(enum state state) { current->state = state, ready--, give_turn(); }
+
+static void resume(struct thread *thread) { thread->state = READY, ready++; }
+
+/* Lets at most so many threads that wait at the address go on; how many. */
+static long wake(const void *address, long most)
 {
-    current->state = state;
-    ready--;
-    give_turn();
+    long woken = 0;
+    for (struct thread *it = threads; it < threads + used && woken < most; it++)
+        if (it->state == WAITING && it->address == address) {
+            resume(it);
+            woken++;
+        }
+    return woken;
 }
 
-static void resume(struct thread *thread)
-{
-    thread->state = READY;
-    ready++;
-}
+/* Waits until `wake` is called with this address. */
+static void wait_at(const void *address) { current->address = address, pause_as(WAITING); }
 
 /* The first function on a thread's stack. */
 static void run(void)
 {
     struct thread *mine = current;
     mine->result = mine->body(mine->argument);
-    turns_wake(mine, MOST_THREADS);
+    wake(mine, MOST_THREADS);
     pause_as(mine->is_detached ? FREE : ENDED);
     abort();
 }
@@ -184,15 +197,16 @@ static char *new_stack(void)
     return stack;
 }
 
-struct thread *turns_start(void *(*body)(void *), void *argument)
+/* Starting, joining and detaching threads, and waiting, as the program calls the C library for it. */
+
+int __wrap_pthread_create(pthread_t *made, const pthread_attr_t *attributes, void *(*body)(void *), void *argument)
 {
+    (void)attributes;
     struct thread *thread = free_place();
     if (!thread || !(thread->stack || (thread->stack = new_stack())))
-        return NULL;
-    thread->body = body;
-    thread->argument = argument;
-    thread->sleeps_until = 0;
-    thread->is_detached = 0;
+        return EAGAIN;
+    thread->body = body, thread->argument = argument;
+    thread->sleeps_until = 0, thread->is_detached = 0;
     /* `turns_switch` takes six registers and the address of `run` off it, and a function begins 8 below a multiple of
      * 16. */
     void **top = (void **)(thread->stack + STACK_BYTES - 64);
@@ -202,50 +216,142 @@ struct thread *turns_start(void *(*body)(void *), void *argument)
         *--top = NULL;
     thread->saved_stack = top;
     resume(thread);
-    turns_point();
-    return thread;
+    point();
+    *made = (pthread_t)thread;
+    return 0;
 }
 
-void *turns_join(struct thread *thread)
+int __wrap_pthread_join(pthread_t joined, void **result)
 {
+    struct thread *thread = (struct thread *)joined;
     while (thread->state != ENDED)
-        turns_wait(thread);
+        wait_at(thread);
     thread->state = FREE;
-    return thread->result;
+    if (result)
+        *result = thread->result;
+    return 0;
 }
 
-void turns_detach(struct thread *thread)
+int __wrap_pthread_detach(pthread_t detached)
 {
+    struct thread *thread = (struct thread *)detached;
     thread->is_detached = 1;
     if (thread->state == ENDED)
         thread->state = FREE;
+    return 0;
 }
 
-void turns_wait(const void *address)
+pthread_t __wrap_pthread_self(void) { return (pthread_t)current; }
+
+int __wrap_sched_yield(void)
 {
-    current->address = address;
-    pause_as(WAITING);
+    point();
+    return 0;
 }
 
-long turns_wake(const void *address, long most)
+/* Waiting at a word, and waking those that wait. The word was looked at by the one who has the turn, so there is no
+ * moment between the look and the wait. */
+static long futex(const uint32_t *word, int operation, uint32_t value)
 {
-    long woken = 0;
-    for (struct thread *it = threads; it < threads + used && woken < most; it++)
-        if (it->state == WAITING && it->address == address) {
-            resume(it);
-            woken++;
+    switch (operation & FUTEX_CMD_MASK) {
+    case FUTEX_WAIT: case FUTEX_WAIT_BITSET:
+        if (*word != value) {
+            errno = EAGAIN;
+            return -1;
         }
-    return woken;
+        wait_at(word);
+        return 0;
+    case FUTEX_WAKE: case FUTEX_WAKE_BITSET: {
+        long woken = wake(word, (int)value);
+        point();
+        return woken;
+    }
+    default:
+        fprintf(stderr, "schedule: futex operation %d is not known\n", operation);
+        abort();
+    }
 }
 
-struct thread *turns_self(void)
+long __real_syscall(long number, ...);
+
+long __wrap_syscall(long number, ...)
 {
-    return current;
+    long words[6];
+    va_list rest;
+    va_start(rest, number);
+    for (int i = 0; i < 6; i++)
+        words[i] = va_arg(rest, long);
+    va_end(rest);
+    if (number == SYS_futex)
+        return futex((const uint32_t *)words[0], (int)words[1], (uint32_t)words[2]);
+    return __real_syscall(number, words[0], words[1], words[2], words[3], words[4], words[5]);
 }
 
-void turns_end(void)
+void __real__exit(int status) __attribute__((noreturn));
+
+void __wrap__exit(int status)
 {
     if (getenv("SCHEDULE_COUNTS"))
         fprintf(stderr, "schedule: %llu points, %llu switches\n", (unsigned long long)points,
                 (unsigned long long)switches);
+    __real__exit(status);
 }
+
+/* The sanitizer's calls for a word of this many bits. The orders that they are given do not matter here. */
+#define ONE(bits, name, does)                                                                                          \
+    uint##bits##_t __tsan_atomic##bits##_##name(volatile uint##bits##_t *word, uint##bits##_t value, int order)        \
+    {                                                                                                                  \
+        (void)order, point();                                                                                          \
+        return __atomic_##does(word, value, __ATOMIC_SEQ_CST);                                                         \
+    }
+
+#define ALL(bits)                                                                                                      \
+    uint##bits##_t __tsan_atomic##bits##_load(const volatile uint##bits##_t *word, int order)                          \
+    {                                                                                                                  \
+        (void)order, point();                                                                                          \
+        return __atomic_load_n(word, __ATOMIC_SEQ_CST);                                                                \
+    }                                                                                                                  \
+    void __tsan_atomic##bits##_store(volatile uint##bits##_t *word, uint##bits##_t value, int order)                   \
+    {                                                                                                                  \
+        (void)order, point();                                                                                          \
+        __atomic_store_n(word, value, __ATOMIC_SEQ_CST);                                                               \
+    }                                                                                                                  \
+    uint##bits##_t __tsan_atomic##bits##_compare_exchange_val(volatile uint##bits##_t *word, uint##bits##_t wanted,    \
+                                                              uint##bits##_t value, int order, int otherwise)          \
+    {                                                                                                                  \
+        (void)order, (void)otherwise, point();                                                                         \
+        __atomic_compare_exchange_n(word, &wanted, value, 0, __ATOMIC_SEQ_CST, __ATOMIC_SEQ_CST);                      \
+        return wanted;                                                                                                 \
+    }                                                                                                                  \
+    ONE(bits, exchange, exchange_n)                                                                                    \
+    ONE(bits, fetch_add, fetch_add)                                                                                    \
+    ONE(bits, fetch_sub, fetch_sub)                                                                                    \
+    ONE(bits, fetch_and, fetch_and)                                                                                    \
+    ONE(bits, fetch_or, fetch_or)                                                                                      \
+    ONE(bits, fetch_xor, fetch_xor)
+
+ALL(8)
+ALL(16)
+ALL(32)
+ALL(64)
+
+void __tsan_atomic_thread_fence(int order) { (void)order, point(); }
+
+/* Its calls at other accesses, which need no point: nothing but atomic words is shared by threads of a program in which
+ * the sanitizer itself finds no race. */
+#define NOTHING(name) void __tsan_##name(void *address) { (void)address; }
+#define ACCESS(bytes) NOTHING(read##bytes) NOTHING(write##bytes)
+#define ANYWHERE(bytes) ACCESS(bytes) NOTHING(unaligned_read##bytes) NOTHING(unaligned_write##bytes)
+#define RANGE(name) void __tsan_##name##_range(void *address, size_t length) { (void)address, (void)length; }
+
+ACCESS(1)
+ANYWHERE(2)
+ANYWHERE(4)
+ANYWHERE(8)
+ANYWHERE(16)
+NOTHING(func_entry)
+RANGE(read)
+RANGE(write)
+
+void __tsan_func_exit(void) {}
+void __tsan_init(void) {}

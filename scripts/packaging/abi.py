@@ -4,7 +4,9 @@ import re
 import subprocess
 import tempfile
 
-TOP = pathlib.Path(__file__).resolve().parent.parent.parent
+from record import TOP
+from checks import written
+
 STORED = TOP / "library/abi.txt"
 # The headers, each of which includes those before it.
 HEADERS = [TOP / "library/include/shardheap.h", TOP / "library/include/shardheap_table.h"]
@@ -15,7 +17,6 @@ CALL = re.compile(r"^(?:SHARDHEAP_API )?((?:const char \*|\w+ )shardheap_\w+\([^
 
 
 def version():
-    """The version of the Rust crate, which is that of all."""
     return re.search(r'(?m)^version = "(.*)"$', (TOP / "library/rust/Cargo.toml").read_text())[1]
 
 
@@ -34,7 +35,6 @@ def name_of(call):
 
 
 def asked(headers):
-    """A program that prints the sizes, offsets and numbers."""
     text, prints = text_of(headers), []
     for struct, body in STRUCT.findall(text):
         prints.append(f'printf("size {struct} %zu, aligned to %zu\\n", sizeof({struct}), _Alignof({struct}));')
@@ -52,27 +52,22 @@ def measured(headers):
         program = pathlib.Path(room) / "asked"
         subprocess.run(["gcc", "-std=c11", "-w", "-x", "c", "-", "-o", program], input=asked(headers), text=True,
                        check=True)
-        printed = subprocess.run([program], check=True, capture_output=True, text=True).stdout
-    return printed.splitlines() + [f"call {it}" for it in calls(headers)]
+        return written(program).splitlines() + [f"call {it}" for it in calls(headers)]
 
 
 def lines():
-    """The lines that are stored, without comments."""
     return [it for it in STORED.read_text().splitlines() if it and not it.startswith("#")] if STORED.exists() else []
 
 
 def stored():
-    """The lines that are stored, as `measured` has them: without versions."""
     return [re.sub(r"^call (.*), since [\d.]+$", r"call \1", it) for it in lines()]
 
 
 def since():
-    """The exported names, each with its first version."""
     found = [re.match(r"call (.*), since ([\d.]+)$", it) for it in lines()]
     return {name_of(it[1]): it[2] for it in found if it}
 
 
 def add(new):
-    """Adds lines that the header has."""
     with open(STORED, "a", encoding="utf-8") as file:
         file.writelines(f"{it}, since {version()}\n" if it.startswith("call ") else f"{it}\n" for it in new)

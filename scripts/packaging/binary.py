@@ -4,14 +4,13 @@ Both have the memory functions of library/src/memory.c and the tables of library
 calls by library/src/checked_calls.c. Both show these calls and those that they check, named .._raw_.., and nothing
 else, so that no name of theirs meets one of the program.
 """
-import pathlib
 import re
-import subprocess
 import sys
 
 import abi
+from checks import written
+from record import TOP
 
-TOP = pathlib.Path(__file__).resolve().parent.parent.parent
 MAP = TOP / "library/shardheap.map"
 # What the library takes from the C library.
 TAKEN = {"malloc", "aligned_alloc", "realloc", "free", "madvise", "memcpy", "memmove", "memset", "memcmp", "bcmp"}
@@ -21,10 +20,6 @@ TAKEN |= {f"pthread_mutex_{it}" for it in ("init", "destroy", "lock", "trylock",
 WARNINGS = ["-Wall", "-Wextra", "-Wpedantic", "-Wconversion", "-Werror"]
 
 
-def ran(*words):
-    return subprocess.run(words, check=True, capture_output=True, text=True).stdout
-
-
 def declared():
     """The calls that the headers declare, and those that they have with checks."""
     return {abi.name_of(it) for it in abi.calls(abi.HEADERS)}
@@ -32,11 +27,10 @@ def declared():
 
 def shown(file, *words):
     """The names that an object, an archive (`-g`) or a shared library (`-D`) defines for others."""
-    return set(re.findall(r"^\w+ [B-Z] (\w+)", ran("nm", "--defined-only", *words, file), re.M))
+    return set(re.findall(r"^\w+ [B-Z] (\w+)", written("nm", "--defined-only", *words, file), re.M))
 
 
 def compare(file, found, wanted):
-    """Stops at a name that only one of both has."""
     for name in sorted(found ^ wanted):
         sys.exit(f"package: {file.name} {'shows' if name in found else 'does not show'} {name}, "
                  f"which {'no header declares' if name in found else 'a header declares'}")
@@ -44,7 +38,7 @@ def compare(file, found, wanted):
 
 def take_nothing_else(compiled):
     """Stops if the library takes more from elsewhere than memory and what tables need of threads."""
-    more = set(re.findall(r"^ +U (\w+)$", ran("nm", "-u", compiled), re.M)) - TAKEN
+    more = set(re.findall(r"^ +U (\w+)$", written("nm", "-u", compiled), re.M)) - TAKEN
     if more:
         sys.exit(f"package: the library would need {', '.join(sorted(more))} of the program that links it")
 
@@ -56,13 +50,13 @@ def static(archive, made, room):
     how = ["-std=c11", *WARNINGS, "-O2", "-march=x86-64", "-fPIC", "-I", TOP / "library/include"]
     ours = {TOP / f"library/src/{it}.c": room / f"{it}.o" for it in ("memory", "table", "checked_calls")}
     for source, made_of_it in ours.items():
-        ran("gcc", *how, "-c", source, "-o", made_of_it)
-    ran("ld", "-r", "--whole-archive", archive, "--no-whole-archive", *ours.values(), "-o", whole)
+        written("gcc", *how, "-c", source, "-o", made_of_it)
+    written("ld", "-r", "--whole-archive", archive, "--no-whole-archive", *ours.values(), "-o", whole)
     names.write_text("\n".join(sorted(declared())))
-    ran("objcopy", f"--keep-global-symbols={names}", "--strip-debug", "--remove-section=.comment", whole, compiled)
+    written("objcopy", f"--keep-global-symbols={names}", "--strip-debug", "--remove-section=.comment", whole, compiled)
     take_nothing_else(compiled)
     made.unlink(missing_ok=True)
-    ran("ar", "rcsD", made, compiled)
+    written("ar", "rcsD", made, compiled)
     compare(made, shown(made, "-g"), declared())
 
 
@@ -72,13 +66,12 @@ def shared(archive, made, name):
     how += ["-Wl,-z,relro", "-Wl,-z,now", "-Wl,-z,noexecstack"]
     # (the end of a thread calls into it, so that it stays as long as the process)
     how += ["-Wl,-z,nodelete"]
-    ran("gcc", "-shared", *how, "-Wl,--whole-archive", archive, "-Wl,--no-whole-archive", "-o", made)
-    ran("strip", "--strip-unneeded", "--remove-section=.comment", made)
+    written("gcc", "-shared", *how, "-Wl,--whole-archive", archive, "-Wl,--no-whole-archive", "-o", made)
+    written("strip", "--strip-unneeded", "--remove-section=.comment", made)
     made.chmod(0o644)
     compare(made, shown(made, "-D"), declared())
 
 
 def newest_of_libc(file):
-    """The newest version of the C library that a shared library asks for."""
-    found = re.findall(r"GLIBC_([0-9.]+)", ran("objdump", "-T", file))
+    found = re.findall(r"GLIBC_([0-9.]+)", written("objdump", "-T", file))
     return max(found, key=lambda it: [int(part) for part in it.split(".")], default="2.2.5")

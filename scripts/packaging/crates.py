@@ -6,7 +6,7 @@ import json
 import re
 import shutil
 
-from common import TOP, filled, version
+from common import TOP, version
 
 REGISTRY = "share/cargo/registry"
 BY_PATH = "share/shardheap/rust"
@@ -28,42 +28,24 @@ def copied(name, folder):
     return manifest
 
 
-def own_version(name):
-    return re.search(r'(?m)^version = "(.*)"$', (SOURCES[name] / "Cargo.toml").read_text())[1]
-
-
-def marked(name, values):
-    """The version of a crate's file, with what its build metadata says: unproved, unofficial."""
-    return own_version(name) + ("+" + ".".join(values["MARKS"]) if values["MARKS"] else "")
-
-
-def published(text, values):
-    """A manifest with the publisher's addresses. Cargo does not publish one that is unproved or unofficial."""
-    addresses = "".join(f'{field} = "{values[field.upper()]}"\n' for field in ("homepage", "repository"))
-    return text if values["MARKS"] else text.replace("publish = false\n", addresses)
-
-
-def beside(manifest, values):
-    """Has sharded-slab take gearlongan from the folder beside it."""
-    text = manifest.read_text()
-    assert 'gearlongan = { path = "../rust" }' in text
-    where = f'path = "../gearlongan-{marked("gearlongan", values)}", version = "{version()}"'
-    manifest.write_text(text.replace('path = "../rust"', where))
-
-
 def unpacked(folder, values, library, build, copyright):
-    """Lays both crates out in the folder, as their files have them. Returns the folder of each."""
-    folders = {name: folder / f"{name}-{marked(name, values)}" for name in PARTS}
-    for name, its in folders.items():
-        manifest = copied(name, its)
-        text = re.sub(r'(?m)^version = ".*"$', f'version = "{marked(name, values)}"', manifest.read_text(), count=1)
-        manifest.write_text(published(text, values))
+    """Lays both crates out in the folder, as their files have them, and returns the folder of each. The build metadata
+    of their versions says what is unproved or unofficial, which Cargo does not publish."""
+    marks, folders = "+" + ".".join(values["MARKS"]) if values["MARKS"] else "", {}
+    addresses = "".join(f'{field} = "{values[field.upper()]}"\n' for field in ("homepage", "repository"))
+    for name in PARTS:
+        own = re.search(r'(?m)^version = "(.*)"$', (SOURCES[name] / "Cargo.toml").read_text())[1] + marks
+        folders[name] = folder / f"{name}-{own}"
+        manifest = copied(name, folders[name])
+        text = re.sub(r'(?m)^version = ".*"$', f'version = "{own}"', manifest.read_text(), count=1)
+        # (sharded-slab takes gearlongan from the folder beside it)
+        text = text.replace('path = "../rust"', f'path = "../gearlongan-{version()}{marks}", version = "{version()}"')
+        manifest.write_text(text if marks else text.replace("publish = false\n", addresses))
     own = folders["gearlongan"]
     (own / "lib").mkdir()
     shutil.copy(library, own / "lib")
     (own / "BUILD").write_text(build)
     (own / "copyright").write_text(copyright)
-    beside(folders["sharded-slab"] / "Cargo.toml", values)
     return list(folders.values())
 
 

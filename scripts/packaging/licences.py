@@ -4,57 +4,49 @@ A crate counts if a crate below c_exports names it in crates.txt, or another suc
 of it is in the machine code cannot be seen, since functions are merged into their callers. So all of them are named,
 and `compare` looks whether the archive shows a function of another one.
 """
-import pathlib
 import re
 import shutil
-import subprocess
 import sys
 
 import record
+import tree
+from checks import said, written
+from record import TOP
 
-TOP = pathlib.Path(__file__).resolve().parent.parent.parent
 # What a machine has of its own in Debian, so that packages need not repeat it.
 COMMON = "/usr/share/common-licenses/Apache-2.0"
 
 
 def toolchain():
-    """The folder of the toolchain."""
     if not shutil.which("rt"):
         sys.exit("package: there is no Rattle toolchain, whose licences belong in the package")
-    page = subprocess.run(["rt", "doc"], capture_output=True, text=True, check=True).stdout.strip()
-    return pathlib.Path(page).parent
-
-
-def listed():
-    """The crates of the repository, each with the libraries that it names."""
-    lines = [it.partition(":") for it in (TOP / "crates.txt").read_text().splitlines() if not it.startswith("#")]
-    return {head.split()[0]: rest.split() for head, colon, rest in lines if colon}
+    return tree.kit()
 
 
 def used(kit):
     """The crates of the toolchain that c_exports and the crates below it use."""
-    ours, found, left = listed(), set(), ["c_exports", "std"]
+    ours, found, left = tree.listed(), set(), ["c_exports", "std"]
     while left:
         name = left.pop()
-        if name in found:
-            continue
-        found.add(name)
-        format_of_kit = kit / f"rlibs/{name}.rlib/format"
-        left += ours[name] if name in ours else re.findall(r"(?m)^dep (\w+)$", format_of_kit.read_text())
+        if name not in found:
+            found.add(name)
+            format_of_kit = kit / f"rlibs/{name}.rlib/format"
+            left += [*ours[name].own, *ours[name].kit] if name in ours else re.findall(
+                r"(?m)^dep (\w+)$", format_of_kit.read_text())
     return sorted(found - ours.keys())
 
 
 def shown(archive):
     """The crates whose functions an archive shows: those of its symbols, and those that its record has of the module
     that it was compiled from."""
-    symbols = subprocess.run(["nm", archive], capture_output=True, text=True, check=True).stdout
+    symbols = written("nm", archive)
     of_module = record.read(archive).get("crates", "").split()
     return {*re.findall(r"(?m)^\w+ \w (\w+)::", symbols), *re.findall(r"::(\w+)\+\+", symbols), *of_module}
 
 
 def compare(archive):
     """Stops if the archive has code of a crate that the copyright would not name."""
-    more = shown(archive) - set(used(toolchain())) - listed().keys()
+    more = shown(archive) - set(used(toolchain())) - tree.listed().keys()
     if more:
         sys.exit(f"package: the archive has code of {', '.join(sorted(more))}, which its copyright would not name")
 
@@ -70,7 +62,6 @@ def holders(text):
 
 
 def short_name(file):
-    """A name for a licence text: that of its kind."""
     text = file.read_text()
     return "Apache-2.0" if "Apache License" in text[:400] else f"MIT-{file.parent.name}"
 
@@ -95,6 +86,6 @@ def copyright(debian):
     if debian:
         texts["Apache-2.0"] = f"The text is in {COMMON}."
     bodies = "\n".join(f"License: {it}\n{paragraph(text)}" for it, text in texts.items())
-    values = {"KIT": record.said("rt", "version").split()[0], "CRATES": crates.strip("\n"), "TEXTS": bodies.strip("\n")}
+    values = {"KIT": said("rt", "version").split()[0], "CRATES": crates.strip("\n"), "TEXTS": bodies.strip("\n")}
     values |= {"WITHOUT": "\n ".join(f"toolchain/{it}/*" for it in without)}
     return re.sub(r"@([A-Z]+)@", lambda it: values[it[1]], template)

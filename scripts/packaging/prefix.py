@@ -6,6 +6,7 @@ import binary
 import crates
 import licences
 import record
+from checks import said
 from common import SONAME, TEMPLATES, TOP, filled, version
 
 DOCUMENTS = "share/doc/libshardheap-dev"
@@ -28,7 +29,6 @@ def libraries(archive, folder, room):
 
 
 def headers(folder):
-    """The headers, and that of C++ with those that it includes."""
     folder.mkdir()
     for file in (*abi.HEADERS, TOP / "library/cpp/shardheap.hpp"):
         shutil.copy(file, folder)
@@ -53,10 +53,10 @@ def build(archive, built):
     lines = {"version": version(), **made, "sha256 of libc_exports.a": made["sha256"], "package": record.commit(".")}
     del lines["sha256"]
     lines.setdefault("tests", "none is recorded")
-    lines["compiler of memory.c and checked_calls.c"] = record.said("gcc", "--version").splitlines()[0]
+    lines["compiler of memory.c and checked_calls.c"] = said("gcc", "--version").splitlines()[0]
     for name in ("libshardheap.a", "libshardheap.so"):
         lines[f"sha256 of {name}"] = record.sha256(built / name)
-    return record.written(lines)
+    return record.text_of(lines)
 
 
 def documents(archive, prefix, lib, values, debian):

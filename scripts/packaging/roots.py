@@ -9,6 +9,8 @@ import shutil
 import subprocess
 import tarfile
 
+from common import triplet
+
 SUITE, MIRROR = "bookworm", "http://deb.debian.org/debian"
 # rustc-web is the newer of the two compilers of Debian 12: the crate asks for more than rustc 1.63.
 # lintian needs perl-openssl-defaults, under a name that debootstrap does not know.
@@ -19,7 +21,6 @@ NAMES = ["libshardheap0", "libshardheap-dev", "librust-gearlongan-dev"]
 
 
 def missing():
-    """Why no bare root can be made, or nothing."""
     if not shutil.which("debootstrap") or not shutil.which("unshare"):
         return "there is no debootstrap"
     return "" if os.geteuid() == 0 else "only root may use debootstrap"
@@ -27,6 +28,7 @@ def missing():
 
 class Root:
     """What both kinds have in common. `inside` is how scripts see `folder`."""
+    is_debian = False
 
     def __init__(self, folder, inside, clients, packages):
         self.folder, self.inside, self.clients, self.packages = folder, inside, clients, packages
@@ -39,8 +41,7 @@ class Root:
         self.install()
 
     def variables(self):
-        triplet = subprocess.run(["gcc", "-dumpmachine"], capture_output=True, text=True, check=True).stdout.strip()
-        return {"PACKAGES": f"{self.inside}/packages", "CLIENT": f"{self.inside}/client", "TRIPLET": triplet,
+        return {"PACKAGES": f"{self.inside}/packages", "CLIENT": f"{self.inside}/client", "TRIPLET": triplet(),
                 "LC_ALL": "C"}
 
     def run(self, script):
@@ -60,7 +61,6 @@ class Root:
 
 class Debian(Root):
     """A bare root of Debian, in which each .deb is installed."""
-
     is_debian = True
 
     def __init__(self, system, clients, packages):
@@ -73,9 +73,8 @@ class Debian(Root):
         self.folder.mkdir(exist_ok=True)
 
     def variables(self):
-        own = {"PATH": "/usr/sbin:/usr/bin:/sbin:/bin", "HOME": "/root", "PREFIX": "/usr"}
-        own["LIB"] = f"/usr/lib/{super().variables()['TRIPLET']}"
-        return {**super().variables(), **own}
+        return {**super().variables(), "PATH": "/usr/sbin:/usr/bin:/sbin:/bin", "HOME": "/root", "PREFIX": "/usr",
+                "LIB": f"/usr/lib/{triplet()}"}
 
     def command(self, script):
         inner = super().command(script)
@@ -95,17 +94,15 @@ class Debian(Root):
 class Plain(Root):
     """The tarball below a folder of this machine, whose tools and libraries programs use."""
 
-    is_debian = False
-
     def __init__(self, folder, clients, packages):
         super().__init__(folder, str(folder), clients, packages)
         self.prefix = folder / "prefix"
 
     def variables(self):
         lib = f"{self.prefix}/lib"
-        own = {"PREFIX": self.prefix, "LIB": lib, "LD_LIBRARY_PATH": lib, "CMAKE_PREFIX_PATH": self.prefix}
-        own |= {"PKG_CONFIG_PATH": f"{lib}/pkgconfig", "PATH": os.environ["PATH"], "HOME": os.environ["HOME"]}
-        return {**super().variables(), **own}
+        return {**super().variables(), "PREFIX": self.prefix, "LIB": lib, "LD_LIBRARY_PATH": lib,
+                "CMAKE_PREFIX_PATH": self.prefix, "PKG_CONFIG_PATH": f"{lib}/pkgconfig", "PATH": os.environ["PATH"],
+                "HOME": os.environ["HOME"]}
 
     def install(self):
         shutil.rmtree(self.prefix, ignore_errors=True)

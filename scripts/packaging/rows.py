@@ -45,7 +45,6 @@ BY_PATH = 'gearlongan = { path = "$PREFIX/share/shardheap/rust/gearlongan" }'
 REQUIRED = f'gearlongan = "{version().rpartition(".")[0]}"'
 BOTH = f'{BY_PATH}\nsharded-slab = "0.1.4"'
 PATCH = '[patch.crates-io]\nsharded-slab = { path = "$PREFIX/share/shardheap/rust/sharded-slab" }'
-# Nothing is installed.
 BARE = f"dpkg --purge {' '.join(reversed(NAMES))} > /dev/null 2>&1 || true\n"
 # The tarball as a prefix, with nothing installed; and lines that change a file in it.
 ELSEWHERE = BARE + """tar -xzf $PACKAGES/*.tar.gz

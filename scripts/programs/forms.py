@@ -12,14 +12,16 @@ output, or None if it did not end.
 """
 import collections
 import re
-import subprocess
+
+from programs import rows
 
 TINY, WIDE = "tiny", "wide"
 FIRST_KEY = {TINY: 4096, WIDE: 16777216}
 SHARD_UNIT = {TINY: 1024, WIDE: 65536}
 GENERATIONS = {TINY: 3, WIDE: 2**32 - 1}
 MOST_HOLDS = {TINY: 4, WIDE: 2**20}
-ACCOUNT = re.compile(r"page (\d+\.\d+) class \d live (\d+) marked (\d+) retired (\d+) mine (\d+) hand (\d+) queued (\d+)")
+ACCOUNT = re.compile(r"page (\d+\.\d+) class \d" + "".join(
+    rf" {kind} (\d+)" for kind in ("live", "marked", "retired", "mine", "hand", "queued")))
 
 
 def accounts(output):
@@ -31,14 +33,7 @@ def accounts(output):
     return found
 
 
-def replies(output, count):
-    """The first lines of an output, which are the replies."""
-    return output.splitlines()[:count]
-
-
 class Ordered:
-    """A script of calls in one order."""
-
     def __init__(self, header, calls):
         lines, last = [header], None
         for number, call in enumerate(calls):
@@ -63,10 +58,8 @@ Call = collections.namedtuple("Call", "phase by words")
 
 
 class Phased:
-    """Calls in phases, in each of which the order is open."""
-
-    def __init__(self, dice, history_program):
-        self.dice, self.program = dice, history_program
+    def __init__(self, dice):
+        self.dice = dice
         self.layout, self.passes, self.shards = dice.choice((TINY, TINY, WIDE)), dice.randint(2, 5), dice.randint(1, 2)
         self.values, self.names, self.calls = {}, [], []
         self.lines = [f"heap {self.layout} {self.shards} 1 {self.passes}"]
@@ -99,13 +92,10 @@ class Phased:
 
     def answered(self, output):
         """Each call with its result, and the key that it was about."""
-        said, keys, result = replies(output, len(self.lines) - 1), {}, []
-        place = 0
-        for call in self.calls:
-            while self.lines[1 + place].split()[1] in ("post", "wait"):
-                place += 1
-            answer = said[place].split()[2:]
-            place += 1
+        calls = [line.split()[2:] for line, asked in zip(output.splitlines(), self.lines[1:])
+                 if asked.split()[1] not in ("post", "wait")]
+        keys, result = {}, []
+        for call, answer in zip(self.calls, calls, strict=True):
             command, name = call.words[0], call.words[1] if len(call.words) > 1 else None
             if command == "insert" and answer[0] != "refused":
                 keys[name] = int(answer[0])
@@ -113,20 +103,17 @@ class Phased:
         return result
 
     def history(self, answered):
-        """The answers as a history, whose times are the phases."""
         lines = [f"history {self.passes} {MOST_HOLDS[self.layout]}"]
-        words = {("get", "ok"): "Got", ("remove", "ok"): "Removed", ("release", "ok"): "Released"}
+        words = {("get", "ok"): "Got", ("remove", "ok"): "Removed", ("release", "ok"): "Released",
+                 ("get", "refused 2"): "Gone", ("remove", "refused 2"): "Gone", ("get", "refused 3"): "Crowded"}
         for call, answer, key in answered:
-            word = words.get((call.words[0], answer[0]))
-            if call.words[0] in ("get", "remove") and answer[:2] == ["refused", "2"]:
-                word = "Gone"
-            if call.words[0] == "get" and answer[:2] == ["refused", "3"]:
-                word = "Crowded"
-            value = ""
-            if call.words[0] == "insert" and key is not None:
-                word, value = "Insert", " ".join(["", str(len(call.words) - 2), *call.words[2:]])
+            word = words.get((call.words[0], " ".join(answer[:2])))
+            if call.words[0] == "insert":
+                word = " ".join(["Insert", str(key), str(len(call.words) - 2), *call.words[2:]])
+            elif word is not None:
+                word = f"{word} {key}"
             if word is not None and key is not None:
-                lines.append(f"{2 * call.phase} {2 * call.phase + 1} {call.by} {word} {key}{value}")
+                lines.append(f"{2 * call.phase} {2 * call.phase + 1} {call.by} {word}")
         return "\n".join(lines) + "\n"
 
     def expected(self, answered):
@@ -155,13 +142,9 @@ class Phased:
         return {page: tuple(numbers) for page, numbers in pages.items()}
 
     def misread(self, answered):
-        """Whether a read returned another value than the one that was inserted."""
-        for call, answer, _ in answered:
-            if call.words[0] == "read" and answer[0] not in ("refused", "unbound"):
-                value = self.values[call.words[1]]
-                if answer != [str(len(value)), *value]:
-                    return True
-        return False
+        reads = [(answer, self.values[call.words[1]]) for call, answer, _ in answered
+                 if call.words[0] == "read" and answer[0] not in ("refused", "unbound")]
+        return any(answer != [str(len(value)), *value] for answer, value in reads)
 
     def wrongs(self, run):
         ran = run("threads", self.script())
@@ -171,11 +154,9 @@ class Phased:
         if status != 0:
             return [f"a run of phases ended with status {status}"]
         answered = self.answered(output)
-        history = self.history(answered)
-        judged = subprocess.run([self.program], input=history, capture_output=True, text=True, timeout=60)
-        found = []
-        if not judged.stdout.startswith(("legal", "undecided")):
-            found.append(f"tool_history says of the answers of phases: {(judged.stdout + judged.stderr).strip()}")
+        judged, found = rows.run(rows.Row("tool_history", (), self.history(answered))), []
+        if not judged.output.startswith((b"legal", b"undecided")):
+            found.append(f"tool_history says of the answers of phases: {judged.output + judged.error}")
         if self.misread(answered):
             found.append("a read in a run of phases returned another value")
         pages = {page: numbers[:3] for page, numbers in accounts(output).items() if any(numbers[:3])}
@@ -205,7 +186,6 @@ class Stepped:
         self.mix([self.events(by) for by in range(self.passes)])
 
     def events(self, by):
-        """The events of some calls of a pass, one after the other."""
         lines = []
         for _ in range(self.dice.randint(1, 6)):
             key = self.dice.choice(self.keys)
@@ -230,7 +210,7 @@ class Stepped:
         if ran is None or ran[0] != 0:
             return ["a run of steps did not end well"]
         lines, wanted = list(self.heap), []
-        for place, reply in enumerate(replies(ran[1], len(self.steps) - 1), 1):
+        for place, reply in enumerate(ran[1].splitlines()[:len(self.steps) - 1], 1):
             words = reply.split()
             if place in self.begun and len(words) > 3:
                 by, entry, key = words[0], words[2], words[3]
@@ -241,7 +221,7 @@ class Stepped:
         if heap is None or heap[0] != 0:
             return ["a run of the calls of mixed steps did not end well"]
         found = []
-        if replies(heap[1], len(lines) - 1)[len(self.heap) - 1:] != wanted:
+        if heap[1].splitlines()[len(self.heap) - 1:len(lines) - 1] != wanted:
             found.append("heap answers calls in another way than their mixed steps")
         if accounts(heap[1]) != accounts(ran[1]):
             found.append("the account lines of heap are not those of the mixed steps of its calls")

@@ -40,8 +40,7 @@ def broken():
 
 
 def long():
-    """70,000 lines: each but four posts a name, so that more names are bound than 16 bits count, and the last one is
-    waited for. (A program with checks that run takes a minute for it.)"""
+    """70,000 lines: each but four posts a name, more than 16 bits count, and the last one is waited for."""
     letters = itertools.product(string.ascii_lowercase, repeat=4)
     names = ["".join(it) for it in itertools.islice(letters, 69996)]
     script = ["heap tiny 1 1 2", "0 adopt 0", *(f"0 post {name}" for name in names), f"1 wait {names[-1]}",
@@ -66,7 +65,6 @@ def large():
 
 
 def name(number):
-    """The name with this number: a, b, .., z, aa, ab, .."""
     letters = ""
     number += 1
     while number > 0:

@@ -11,8 +11,8 @@ import typing
 from tree import program
 
 
-class Unbuilt(Exception):
-    """A program that is not there."""
+class Unbuilt(SystemExit):
+    """A program that is not there. The text says so."""
 
 
 @dataclasses.dataclass
@@ -62,7 +62,6 @@ def in_bytes(text):
 
 
 def run(row):
-    """Runs a row."""
     path = pathlib.Path(row.program) if "/" in str(row.program) else program(row.program)
     if not os.access(path, os.X_OK):
         raise Unbuilt(f"{path} is not built: rt run in its crate builds it")
@@ -96,7 +95,6 @@ def run(row):
 
 
 def difference(what, wanted, found):
-    """The first line in which a text is another one."""
     wanted, found = in_bytes(wanted).split(b"\n"), found.split(b"\n")
     at = next((at for at, (one, other) in enumerate(zip(wanted, found)) if one != other), min(len(wanted), len(found)))
     lines = [repr(it[at].decode(errors="replace"))[:200] if at < len(it) else "no line" for it in (found, wanted)]
@@ -104,7 +102,6 @@ def difference(what, wanted, found):
 
 
 def faults(row, ran):
-    """What is wrong with what came of a row."""
     if ran.status != row.status:
         how = f"no end within {row.seconds:.0f} s" if ran.status is None else f"status {ran.status}"
         yield f"{how} in place of status {row.status}; {ran.error[-300:].decode(errors='replace').strip()}"
@@ -152,7 +149,6 @@ def planted():
 
 
 def self_test():
-    """Whether each planted fault is found, and is the only one."""
     missed = 0
     for row, said in planted():
         count, found = judged(it for it in [row])

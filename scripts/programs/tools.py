@@ -41,7 +41,6 @@ def bench_rows():
 
 
 def large_rows():
-    """Status 0 says that every count of tool_large was right."""
     for status, words in [(0, "wide --values 1"), (0, "wide --values 100000"), (0, "deep"), (0, "deep --values 100000"),
                           (2, ""), (2, "tiny"), (2, "wide --values 0"), (2, "deep --values 10000001")]:
         yield Row("tool_large", words.split(), status=status, seconds=120)
@@ -67,8 +66,7 @@ def add_up(rounds, grows):
             return
         left = of["inserts"] - of["removes"]
         for what, is_so in {
-            f"rounds {rounds}": of["rounds"] == rounds,
-            **{f"{name} above 0": of[name] > 0 for name in MADE},
+            f"rounds {rounds}": of["rounds"] == rounds, **{f"{name} above 0": of[name] > 0 for name in MADE},
             **{f"{name} 0": of[name] == 0 for name in BY_HAND if grows},
             "answers judged all answers": of["answers judged"] == sum(of[name] for name in ANSWERS),
             "shards left those adopted": of["shards left"] == of["shards adopted"],

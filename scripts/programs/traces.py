@@ -30,7 +30,6 @@ def trace_rows():
 
 
 def write_traces():
-    """Writes the traces anew."""
     for script in SCRIPTS:
         (STORIES / f"{script.stem}.trace").write_bytes(run(Row("script_trace", (), script)).output)
 
@@ -90,7 +89,6 @@ class Terminal:
             os.execv(TRACE, [str(TRACE), *words])
 
     def answer(self):
-        """What is written up to the next prompt."""
         signal.alarm(SECONDS)
         read = ""
         while not read.endswith(PROMPT):
@@ -104,7 +102,6 @@ class Terminal:
         return re.sub(r"^.*\n", "", self.answer(), count=1)
 
     def ended(self):
-        """The status after the end of the input."""
         os.write(self.end, b"\x04")
         signal.alarm(SECONDS)
         status = os.waitpid(self.process, 0)[1]
@@ -113,7 +110,6 @@ class Terminal:
 
 
 def talk(exchange, *words):
-    """What is wrong with the answers to these lines."""
     with tempfile.TemporaryDirectory(prefix="prompt-") as folder:
         terminal = Terminal(folder, *words)
         terminal.answer()

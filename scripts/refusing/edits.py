@@ -43,7 +43,6 @@ class Function:
         return f"{self.type}::{self.name}" if self.type else "::".join(self.module)
 
     def moved(self, rows, name):
-        """The function so many rows further down, under this name."""
         other = copy.copy(self)
         other.name, other.rows = name, range(self.rows.start + rows, self.rows.stop + rows)
         return other
@@ -87,35 +86,35 @@ class Edit:
         # refused by a goal of any function, so a right one must not fail for want of steps.)
         self.searches_whole = False
         path = old = None
-        texts = {}
+        self.texts = {}
         for line in file.read_text().split("\n"):
-            if line.startswith("file: "):
-                path = line[len("file: "):].strip()
-            elif line.startswith("refused by: "):
-                self.refused_by = line[len("refused by: "):].strip()
-            elif line.strip() == "searches: whole":
-                self.searches_whole = True
-            elif line.startswith("old: "):
-                old = line[len("old: "):]
-            elif line.startswith("new:") and path and old:
-                self.replace(crate, texts, path, old, line[len("new:"):].removeprefix(" "))
-        self.texts = texts
+            word, _, rest = line.partition(":")
+            match word:
+                case "file":
+                    path = rest.strip()
+                case "refused by":
+                    self.refused_by = rest.strip()
+                case "searches":
+                    self.searches_whole = rest.strip() == "whole"
+                case "old":
+                    old = rest.removeprefix(" ")
+                case "new" if path and old:
+                    self.replace(crate, path, old, rest.removeprefix(" "))
         self.searches_whole |= self.is_outside
         if not self.replaced and not self.bad:
             self.bad = "it has no pair of old: and new:"
         if self.refused_by and not self.is_outside:
             self.bad = "it changes a function, so no line has to say which function refuses it"
 
-    def replace(self, crate, texts, path, old, new):
-        file = crate.folder / path
-        if not path.startswith(tuple(f"{it}/" for it in PARTS)) or not file.is_file():
+    def replace(self, crate, path, old, new):
+        if not path.startswith(tuple(f"{it}/" for it in PARTS)) or not (crate.folder / path).is_file():
             self.bad = f"there is no file {path}"
             return
-        text = texts.get(path) or file.read_text()
+        text = self.texts.get(path) or crate.text(path)
         if text.count(old) != 1:
             self.bad = f"an old: text is in {path} {text.count(old)} times, and not once"
             return
-        texts[path] = text.replace(old, new)
+        self.texts[path] = text.replace(old, new)
         self.replaced.append((path, crate.text(path).find(old), old, new))
         function = function_at(path, text, text.find(old)) if path.startswith("src/") else None
         self.is_outside |= function is None
@@ -124,7 +123,6 @@ class Edit:
             self.functions[function.key()] = function
 
     def undone(self):
-        """The edit of the same functions that changes nothing."""
         other = copy.copy(self)
         other.replaced, other.texts = [(path, at, old, old) for path, at, old, _ in self.replaced], {}
         return other

@@ -1,9 +1,8 @@
 """What was seen refused: of each crate a sum of all that decides it, and the processor seconds that it took.
 
-A wrong body that was refused is refused again over the same files by the same prover. So seen.txt has a line for each
-crate whose wrong bodies all did as they must. Its sum is of the crate's files and wrong bodies, of the crates below it
-and of the prover. A run of the gate tries each crate that has another sum, or no line, and one part of all others. It
-takes another part with each commit, so no line is believed for long.
+seen.txt has a line for each crate whose wrong bodies all did as they must. Its sum is of the crate's files and wrong
+bodies, of the crates below it and of the prover. A run of the gate tries each crate that has another sum, or no line,
+and one part of all others: another part with each commit, so no line is believed for long.
 """
 import functools
 import hashlib
@@ -51,14 +50,9 @@ def sums_of(names, crates, kit):
 
 
 def read():
-    lines = FILE.read_text().split("\n") if FILE.is_file() else []
+    lines = FILE.read_text().splitlines() if FILE.is_file() else []
     rows = [it.split() for it in lines if it and not it.startswith("#")]
     return {name: Seen(total, int(seconds)) for name, total, seconds in rows}
-
-
-def write(seen):
-    rows = [f"{name} {it.sum} {it.seconds}" for name, it in sorted(seen.items())]
-    FILE.write_text("\n".join([HEAD, *rows, ""]))
 
 
 def write_tried(sums, seen, tried):
@@ -66,9 +60,10 @@ def write_tried(sums, seen, tried):
 
     Of each crate that was tried it is given how many wrong bodies were refused, how many were not, and the seconds.
     """
-    kept = {it: seen[it] for it in sums if it in seen and seen[it].sum == sums[it] and it not in tried}
-    refused = {it: Seen(sums[it], round(seconds)) for it, (_, failed, seconds) in tried.items() if not failed}
-    write({**kept, **refused})
+    lines = {it: seen[it] for it in sums if it in seen and seen[it].sum == sums[it] and it not in tried}
+    lines |= {it: Seen(sums[it], round(seconds)) for it, (_, failed, seconds) in tried.items() if not failed}
+    rows = [f"{name} {it.sum} {it.seconds}" for name, it in sorted(lines.items())]
+    FILE.write_text("\n".join([HEAD, *rows, ""]))
 
 
 def run_number():

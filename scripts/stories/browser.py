@@ -3,6 +3,7 @@
 import fcntl
 import json
 import os
+import select
 import shutil
 import signal
 import subprocess
@@ -19,7 +20,6 @@ SECONDS = 120
 
 
 def found():
-    """The path of Chromium, or None."""
     return next((path for name in NAMES if (path := shutil.which(name))), None)
 
 
@@ -36,7 +36,7 @@ class Browser:
     """One page of a Chromium of its own. `errors` has what the page reported."""
 
     def __init__(self):
-        self.errors, self.count, self.rest = [], 0, b""
+        self.errors, self.count, self.rest, self.session = [], 0, b"", None
         self.folder = tempfile.TemporaryDirectory(prefix="story-browser-", ignore_cleanup_errors=True)
         theirs_in, self.to = pipe()
         self.come, theirs_out = pipe()
@@ -47,8 +47,10 @@ class Browser:
                                         pass_fds=(theirs_in, theirs_out), stderr=subprocess.DEVNULL)
         os.close(theirs_in)
         os.close(theirs_out)
-        self.session = None
-        self.attach()
+        target = next(it for it in self.call("Target.getTargets")["targetInfos"] if it["type"] == "page")
+        self.session = self.call("Target.attachToTarget", targetId=target["targetId"], flatten=True)["sessionId"]
+        for domain in ("Page", "Runtime", "Log"):
+            self.call(f"{domain}.enable")
 
     def __enter__(self):
         return self
@@ -60,19 +62,10 @@ class Browser:
         os.close(self.come)
         self.folder.cleanup()
 
-    def attach(self):
-        targets = self.call("Target.getTargets")["targetInfos"]
-        target = next(one["targetId"] for one in targets if one["type"] == "page")
-        self.session = self.call("Target.attachToTarget", targetId=target, flatten=True)["sessionId"]
-        for domain in ("Page", "Runtime", "Log"):
-            self.call(f"{domain}.enable")
-
     def call(self, method, **words):
-        """Calls a method of the protocol, and returns its result."""
         self.count += 1
-        sent = {"id": self.count, "method": method, "params": words}
-        if self.session:
-            sent["sessionId"] = self.session
+        session = {"sessionId": self.session} if self.session else {}
+        sent = {"id": self.count, "method": method, "params": words, **session}
         os.write(self.to, json.dumps(sent).encode() + b"\0")
         while True:
             got = self.message()
@@ -83,13 +76,13 @@ class Browser:
                 return got["result"]
 
     def message(self):
-        """The next message of the browser."""
-        with Alarm(SECONDS):
-            while b"\0" not in self.rest:
-                read = os.read(self.come, 1 << 16)
-                if not read:
-                    raise RuntimeError("the browser ended")
-                self.rest += read
+        while b"\0" not in self.rest:
+            if not select.select([self.come], [], [], SECONDS)[0]:
+                raise TimeoutError(f"the browser said nothing for {SECONDS} seconds")
+            read = os.read(self.come, 1 << 16)
+            if not read:
+                raise RuntimeError("the browser ended")
+            self.rest += read
         text, self.rest = self.rest.split(b"\0", 1)
         return json.loads(text)
 
@@ -104,19 +97,23 @@ class Browser:
         elif got.get("method") == "Log.entryAdded" and words["entry"]["level"] == "error":
             self.errors.append(words["entry"]["text"])
 
-    def open(self, url):
-        self.call("Page.navigate", url=url)
-        self.run("""new Promise((done) => {
-            if (document.readyState === "complete") done(true);
-            else window.addEventListener("load", () => done(true));
-        })""")
+    def open(self, path, place=""):
+        """Opens a file anew, at a place of it."""
+        for url in ("about:blank", f"file://{path}{place}"):
+            self.call("Page.navigate", url=url)
+            self.run("""new Promise((done) => {
+                if (document.readyState === "complete") done(true);
+                else window.addEventListener("load", () => done(true));
+            })""")
 
     def run(self, code):
-        """The value of an expression in the page."""
         got = self.call("Runtime.evaluate", expression=code, returnByValue=True, awaitPromise=True)
         if "exceptionDetails" in got:
             raise RuntimeError(got["exceptionDetails"].get("exception", {}).get("description", "an exception"))
         return got["result"].get("value")
+
+    def of(self, name, what):
+        return self.run(f'document.getElementById("{name}").{what}')
 
     def key(self, name, code, shift=False):
         for kind in ("keyDown", "keyUp"):
@@ -129,22 +126,4 @@ class Browser:
         self.call("Emulation.setEmulatedMedia", features=[{"name": "prefers-color-scheme", "value": scheme}])
 
     def shot(self):
-        """The window as it is seen, a PNG."""
         return b64decode(self.call("Page.captureScreenshot", format="png", optimizeForSpeed=False)["data"])
-
-
-class Alarm:
-    """Fails if what it is around takes longer."""
-
-    def __init__(self, seconds):
-        self.seconds = seconds
-
-    def __enter__(self):
-        signal.signal(signal.SIGALRM, self.late)
-        signal.alarm(self.seconds)
-
-    def __exit__(self, *_):
-        signal.alarm(0)
-
-    def late(self, *_):
-        raise TimeoutError(f"the browser said nothing for {self.seconds} seconds")

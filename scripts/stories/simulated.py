@@ -3,13 +3,12 @@
 import os
 import random
 import subprocess
-from pathlib import Path
 
+from stories import trace
 from stories.compared import compare_step, same
-from stories.expected import steps_of
-from tree import TOP, program
+from tree import program
 
-PROGRAM = str(program("shardheap"))
+PROGRAM = program("shardheap")
 # The story that is done by clicks on a new heap, which begins as the story does.
 STORY = "two_removers"
 BEGUN = 6
@@ -30,178 +29,157 @@ READY = """new Promise((done, fail) => {
 CHOICES = """[...document.querySelectorAll("#choices [data-pass]")].map((row) => [row.dataset.pass,
     [...row.querySelectorAll(".chip")].map((chip) => [chip.querySelector(".event").textContent,
         chip.querySelector(".reply")?.textContent ?? ""])])"""
-
-
-def open_choices(page, path, place=""):
-    page.open("about:blank")
-    page.open(f"file://{path}{place}")
-    page.run('document.getElementById("choose").open = true')
-    page.run(READY)
-
-
-def press(page, name):
-    page.run(f'document.getElementById("{name}").click()')
-    page.run(READY)
-
-
-def choices(page):
-    """What the page says that each pass can do next: its events, each with what it would be answered."""
-    return {number: dict(events) for number, events in page.run(CHOICES)}
-
-
-def choose(page, number, event):
-    """Clicks on an event of a pass, and says whether it was there."""
-    found = page.run(f"""(() => {{
-        const row = document.querySelector('#choices [data-pass="{number}"]');
-        const chips = [...row.querySelectorAll(".chip")];
-        const chip = chips.find((one) => one.querySelector(".event").textContent === {event!r});
-        chip?.click();
-        return Boolean(chip);
-    }})()""")
-    page.run(READY)
-    return found
-
-
-def give_value(page, words):
-    """Writes the words that the next value is to have."""
-    page.run(f"""(() => {{
-        document.getElementById("value").value = {" ".join(words)!r};
-        document.getElementById("value").dispatchEvent(new Event("change"));
-    }})()""")
-    page.run(READY)
-
-
-def line(page):
-    """The event that was done last, and its answer."""
-    return " ".join(page.run('document.querySelector("#told .line").textContent').removeprefix("pass ").split())
-
-
-def exported(page):
-    """The lines that are copied, without comments."""
-    press(page, "copy")
-    lines = page.run('document.getElementById("script").value').splitlines()
-    return [text for text in lines if not text.startswith(";")]
-
-
-def do_lines(page, lines):
-    text = "".join(f"{one}\n" for one in lines)
-    page.run(f'document.getElementById("script").value = {text!r}')
-    press(page, "do-lines")
+# The step as mode steps replies to it: the pass, the first word of the event, and the answer without a reason.
+REPLY = """(() => {
+    const text = (name) => document.querySelector(`#told .line .${name}`).textContent;
+    return [text("who"), text("event").split(" ")[0], text("answer").split(": ")[0]].join(" ");
+})()"""
 
 
 def has_program():
     return os.access(PROGRAM, os.X_OK)
 
 
-def replies_of(lines):
-    """What mode steps of shardheap replies to a script."""
-    text = "".join(f"{one}\n" for one in lines)
-    ran = subprocess.run([PROGRAM, "steps"], input=text, capture_output=True, text=True, check=False)
-    return (ran.stdout or ran.stderr).splitlines()
+class Choices:
+    """The page with its choices open, after each act once they are drawn."""
 
+    def __init__(self, page, path, place=""):
+        self.page = page
+        page.open(path, place)
+        self.act('document.getElementById("choose").open = true')
 
-def reply(page):
-    """The step as mode steps replies to it: the pass, the first word of the event, and the answer without a reason."""
-    return page.run("""(() => {
-        const text = (name) => document.querySelector(`#told .line .${name}`).textContent;
-        return [text("who"), text("event").split(" ")[0], text("answer").split(": ")[0]].join(" ");
-    })()""")
+    def act(self, code):
+        found = self.page.run(code)
+        self.page.run(READY)
+        return found
 
+    def press(self, name):
+        self.act(f'document.getElementById("{name}").click()')
 
-def all_replies(page):
-    """The replies of all steps, as the page has them one after the other."""
-    count = int(page.run('document.getElementById("slider").max'))
-    page.run('document.getElementById("choose").open = false; document.getElementById("first").click()')
-    for _ in range(count):
-        yield reply(page)
-        page.run('document.getElementById("next").click()')
-    page.run('document.getElementById("choose").open = true')
-    page.run(READY)
+    def all(self):
+        """What the page says that each pass can do next: its events, each with what it would be answered."""
+        return {number: dict(events) for number, events in self.page.run(CHOICES)}
 
+    def choose(self, number, event):
+        return self.act(f"""(() => {{
+            const row = document.querySelector('#choices [data-pass="{number}"]');
+            const chips = [...row.querySelectorAll(".chip")];
+            const chip = chips.find((one) => one.querySelector(".event").textContent === {event!r});
+            chip?.click();
+            return Boolean(chip);
+        }})()""")
 
-def check_replies(page):
-    """The exported script, done by mode steps of shardheap."""
-    if has_program():
-        yield from same("replies of shardheap steps", list(all_replies(page)), replies_of(exported(page)))
+    def give_value(self, words):
+        self.act(f"""(() => {{
+            document.getElementById("value").value = {" ".join(words)!r};
+            document.getElementById("value").dispatchEvent(new Event("change"));
+        }})()""")
+
+    def line(self):
+        text = self.page.run('document.querySelector("#told .line").textContent')
+        return " ".join(text.removeprefix("pass ").split())
+
+    def exported(self):
+        self.press("copy")
+        return [text for text in self.page.of("script", "value").splitlines() if not text.startswith(";")]
+
+    def do_lines(self, lines):
+        text = "".join(f"{one}\n" for one in lines)
+        self.page.of("script", f"value = {text!r}")
+        self.press("do-lines")
+
+    def all_replies(self):
+        """The replies of all steps, as the page has them one after the other."""
+        self.page.of("choose", "open = false")
+        self.page.of("first", "click()")
+        for _ in range(int(self.page.of("slider", "max"))):
+            yield self.page.run(REPLY)
+            self.page.of("next", "click()")
+        self.act('document.getElementById("choose").open = true')
+
+    def check_replies(self):
+        if has_program():
+            replies = list(self.all_replies())
+            text = "".join(f"{one}\n" for one in self.exported())
+            ran = subprocess.run([PROGRAM, "steps"], input=text, capture_output=True, text=True, check=False)
+            yield from same("replies of shardheap steps", replies, (ran.stdout or ran.stderr).splitlines())
 
 
 def check_story_by_clicks(page, path, text):
-    """A whole story on a new heap."""
-    open_choices(page, path)
-    press(page, "fresh")
-    for step in steps_of(text)[BEGUN:]:
-        number, event = step.event.split(" ", 1)
-        if event.startswith("Fill "):
-            give_value(page, event.split(" ")[2:])
-        if not choose(page, number, event):
+    choices = Choices(page, path)
+    choices.press("fresh")
+    for step in trace.read(text).steps[BEGUN:]:
+        if step.name() == "Fill" and step.action() != "Fill":
+            choices.give_value(step.event.split()[3:])
+        if not choices.choose(step.by(), step.action()):
             yield f"step {step.number}: {step.event} is no choice"
             return
-        yield from same(f"step {step.number} by a click", line(page), f"{step.event} {step.answer}")
-    script = [one for one in text.splitlines() if one.startswith("> ")]
-    yield from same("exported script", exported(page), [one[2:] for one in script])
-    yield from check_replies(page)
+        yield from same(f"step {step.number} by a click", choices.line(), f"{step.event} {step.answer}")
+    yield from same("exported script", choices.exported(), [it[2:] for it in text.splitlines() if it.startswith("> ")])
+    yield from choices.check_replies()
 
 
 def check_fork(page, path):
     """Another pass than the one of the story, a step back, and the way back to the story."""
-    open_choices(page, path, f"#{STORY}/{FORK}")
-    yield from same("what passes 1 and 2 can do", [list(choices(page)[one].items()) for one in "12"],
+    choices = Choices(page, path, f"#{STORY}/{FORK}")
+    yield from same("what passes 1 and 2 can do", [list(choices.all()[one].items()) for one in "12"],
                     [[("Mark", "Removed 4096")], [("Mark", "Removed 4096")]])
-    choose(page, "1", "Mark")
-    yield from same("pass 1 marks first", line(page), "1 Mark Removed 4096")
-    yield from same("pass 2 marks then", choices(page)["2"], {"Mark": "Gone 4096"})
-    choose(page, "2", "Mark")
-    yield from same("pass 2 marked", line(page), "2 Mark Gone 4096")
+    choices.choose("1", "Mark")
+    yield from same("pass 1 marks first", choices.line(), "1 Mark Removed 4096")
+    yield from same("pass 2 marks then", choices.all()["2"], {"Mark": "Gone 4096"})
+    choices.choose("2", "Mark")
+    yield from same("pass 2 marked", choices.line(), "2 Mark Gone 4096")
     page.key("u", 85)
     page.run(READY)
-    yield from same("a step back", line(page), "1 Mark Removed 4096")
-    yield from check_replies(page)
-    press(page, "again")
+    yield from same("a step back", choices.line(), "1 Mark Removed 4096")
+    yield from choices.check_replies()
+    choices.press("again")
     yield from same("the story again", page.run("location.hash"), f"#{STORY}/{FORK}")
-    page.run('document.querySelector("#choices .next-of-story").click()')
-    page.run(READY)
+    choices.act('document.querySelector("#choices .next-of-story").click()')
     yield from same("the story's next step", page.run("location.hash"), f"#{STORY}/{FORK + 1}")
 
 
 def check_walk(page, path):
     """Steps by chance: each is done as it was said, and the clauses hold."""
-    chance = random.Random(SEED)
-    open_choices(page, path)
-    page.run('document.getElementById("facts").open = true')
-    press(page, "fresh")
+    chance, choices = random.Random(SEED), Choices(page, path)
+    page.of("facts", "open = true")
+    choices.press("fresh")
     for _ in range(STEPS):
-        number, events = chance.choice([(one, found) for one, found in choices(page).items() if found])
+        number, events = chance.choice([(one, found) for one, found in choices.all().items() if found])
         event, reply = chance.choice(list(events.items()))
-        choose(page, number, event)
-        said = line(page).removeprefix(f"{number} {event} ")
+        choices.choose(number, event)
+        said = choices.line().removeprefix(f"{number} {event} ")
         yield from same(f"answer to {number} {event}", said.removeprefix("moved").removeprefix(": "), reply)
         broken = page.run('[...document.querySelectorAll(".broken")].map((one) => one.textContent)')
         yield from same("clauses that do not hold", broken, [])
-    yield from check_replies(page)
+    yield from choices.check_replies()
 
 
 def check_scripts(page, path, texts, seen):
     """The page does the scripts of all stories, and ends as their traces do."""
-    open_choices(page, path)
+    choices = Choices(page, path)
     for name, text in texts.items():
-        do_lines(page, [one.removeprefix("> ") for one in text.splitlines() if one.startswith(("> ", ";"))])
-        steps = steps_of(text)
-        found = [f"{name} done by the page: {fault}" for fault in compare_step(page.run(seen), steps[-1], len(steps))]
-        yield from found
+        choices.do_lines([one.removeprefix("> ") for one in text.splitlines() if one.startswith(("> ", ";"))])
+        steps = trace.read(text).steps
+        for fault in compare_step(page.run(seen), steps[-1], len(steps)):
+            yield f"{name} done by the page: {fault}"
 
 
 def check_refused(page, path):
-    """A line that is none of a script is refused, and what was shown stays."""
-    open_choices(page, path)
-    do_lines(page, ["heap tiny 1 1 2", "0 adopt 0"])
-    said = page.run('document.getElementById("fault").textContent')
-    yield from same("a line that is none", said, "The script is not done: line 2: Command")
-    yield from same("story that stays", page.run('document.getElementById("which").value'), "stalled_freer")
+    choices = Choices(page, path)
+    choices.do_lines(["heap tiny 1 1 2", "0 adopt 0"])
+    yield from same("a line that is none", page.of("fault", "textContent"),
+                    "The script is not done: line 2: Command")
+    yield from same("story that stays", page.of("which", "value"), "stalled_freer")
 
 
 def check_simulator(page, path, texts, seen):
-    yield from check_story_by_clicks(page, path, texts[STORY])
-    yield from check_fork(page, path)
-    yield from check_walk(page, path)
-    yield from check_scripts(page, path, texts, seen)
-    yield from check_refused(page, path)
+    """What is wrong with the simulator. A page that does not go on is wrong too."""
+    try:
+        yield from check_story_by_clicks(page, path, texts[STORY])
+        yield from check_fork(page, path)
+        yield from check_walk(page, path)
+        yield from check_scripts(page, path, texts, seen)
+        yield from check_refused(page, path)
+    except RuntimeError as error:
+        yield f"simulator: {error}"

@@ -1,10 +1,13 @@
 """A picture of boxes, texts and arrows, written as SVG, light or dark as the reader's browser is. A text that leaves
 the picture or overlaps another one is refused when it is drawn: all letters of a size have one width."""
 
-from html import escape
+import re
+from html import escape, unescape
 
 # How wide a letter is, for each size of letters in use.
 LETTER = {10: 6.05, 11: 6.65, 12: 7.25, 14: 8.45}
+
+TEXT = re.compile(r'<text x="(.*?)" y="(.*?)" font-size="(\d+)" text-anchor="(\w+)" class=".*?">(.*)</text>')
 
 STYLE = """text{font-family:'DejaVu Sans Mono',Menlo,Consolas,monospace;fill:#222}
 .page{fill:#ffffff}.plain{fill:#fafafa;stroke:#666}.frame{fill:none;stroke:#bbb}.dark{fill:#555;stroke:#555}
@@ -41,13 +44,14 @@ class Picture:
                  f'rx="{round_by}" class="{kind}"/>')
 
     def text(self, x, y, text, kind="", size=12, anchor="start"):
-        wide = len(text) * LETTER[size]
-        left = x - {"start": 0, "middle": wide / 2, "end": wide}[anchor]
-        self.claim(text, left, y - size * 0.8, wide, size)
+        self.claim(x, y, text, size, anchor)
         self.add(f'<text x="{num(x)}" y="{num(y)}" font-size="{size}" text-anchor="{anchor}" '
                  f'class="{kind}">{escape(text)}</text>')
 
-    def claim(self, text, left, top, wide, high):
+    def claim(self, x, y, text, high, anchor):
+        """Refuses a text of this size that leaves the picture or overlaps another."""
+        wide = len(text) * LETTER[high]
+        left, top = x - {"start": 0, "middle": wide / 2, "end": wide}[anchor], y - high * 0.8
         if left < 0 or top < 0 or left + wide > self.width or top + high > self.height:
             raise ValueError(f"a text leaves the picture: {text}")
         for other, x, y, w, h in self.spans:
@@ -56,7 +60,6 @@ class Picture:
         self.spans.append((text, left, top, wide, high))
 
     def cell(self, x, y, width, height, lines, kind="plain", size=12):
-        """A box with lines of text in its middle."""
         self.box(x, y, width, height, kind)
         step = size + 3
         first = y + height / 2 - step * (len(lines) - 1) / 2 + size * 0.35
@@ -69,11 +72,6 @@ class Picture:
         head = "owed-head" if kind == "owed" else "head"
         self.add(f'<line x1="{num(x1)}" y1="{num(y1)}" x2="{num(x2)}" y2="{num(y2)}" class="{kind}" '
                  f'marker-end="url(#{head})"/>')
-
-    def bend(self, points, kind="line"):
-        head = "owed-head" if kind == "owed" else "head"
-        path = " ".join(f"{num(x)},{num(y)}" for x, y in points)
-        self.add(f'<polyline points="{path}" class="{kind}" marker-end="url(#{head})"/>')
 
     def line(self, x1, y1, x2, y2, kind="thin"):
         self.add(f'<line x1="{num(x1)}" y1="{num(y1)}" x2="{num(x2)}" y2="{num(y2)}" class="{kind}"/>')
@@ -94,13 +92,33 @@ class Picture:
                           *self.items, "</svg>", ""])
 
 
+def drawn(text):
+    """A picture that is drawn by hand, as its file has it. Its texts may not leave the picture, their boxes, or overlap
+    either. The frame and the style are made anew."""
+    head = re.match(r'<svg .* width="(\d+)" height="(\d+)" .*>\n<title>(.*)</title>\n<desc>(.*)</desc>', text)
+    picture = Picture(int(head[1]), int(head[2]), unescape(head[3]), unescape(head[4]))
+    picture.items = re.split(r'<rect class="page".*\n|</svg>\n', text)[1].splitlines()
+    middle, width = -1, 0
+    for item in picture.items:
+        box = re.match(r'<rect x="(.*?)" y=".*?" width="(.*?)"', item)
+        said = TEXT.match(item)
+        if box:
+            middle, width = float(box[1]) + float(box[2]) / 2, float(box[2])
+        elif said:
+            x, y, size, words = float(said[1]), float(said[2]), int(said[3]), unescape(said[5])
+            picture.claim(x, y, words, size, said[4])
+            if said[4] == "middle" and abs(x - middle) < 0.1 and len(words) * LETTER[size] > width:
+                raise ValueError(f"a text leaves its box: {words}")
+        else:
+            middle = -1
+    return picture
+
+
 def num(value):
-    """A coordinate, in one form only."""
     return f"{value:.1f}".rstrip("0").rstrip(".")
 
 
 def wrapped(text, letters):
-    """The text in lines of at most this many letters."""
     lines = [""]
     for word in text.split():
         if lines[-1] and len(lines[-1]) + 1 + len(word) > letters:

@@ -30,9 +30,8 @@ import sys
 import textwrap
 
 import tree
-from texts.checks import told
-from texts.markdown import CODE, FENCED, GENERATED, tracked
-from texts.moves import matrix
+from checks import told
+from texts.markdown import CODE, FENCED, GENERATED, table, tracked
 from tree import TOP
 
 END = "<!-- end of counts -->"
@@ -63,6 +62,22 @@ HEAD = re.compile(r"[\s>]*([-*+]|\d+[.)])?\s*")
 TESTS_ALONE = {"test_orders"}
 # files of tests in another crate
 TESTS_INSIDE = re.compile(r"crates/\w+/src/tests(?:\.rt$|/)")
+# the kinds of lines of a crate, and what is counted of other files: by files, or by lines
+KINDS = ["code", "specs", "proofs", "tests"]
+OF_FILES = {"wrong-bodies": r"crates/\w+/(refused|must-fail)/[^/]*\.edit", "examples": r"examples/.*\.script"}
+OF_LINES = {"library-c": r"library/.*\.(h|hpp|c|cpp)", "library-rust": r"library/.*\.rs"}
+ROWS = [
+    ("crates", "crates"),
+    ("lines of code, with contracts and comments", "code"),
+    ("lines of definitions (`specs/`)", "specs"),
+    ("lines of proofs (`proofs/`)", "proofs"),
+    ("lines of tests, in crates and modules of their own", "tests"),
+    ("wrong bodies that the proofs must refuse (files in `refused/` and `must-fail/`)", "wrong-bodies"),
+    ("test functions", "test-functions"),
+    ("example scripts with a stored output (`examples/`)", "examples"),
+    ("lines of C and C++ of the library, with its tests", "library-c"),
+    ("lines of Rust of the library, with its tests", "library-rust"),
+]
 
 # what one has to read to trust the headline: a subject, and the files of each folder
 TO_READ = [
@@ -91,171 +106,135 @@ IN_ONE_FILE = {
     "refutations": ("crates/sh_core/src/refuted.rt", r"^    ensures \w+ \{ ¬"),
 }
 
-Fault = collections.namedtuple("Fault", "file block what")
+# the moves of sh_core, and which of its lemmas have a clause for each: the head of a column, the file, and the lemma
+PROOFS = TOP / "crates/sh_core/proofs"
+COLUMNS = [
+    ("agreement", "Moves/RunAll", "all_move"), ("notes", "Kept/ReadNotes", "owes"),
+    ("places", "Kept/StaysInHeap", "within_part"), ("holds", "Kept/HoldsInBound", "bounded"),
+    ("words", "Kept/WordNotes", "tells"), ("retired", "Kept/LastGenerations", "row_writes_last"),
+    ("flags", "Kept/Flags", "row_writes_alone"), ("looks", "Kept/Looks", "after"),
+    ("place", "Kept/PlacesInHeap", "place_of"), ("count", "Kept/PlacesInHeap", "moves_count"),
+    ("stores", "Kept/RowsFit", "stores"), ("issued", "Kept/RowsFit", "issued"), ("gets", "Words/Ready", "gets"),
+]
 # a block or a count in a text: the place of its content, and what it should be
 Found = collections.namedtuple("Found", "begin end name right")
 
 
-def line_count(path):
+def text_of(path):
     try:
-        return (TOP / path).read_bytes().count(b"\n")
+        return (TOP / path).read_text()
     except FileNotFoundError:
         sys.exit(f"counts: {path} is listed in TO_READ and is not in the tree")
 
 
 def word_count(text):
-    """How many words of a document count."""
     for no_words in NO_WORDS:
         text = no_words.sub("", text)
     return len(WORD.findall(text))
-
-
-def number(n):
-    return f"{n:,}"
 
 
 def is_test_crate(name):
     return name.startswith("test_") or name in TESTS_ALONE
 
 
-class Crates:
-    """What crates.txt says: the groups, and which crates of the repository each crate uses."""
+def longest_chain(crates):
+    """The longest chain of crates without those of tests; of several, the first in the order of crates.txt."""
+    order = {name: place for place, name in enumerate(crates)}
 
-    def __init__(self):
-        self.groups, self.uses = collections.defaultdict(list), {}
-        for name, crate in tree.listed().items():
-            self.groups[crate.group].append(name)
-            self.uses[name] = crate.own
+    def first_longest(chains):
+        return min(chains, key=lambda chain: (-len(chain), [order[name] for name in chain]), default=[])
 
-    def edges(self):
-        return sum(len(uses) for uses in self.uses.values())
+    @functools.cache
+    def chain_to(name):
+        return first_longest([chain_to(other) for other in crates[name].own]) + [name]
 
-    def chain(self):
-        """The longest chain without crates of tests; of several, the first in the order of crates.txt."""
-        order = {name: place for place, name in enumerate(self.uses)}
-
-        def first_longest(chains):
-            return min(chains, key=lambda chain: (-len(chain), [order[name] for name in chain]), default=[])
-
-        @functools.cache
-        def chain_to(name):
-            return first_longest([chain_to(other) for other in self.uses[name]]) + [name]
-
-        return first_longest([chain_to(name) for name in self.uses if not is_test_crate(name)])
+    return first_longest([chain_to(name) for name in crates if not is_test_crate(name)])
 
 
-class Lines:
-    """Lines and files of the crates and of the library, from the tracked files."""
-
-    def __init__(self, paths):
-        self.by_crate = collections.defaultdict(collections.Counter)
-        self.counts = collections.Counter()
-        for path in paths:
-            self.add(path)
-
-    def add(self, path):
+def counted(paths):
+    """The lines of each crate by their kinds, and the counts of files and lines of the whole tree."""
+    by_crate, counts = collections.defaultdict(collections.Counter), collections.Counter()
+    for path in paths:
         crate = re.match(r"crates/(\w+)/(src|specs|proofs)/.*\.(rt|antt)$", path)
         if crate:
             is_test = is_test_crate(crate[1]) or TESTS_INSIDE.match(path)
             kind = {"src": "tests" if is_test else "code"}.get(crate[2], crate[2])
-            self.by_crate[crate[1]][kind] += line_count(path)
+            by_crate[crate[1]][kind] += text_of(path).count("\n")
             if crate[3] == "rt":
-                tests = re.findall(rb"^\s*#\[test\]", (TOP / path).read_bytes(), re.M)
-                self.counts["test-functions"] += len(tests)
-        elif re.match(r"crates/\w+/(refused|must-fail)/[^/]*\.edit$", path):
-            self.counts["wrong-bodies"] += 1
-        elif re.match(r"examples/.*\.script$", path):
-            self.counts["examples"] += 1
-        elif re.match(r"library/.*\.(h|hpp|c|cpp)$", path):
-            self.counts["library-c"] += line_count(path)
-        elif re.match(r"library/.*\.rs$", path):
-            self.counts["library-rust"] += line_count(path)
-
-    def of(self, crates):
-        """The lines of these crates together, by kind."""
-        return sum((self.by_crate[name] for name in crates), collections.Counter())
+                counts["test-functions"] += len(re.findall(r"^\s*#\[test\]", text_of(path), re.M))
+        counts.update(name for name, form in OF_FILES.items() if re.fullmatch(form, path))
+        counts.update({name: text_of(path).count("\n") for name, form in OF_LINES.items() if re.fullmatch(form, path)})
+        if path.endswith(".md"):
+            counts["words"] += word_count(text_of(path))
+    for name, (path, what) in IN_ONE_FILE.items():
+        counts[name] = len(re.findall(what, text_of(path), re.M))
+    return by_crate, sum(by_crate.values(), counts)
 
 
-def read_groups():
-    """The subjects to read: each with its folders, and the files of each folder with their lines."""
-    for subject, folders in TO_READ:
-        files = []
-        for folder in folders.split(";"):
-            where, *names = folder.split()
-            suffix = "rt" if where.endswith("src") else "antt"
-            files.append((where, [(name, line_count(f"crates/{where}/{name}.{suffix}")) for name in names]))
-        yield subject, files
-
-
-def table(head, rows):
-    lines = ["| " + " | ".join(row) + " |" for row in [head, *rows]]
-    return "\n".join([lines[0], "|---" * len(head) + "|", *lines[1:]])
-
-
-def tree_table(counts):
-    rows = [
-        ("crates", "crates"),
-        ("lines of code, with contracts and comments", "code"),
-        ("lines of definitions (`specs/`)", "specs"),
-        ("lines of proofs (`proofs/`)", "proofs"),
-        ("lines of tests, in crates and modules of their own", "tests"),
-        ("wrong bodies that the proofs must refuse (files in `refused/` and `must-fail/`)", "wrong-bodies"),
-        ("test functions", "test-functions"),
-        ("example scripts with a stored output (`examples/`)", "examples"),
-        ("lines of C and C++ of the library, with its tests", "library-c"),
-        ("lines of Rust of the library, with its tests", "library-rust"),
-    ]
-    return table(["What", "How many"], [(what, number(counts[name])) for what, name in rows])
-
-
-def groups_table(crates, lines):
-    kinds = ["code", "specs", "proofs", "tests"]
-    groups = [*crates.groups.items(), ("all", list(crates.uses))]
-    rows = [[group, number(len(names)), *(number(lines.of(names)[kind]) for kind in kinds)] for group, names in groups]
+def groups_table(crates, by_crate):
+    groups = {crate.group: [] for crate in crates.values()}
+    for name, crate in crates.items():
+        groups[crate.group].append(name)
+    rows = []
+    for group, names in [*groups.items(), ("all", list(crates))]:
+        lines = sum((by_crate[name] for name in names), collections.Counter())
+        rows.append([group, f"{len(names):,}", *(f"{lines[kind]:,}" for kind in KINDS)])
     return table(["Group", "Crates", "Code", "Definitions", "Proofs", "Tests"], rows)
 
 
-def read_table(groups):
-    rows, total = [], 0
-    for place, (subject, folders) in enumerate(groups, 1):
-        files = "; ".join(f"`{where}`: {', '.join(name for name, _ in names)}" for where, names in folders)
-        here = sum(lines for _, names in folders for _, lines in names)
-        rows.append([str(place), subject, files, number(here)])
-        total += here
-    return table(["#", "What", "Files", "Lines"], [*rows, ["", "all", "", number(total)]])
+def to_read():
+    rows, lines = [], []
+    for place, (subject, folders) in enumerate(TO_READ, 1):
+        begun, said = len(lines), []
+        for where, *names in (folder.split() for folder in folders.split(";")):
+            suffix = "rt" if where.endswith("src") else "antt"
+            lines += [text_of(f"crates/{where}/{name}.{suffix}").count("\n") for name in names]
+            said.append(f"`{where}`: {', '.join(names)}")
+        rows.append([str(place), subject, "; ".join(said), f"{sum(lines[begun:]):,}"])
+    return table(["#", "What", "Files", "Lines"], [*rows, ["", "all", "", f"{sum(lines):,}"]]), lines
 
 
-def read_sentence(counts):
-    lines, files = number(counts["read-lines"]), counts["read-files"]
-    return f"A sceptical reader has {lines} lines to read in {files} files: definitions, and calls with contracts."
+def moves():
+    text = (TOP / "crates/sh_step/src/moves.rt").read_text()
+    body = text[text.index("pub enum Move {"):]
+    return re.findall(r"^    ([A-Z][A-Za-z]*)\(", body[:body.index("\n}\n")], re.M)
 
 
-def crates_sentence(crates):
-    chain = ", ".join(f"`{name}`" for name in crates.chain())
-    text = f"The {len(crates.uses)} crates use one another by {number(crates.edges())} edges."
-    text += f" The longest chain has {len(crates.chain())} crates: {chain}."
-    return textwrap.fill(text, 120, break_on_hyphens=False)
+def clauses(file, lemma, names):
+    found = set()
+    for line in (PROOFS / f"{file}.antt").read_text().split("\n"):
+        head = re.match(rf"\s*{lemma} ([^=]*)", line)
+        if head and " :" not in line.split("=")[0]:
+            found |= {name for name in re.findall(r"\((?:move\.)?([A-Z][A-Za-z]*) ", head[1]) if name in names}
+    return found
 
 
-def measure(paths):
-    """The blocks and the counts, each by its name."""
-    crates, lines, groups = Crates(), Lines(paths), list(read_groups())
-    read = [lines_of for _, folders in groups for _, names in folders for _, lines_of in names]
-    counts = lines.counts + lines.of(crates.uses)
-    counts.update({"crates": len(crates.uses), "edges": crates.edges(), "chain": len(crates.chain())})
-    counts.update({"read-files": len(read), "read-lines": sum(read)})
-    for name, (path, what) in IN_ONE_FILE.items():
-        counts[name] = len(re.findall(what, (TOP / path).read_text(), re.M))
-    counts["words"] = sum(word_count((TOP / path).read_text()) for path in paths if path.endswith(".md"))
+def matrix():
+    names = moves()
+    seen = [(head, clauses(file, lemma, names)) for head, file, lemma in COLUMNS]
+    rows = [[name, *("x" if name in found else "" for _, found in seen)] for name in names]
+    return table(["Move", *(head for head, _ in seen)], [*rows, ["clauses", *(str(len(found)) for _, found in seen)]])
+
+
+def measured():
+    paths, crates = tracked(), tree.listed()
+    by_crate, counts = counted(paths)
+    chain, (read_table, read) = longest_chain(crates), to_read()
+    counts.update({"crates": len(crates), "edges": sum(len(it.own) for it in crates.values()), "chain": len(chain),
+                   "read-files": len(read), "read-lines": sum(read)})
+    told = {name: f"{n:,}" for name, n in counts.items()}
     blocks = {
-        "tree": tree_table(counts),
-        "groups": groups_table(crates, lines),
-        "to-read": read_table(groups),
-        "read-lines": read_sentence(counts),
-        "crates": crates_sentence(crates),
+        "tree": table(["What", "How many"], [(what, told[name]) for what, name in ROWS]),
+        "groups": groups_table(crates, by_crate),
+        "to-read": read_table,
+        "read-lines": f"A sceptical reader has {told['read-lines']} lines to read in {told['read-files']} files: "
+                      "definitions, and calls with contracts.",
+        "crates": textwrap.fill(
+            f"The {told['crates']} crates use one another by {told['edges']} edges. The longest chain has {len(chain)} "
+            f"crates: {', '.join(f'`{name}`' for name in chain)}.", 120, break_on_hyphens=False),
         "matrix": matrix(),
     }
-    return blocks, {name: number(n) for name, n in counts.items()}
+    return [path for path in paths if path.endswith(".md")], (blocks, told)
 
 
 def look(text, measured):
@@ -285,58 +264,38 @@ def look(text, measured):
     return found, (opened["block"], "it has no end") if opened else None
 
 
-def first_difference(old, right):
-    """The first line in which the two differ, as a text."""
-    pairs = itertools.zip_longest(old.split("\n"), right.split("\n"))
-    return next(f"has {was!r}, should have {wanted!r}" for was, wanted in pairs if was != wanted)
-
-
-def faults(file, text, measured):
+def faults(text, measured):
+    """Each block or count that is wrong, with what is wrong: the first line in which it differs, or its form."""
     found, wrong = look(text, measured)
     for one in found:
-        old, right = text[one.begin:one.end].strip(), one.right.strip()
-        if old != right:
-            yield Fault(file, one.name, first_difference(old, right))
+        lines = itertools.zip_longest(text[one.begin:one.end].strip().split("\n"), one.right.strip().split("\n"))
+        differing = next(((was, wanted) for was, wanted in lines if was != wanted), None)
+        if differing:
+            yield one.name, "has {!r}, should have {!r}".format(*differing)
     if wrong:
-        yield Fault(file, *wrong)
+        yield wrong
 
 
 def filled(text, measured):
-    """The text with each block and count as it should be."""
     for one in reversed(look(text, measured)[0]):
         text = text[: one.begin] + one.right + text[one.end :]
     return text
 
 
-def measured():
-    """The documents, and the blocks and the counts."""
-    return tracked("*.md"), measure(tracked())
-
-
 def check():
-    """Whether each document has the right counts."""
     files, counts = measured()
-    found = [f"{fault.file}: {fault.block}: {fault.what}" for file in files
-             for fault in faults(file, (TOP / file).read_text(), counts)]
+    found = [f"{file}: {block}: {what}" for file in files for block, what in faults(text_of(file), counts)]
     return told("counts", found, f"{len(files)} documents")
 
 
 def write():
-    """Fills each document, and says what is wrong of their form."""
     files, counts = measured()
     for file in files:
-        text = (TOP / file).read_text()
-        new = filled(text, counts)
-        if new != text:
+        new = filled(text_of(file), counts)
+        if new != text_of(file):
             (TOP / file).write_text(new)
             print(f"wrote {file}")
     return check()
-
-
-def with_another_digit(text, one):
-    """The text with the first digit of this block or count changed."""
-    place = one.begin + re.search(r"\d", text[one.begin:one.end]).start()
-    return text[:place] + str((int(text[place]) + 1) % 10) + text[place + 1 :]
 
 
 def copies(files, measured):
@@ -344,15 +303,17 @@ def copies(files, measured):
     blocks, counts = measured
     every = [f"<!-- counts: {name} -->\n{END}\n" for name in blocks]
     every += [f"- {name}: <!-- count: {name} -->0<!-- -->\n" for name in counts]
-    texts = {file: (TOP / file).read_text() for file in files}
-    return {file: filled(text, measured) for file, text in [*texts.items(), ("every.md", "\n".join(every))]}
+    texts = {file: text_of(file) for file in files} | {"every.md": "\n".join(every)}
+    return {file: filled(text, measured) for file, text in texts.items()}
 
 
 def planted(texts, measured):
     """Texts with one fault each: the file, the block or count that is wrong, and the text."""
     for file, text in texts.items():
         for one in look(text, measured)[0]:
-            yield file, one.name, with_another_digit(text, one)
+            # (its first digit changed)
+            place = one.begin + re.search(r"\d", text[one.begin:one.end]).start()
+            yield file, one.name, text[:place] + str((int(text[place]) + 1) % 10) + text[place + 1 :]
     yield "no end", "tree", "<!-- counts: tree -->\n"
     yield "two beginnings", "tree", f"<!-- counts: tree -->\n<!-- counts: crates -->\n{END}\n"
     yield "no beginning", "?", f"{END}\n"
@@ -363,28 +324,20 @@ def planted(texts, measured):
     yield "first of its line", "code", "- <!-- count: code -->1<!-- --> lines.\n"
 
 
-def wrong_words():
-    """Texts of the self-test whose words are not counted right: with a word more, and with what is no word."""
-    cases = [(SEVEN + none + more, 7 + len(more.split())) for none in ["", *ADD_NONE] for more in ["", "One more\n"]]
-    return [(text, words) for text, words in cases if word_count(text) != words]
-
-
 def self_test():
-    """Whether the check passes each right copy, and names just the block or count that is wrong in each other one."""
+    """Whether the check passes each right copy, and names just the block or count that is wrong in each other one; and
+    whether words are counted right: with a word more, and with what is no word."""
     files, counts = measured()
     texts = copies(files, counts)
     cases = [(file, [], text) for file, text in texts.items()]
     cases += [(file, [block], text) for file, block, text in planted(texts, counts)]
-    wrong = [f"this has {words} words, and {word_count(text)} are counted: {text!r}" for text, words in wrong_words()]
+    wrong = []
+    for text, words in ((SEVEN + none + more, 7 + len(more.split()))
+                        for none in ["", *ADD_NONE] for more in ["", "One more\n"]):
+        if word_count(text) != words:
+            wrong.append(f"this has {words} words, and {word_count(text)} are counted: {text!r}")
     for file, expected, text in cases:
-        seen = [fault.block for fault in faults(file, text, counts)]
+        seen = [block for block, _ in faults(text, counts)]
         if seen != expected:
             wrong.append(f"{file}: wrong is {expected}, and the check says {seen}")
     return told("counts, tried", wrong, f"{len(cases)} copies")
-
-
-def show():
-    blocks, counts = measured()[1]
-    print("\n\n".join(f"{name}:\n\n{text}" for name, text in blocks.items()) + "\n")
-    print("\n".join(f"{name}: {text}" for name, text in counts.items()))
-    return True

@@ -6,20 +6,17 @@ Names that mean two things in one crate:
   its crate: each of these is a fault;
 - private lemmas of two files or more that have one name: over all crates there may be MOST such names.
 
-Statements that occur twice among the lemmas of all crates' proofs, except those of KNOWN, which lists copies, each with
-the reason why no crate owns its statement. Two statements are the same if they differ only in the names of variables,
-in which of them are implicit, and in how they are written out. A name stands for where it is declared, so two crates
-may each have a statement of a type of their own. A name of the toolchain stands for itself. A lemma in a block
-`module _` has the variables of the block if its statement names one of them. Definitions do not count.
-
-What is local to a `where` or a `let` does not count, nor do fields of records, nor the answers to goals, whose names
-the prover gives.
+Statements that occur twice among the lemmas of all crates' proofs, except those of KNOWN. Two statements are the same
+if they differ only in the names of variables, in which of them are implicit, and in how they are written out. A name
+stands for where it is declared, and one of the toolchain for itself. A lemma in a block `module _` has the variables of
+the block if its statement names one of them. Definitions do not count, nor does what is local to a `where` or a `let`,
+nor fields of records, nor the answers to goals.
 """
 import collections
 import functools
 import re
 
-from texts.checks import told
+from checks import told
 from tree import CRATES
 
 MOST = 20
@@ -35,13 +32,10 @@ KNOWN = {
 NAME = r"[^\s(){};,]+"
 USE = re.compile(r"(pub )?use ([^\s{]+?)(?:\.\{([^}]*)\}| as (\S+))?")
 BLOCK = re.compile(r"module\b(.*)\bwhere")
-DEFINITION = re.compile(rf"(?:pub )?(?:abbrev|unfoldable|record|data) (?:pub )?({NAME})")
-LEMMA = re.compile(rf"(?:pub )?({NAME})(?: \{{[^}}]*\}})* : (.*)")
+RECORD = re.compile(rf"(?:pub )?(?:record|data) (?:pub )?({NAME})")
+SIGNATURE = re.compile(rf"((?:(?:abbrev|unfoldable|pub) )*)({NAME})(?: ?\{{[^}}]*\}})* ?: (.*)")
 WORD = re.compile(r"\.[^\s(){},;.]+|[(){},;.]|[^\s(){},;.]+")
 BRACKETS = {"{": "(", "}": ")"}
-
-RECORD = re.compile(rf"(?:pub\s+)?(?:record|data)\s+({NAME})")
-SIGNATURE = re.compile(rf"((?:(?:abbrev|unfoldable|pub)\s+)*)({NAME})(?:\s*\{{[^}}]*\}})*\s*:\s")
 
 Declared = collections.namedtuple("Declared", "name kind file")
 # `variables` are those of the blocks around it
@@ -76,23 +70,29 @@ def items(text):
 
 
 class File:
-    """What a file declares, and from where it has its other names."""
+    """What a file declares, with the kind of each name, and from where it has its other names."""
 
     def __init__(self, path):
-        self.where = ".".join(("Rattle", *path.relative_to(CRATES).with_suffix("").parts))
-        self.names, self.passed_on, self.lemmas = {}, {}, []
+        self.names, self.passed_on, self.lemmas, self.declared = {}, {}, [], []
+        where = ".".join(("Rattle", *path.relative_to(CRATES).with_suffix("").parts))
         for item, variables in items(path.read_text()):
-            used, definition, lemma = USE.fullmatch(item), DEFINITION.match(item), LEMMA.match(item)
+            used, record, signature = USE.fullmatch(item), RECORD.match(item), SIGNATURE.match(item)
             if used:
                 self.take(*used.groups())
-            elif definition:
-                self.names[definition[1]] = f"{self.where}.{definition[1]}"
-            elif lemma and lemma[1] not in ("use", "module", "open"):
-                self.names[lemma[1]] = f"{self.where}.{lemma[1]}"
-                self.lemmas.append(Lemma(lemma[1], variables, lemma[2]))
+            elif record:
+                self.declare(record[1], "definition", where)
+            elif signature and signature[2] not in ("use", "module", "open"):
+                words, name = set(signature[1].split()), signature[2]
+                is_lemma = not {"abbrev", "unfoldable"} & words
+                self.declare(name, ("public" if words else "private") if is_lemma else "definition", where)
+                if is_lemma:
+                    self.lemmas.append(Lemma(name, variables, signature[3]))
+
+    def declare(self, name, kind, where):
+        self.names[name] = f"{where}.{name}"
+        self.declared.append((name, kind))
 
     def take(self, public, module, names, alias):
-        """Notes a line `use`."""
         pairs = [(module.split(".")[-1] if not alias else alias, module)]
         if names:
             pairs = []
@@ -153,7 +153,6 @@ def apart(words):
 
 
 def parts(words):
-    """What is between the outer arrows."""
     depth, out = 0, [[]]
     for word in words:
         depth += (word == "(") - (word == ")")
@@ -165,7 +164,6 @@ def parts(words):
 
 
 def variable(part):
-    """The variable that a part of a statement is."""
     return part[1] if part[0] == "(" and part[2:3] == [":"] and part[-1] == ")" else None
 
 
@@ -199,7 +197,6 @@ def form(lemma, names):
 
 
 def statements():
-    """The lemmas of each statement, as CRATE/FILE:NAME."""
     by_form = collections.defaultdict(list)
     for path in sorted(CRATES.glob("*/proofs/**/*.antt")):
         if path.name not in SKIPPED:
@@ -211,20 +208,9 @@ def statements():
 
 
 def declared(crate):
-    """The definitions and lemmas of a crate."""
     for part in ("specs", "proofs"):
         for path in sorted((CRATES / crate / part).rglob("*.antt")):
-            if path.name in SKIPPED:
-                continue
-            for item, _ in items(path.read_text()):
-                record, signature = RECORD.match(item), SIGNATURE.match(item)
-                if record:
-                    name, kind = record[1], "definition"
-                elif signature:
-                    words, name = signature[1].split(), signature[2]
-                    kind = "definition" if {"abbrev", "unfoldable"} & set(words) else "public" if words else "private"
-                else:
-                    continue
+            for name, kind in file(path).declared if path.name not in SKIPPED else ():
                 # (that a struct may be sent or shared is proved under such a name)
                 if path.parent.name != "TheSendSync" or name != path.stem.lower():
                     yield Declared(name, kind, str(path.relative_to(CRATES / crate)))
@@ -239,17 +225,17 @@ def doubled(crate):
         files = sorted({one.file for one in all_so})
         fault = len(all_so) > 1 and any(one.kind != "private" for one in all_so)
         if fault or len(files) > 1:
-            yield name, fault, files
+            yield fault, f"{crate}: {'' if fault else 'private: '}{name}: {' '.join(files)}"
 
 
 def names(shows):
     """Whether no name means two things, and few are of two private lemmas, which are printed if they are too many."""
-    found = [(crate, *it) for crate in sorted(path.name for path in CRATES.iterdir() if path.is_dir())
-             for it in doubled(crate)]
-    faults = [f"{crate}: {name}: {' '.join(files)}" for crate, name, is_fault, files in found if is_fault]
-    private = [f"{crate}: private: {name}: {' '.join(files)}" for crate, name, is_fault, files in found if not is_fault]
+    crates = sorted(path.name for path in CRATES.iterdir() if path.is_dir())
+    found = [it for crate in crates for it in doubled(crate)]
+    private = [text for is_fault, text in found if not is_fault]
     if shows or len(private) > MOST:
         print(*private, sep="\n")
+    faults = [text for is_fault, text in found if is_fault]
     is_well = told("same names", faults, f"{len(private)} names of private lemmas (at most {MOST})")
     return is_well and len(private) <= MOST
 

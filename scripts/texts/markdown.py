@@ -1,76 +1,58 @@
 """Markdown and doc comments: what is code, what a tool generates, and the texts between."""
 import re
-import subprocess
 
+from checks import said
 from tree import TOP
 
 FENCED = re.compile(r"^ {0,3}(```|~~~).*?^ {0,3}\1[^\n]*$", re.M | re.S)
 CODE = re.compile(r"`([^`]*)`")
 # A block that a tool generates, between two comments.
-BLOCKS = "counts|bench rows|bench missed|measured|instructions"
-BEGIN, END = re.compile(rf"<!-- (?:{BLOCKS})\b"), "<!-- end of"
-GENERATED = re.compile(rf"^<!-- (?:{BLOCKS})\b[^\n]*-->\n.*?^<!-- end of [^\n]*-->$", re.M | re.S)
+GENERATED = re.compile(r"^<!-- (?:counts|bench rows|bench missed|measured|instructions)\b[^\n]*-->\n"
+                       r".*?^<!-- end of [^\n]*-->$", re.M | re.S)
 # What begins a text of its own: an item of a list, or a quotation.
 ITEM = re.compile(r"\s*(?:[-*+]|\d+[.)])\s+|\s*>\s?")
-DOC = re.compile(r"\s*//[/!](?!/) ?(.*)")
-# A block of shell commands, and the text behind it that they are to write, if there is one.
-COMMANDS = re.compile(r"^```sh\n(.*?)^```\n(?:\n*```text\n(.*?)^```\n)?", re.M | re.S)
+DOC = re.compile(r"(?:^[^\S\n]*//[/!](?!/)[^\n]*\n)+", re.M)
+DOC_MARK = re.compile(r"^\s*//[/!] ?", re.M)
 
 
 def git(*words):
-    """The lines that git prints; none if it fails."""
-    return subprocess.run(["git", *words], cwd=TOP, capture_output=True, text=True).stdout.splitlines()
+    return said("git", *words).splitlines()
 
 
 def tracked(*patterns):
-    """The files that git tracks and that are there."""
     return [name for name in git("ls-files", *patterns) if (TOP / name).is_file()]
 
 
-def without_fenced(text):
-    return FENCED.sub("", text)
+def blank(found):
+    """As many empty lines as what was found has."""
+    return "\n" * found[0].count("\n")
 
 
-def without_code(text, instead="``"):
-    return CODE.sub(instead, text)
-
-
-def paragraphs(lines):
+def paragraphs(text, first=1):
     """The texts of Markdown, each with the number of its first line: paragraphs and items, without code and tables."""
-    text, first, code, generated = [], 0, False, False
-    for number, line in lines:
-        stripped = line.strip()
-        if stripped.startswith(("```", "~~~")):
-            code = not code
-        if BEGIN.match(stripped):
-            generated = True
-        if stripped.startswith(END):
-            generated = False
-        outside = code or generated or not stripped or stripped.startswith(("```", "~~~", "|", "#", "<!--", "    "))
-        item = ITEM.match(line)
-        if (outside or item or line.startswith("    ") and not text) and text:
-            yield first, " ".join(text)
-            text = []
-        if outside or line.startswith("    ") and not text and not item:
+    begun, lines = 0, []
+    for number, line in enumerate([*GENERATED.sub(blank, FENCED.sub(blank, text)).splitlines(), ""], first):
+        stripped, item = line.strip(), ITEM.match(line)
+        is_outside = not stripped or stripped.startswith(("|", "#", "<!--"))
+        if lines and (is_outside or item):
+            yield begun, " ".join(lines)
+            lines = []
+        # (an indented line that goes on with no text is code)
+        if is_outside or not lines and not item and line.startswith("    "):
             continue
-        if not text:
-            first = number
-        text.append(line[item.end():].strip() if item else stripped)
-    if text:
-        yield first, " ".join(text)
+        begun = begun if lines else number
+        lines.append(line[item.end():].strip() if item else stripped)
 
 
 def texts(path):
-    """The texts of a document, or of the doc comments of a source file."""
-    lines = path.read_text().splitlines()
+    text = path.read_text()
     if path.suffix == ".md":
-        yield from paragraphs(enumerate(lines, 1))
+        yield from paragraphs(text)
         return
-    block = []
-    for number, line in enumerate([*lines, ""], 1):
-        doc = DOC.fullmatch(line)
-        if doc:
-            block.append((number, doc[1]))
-        elif block:
-            yield from paragraphs(block)
-            block = []
+    for doc in DOC.finditer(text + "\n"):
+        yield from paragraphs(DOC_MARK.sub("", doc[0]), text.count("\n", 0, doc.start()) + 1)
+
+
+def table(head, rows):
+    lines = ["| " + " | ".join(row) + " |" for row in [head, *rows]]
+    return "\n".join([lines[0], "|---" * len(head) + "|", *lines[1:]])

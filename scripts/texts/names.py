@@ -5,31 +5,29 @@ commit that it cites in the history:
 - a path, and the target of a link, is a file or a folder, from the top, from the document's folder or from crates/;
   a path in backticks may also begin within a crate, and leave out the ending of its file;
 - the part of a link after `#` is a heading of the document it leads to;
-- a commit that is cited, as in "commit 294d93ff", is HEAD or an ancestor of it. Where git has not the whole history, as
-  in a shallow clone, this is left out, and a line says so.
+- a commit that is cited, as in "commit 294d93ff", is HEAD or an ancestor of it, if git has the whole history.
 
 ELSEWHERE has the names of other projects and of the field, which the tree need not have. A document of BEGINNINGS may
 name a test by the beginning of its name.
 """
 import functools
 import pathlib
+import posixpath
 import re
 
-from texts.checks import told, tried
-from texts.markdown import CODE, git, tracked, without_fenced
+from checks import told, tried
+from texts.markdown import CODE, FENCED, git, tracked
 from tree import TOP
 
 # Names of other projects, of tools and of the field.
-ELSEWHERE = set(
-    """
+ELSEWHERE = set("""
     loom herd7 crossbeam epoch dashmap slotmap ArcSwap parking_lot perf linux qemu glibc GLIBC_TUNABLES hugetlb tunables
     transparent_hugepage enabled madvise kernel memcpy memset cmpxchg xchg rustdoc clippy tidy plant
     get_unchecked try_get
-    """.split()
-)
+""".split())
 BEGINNINGS = {"library/rust/mutants.md"}
-SUFFIXES = {".rt", ".antt", ".rs", ".h", ".c", ".cpp", ".hpp", ".txt", ".edit", ".script", ".toml", ".py", ".in", ".map",
-            ".trace", ".output", ".error", ".control"}
+SUFFIXES = {f".{ending}" for ending in
+            "rt antt rs h c cpp hpp txt edit script toml py in map trace output error control".split()}
 NAME = re.compile(r"[A-Za-z_][A-Za-z0-9_]{3,}")
 ANY_NAME = re.compile(r"[A-Za-z_][A-Za-z0-9_']*")
 LINK = re.compile(r"\]\(([^)\s]+)\)")
@@ -45,7 +43,6 @@ def history():
 
 @functools.cache
 def paths():
-    """All files that git tracks, and their folders."""
     found = set()
     for name in tracked():
         path = pathlib.PurePath(name)
@@ -65,28 +62,13 @@ def known():
 
 
 def anchors(path):
-    """The anchors of a document's headings, as a forge makes them."""
-    text = without_fenced(path.read_text())
     return {re.sub(r"[^\w\- ]", "", re.sub(r"[`*]", "", heading).lower()).replace(" ", "-")
-            for heading in HEADING.findall(text)}
-
-
-def looks_like_a_path(code):
-    return re.fullmatch(r"[\w.\-]+(?:/[\w.\-]+)+/?", code) is not None
+            for heading in HEADING.findall(FENCED.sub("", path.read_text()))}
 
 
 def is_there(path, base):
     """Whether a path is in the tree, from the top, from a folder or from crates/."""
-    for start in (pathlib.PurePath("."), base, pathlib.PurePath("crates")):
-        parts = []
-        for part in (start / path.rstrip("/")).parts:
-            if part == ".." and parts:
-                parts.pop()
-            elif part != ".":
-                parts.append(part)
-        if "/".join(parts) in paths() or not parts:
-            return True
-    return False
+    return any(posixpath.normpath(posixpath.join(start, path)) in paths() for start in ("", base, "crates"))
 
 
 @functools.cache
@@ -95,47 +77,38 @@ def is_in_some_crate(path):
     return any(name.endswith(endings) for name in paths())
 
 
-def is_a_beginning(name):
-    return any(one.startswith(name) for one in known())
-
-
-def names_faults(text, by_beginning):
-    for code in CODE.findall(text):
-        # (two dots say that a part of the name is left out)
-        if not looks_like_a_path(code) and ".." not in code:
-            for name in NAME.findall(code):
-                if name not in known() and not (by_beginning and is_a_beginning(name)):
-                    yield f"`{code}`: the tree has no name {name}"
-
-
-def path_faults(text, document, base):
-    for code in CODE.findall(text):
-        # (what a build leaves is not tracked)
-        if not looks_like_a_path(code) or "/out/" in code or is_in_some_crate(code):
-            continue
-        if not is_there(code, base):
+def code_faults(code, base, by_beginning):
+    """What is wrong with a text in backticks, a path or names. (What a build leaves is not tracked. Two dots say that a
+    part of the name is left out.)"""
+    if re.fullmatch(r"[\w.\-]+(?:/[\w.\-]+)+/?", code):
+        if "/out/" not in code and not is_in_some_crate(code) and not is_there(code, base):
             yield f"`{code}`: there is no such path"
+        return
+    for name in NAME.findall(code) if ".." not in code else ():
+        is_known = name in known() or by_beginning and any(one.startswith(name) for one in known())
+        if not is_known:
+            yield f"`{code}`: the tree has no name {name}"
+
+
+def link_faults(target, document, base):
+    path, _, anchor = target.partition("#")
+    if re.match(r"[a-z]+:", target):
+        return
+    if path and not is_there(path, base):
+        yield f"({target}): there is no such path"
+    elif anchor and anchor not in anchors(document.parent / path if path else document):
+        yield f"({target}): there is no such heading"
+
+
+def faults(document, base="", by_beginning=False):
+    text = " ".join(FENCED.sub("", document.read_text()).split())
+    for code in CODE.findall(text):
+        yield from code_faults(code, base, by_beginning)
     for target in LINK.findall(text):
-        path, _, anchor = target.partition("#")
-        if re.match(r"[a-z]+:", target):
-            continue
-        if path and not is_there(path, base):
-            yield f"({target}): there is no such path"
-        elif anchor and anchor not in anchors(document.parent / path if path else document):
-            yield f"({target}): there is no such heading"
-
-
-def commit_faults(text):
+        yield from link_faults(target, document, base)
     for cited in COMMIT.findall(text):
         if history() and not any(commit.startswith(cited) for commit in history()):
             yield f"commit {cited}: it is no ancestor of HEAD"
-
-
-def faults(document, base, by_beginning=False):
-    text = " ".join(without_fenced(document.read_text()).split())
-    yield from names_faults(text, by_beginning)
-    yield from path_faults(text, document, base)
-    yield from commit_faults(text)
 
 
 PLANTED = {
@@ -152,13 +125,13 @@ CLEAN = ("# A `heading`\n\nSee [it](#a-heading), `refines_map`, `docs/DECISIONS.
 
 def self_test():
     planted = {name: text for name, text in PLANTED.items() if name != "commit.md" or history()}
-    return tried("names", planted, {"clean.md": CLEAN}, lambda path: faults(path, pathlib.PurePath(".")))
+    return tried("names", planted, {"clean.md": CLEAN}, faults)
 
 
 def check(files=()):
     names = files or tracked("*.md")
     found = [f"{name}: {fault}" for name in names
-             for fault in faults(TOP / name, pathlib.PurePath(name).parent, name in BEGINNINGS)]
+             for fault in faults(TOP / name, posixpath.dirname(name), name in BEGINNINGS)]
     if not history():
         print("names: git has not the whole history here, so the commits that are cited were not looked for")
     return told("names", found, f"{len(names)} documents")

@@ -1,8 +1,6 @@
 """Counts statements of the product whose value nothing uses. Most of them are there for a proof alone: a call for its
-clauses, or a borrowed field for what is true of its struct. Over all crates there may be MOST of them, and no more, so
-that a contract says what a caller needs, and no statement has to. If there are fewer, lower MOST.
-
-It counts, whatever the names are,
+clauses, or a borrowed field for what is true of its struct. Over all crates there may be MOST of them, and no more. If
+there are fewer, lower MOST. It counts, whatever the names are,
 
 - a `let` without an `else`, if no name that it binds occurs later in its function; so `let _ = ..` counts too;
 - a statement that only borrows, as `&self.held;`;
@@ -14,7 +12,7 @@ function with an empty body that is called by name alone, is not counted.
 import collections
 import re
 
-from texts.checks import told
+from checks import told
 from tree import CRATES
 
 MOST = 52
@@ -36,13 +34,7 @@ def blank(m):
 
 
 def code_of(text):
-    """The text with blanks for comments."""
     return COMMENT.sub(lambda m: m.group(1) or blank(m), text)
-
-
-def plain(code):
-    """The same with blanks for texts, too."""
-    return TEXT.sub(blank, code)
 
 
 def end_of(text, at, stop):
@@ -77,7 +69,6 @@ def body_of(text, at):
 
 
 def names_bound(pattern):
-    """The names that a pattern binds."""
     pattern = re.sub(r"\b\w+\s*:(?!:)", " ", pattern)
     pattern = re.sub(r"\b\w+\s*::", " ", pattern)
     return {w for w in WORD.findall(pattern) if w not in NO_NAMES}
@@ -116,14 +107,13 @@ def readers(codes):
     """The names that are given only to functions that take `&self` and return a value."""
     kinds = collections.defaultdict(set)
     for code in codes:
-        for m in READS.finditer(plain(code)):
+        for m in READS.finditer(TEXT.sub(blank, code)):
             kinds[m.group(1)].add(bool(m.group(2)) and "->" in m.group())
     return {name for name, reads in kinds.items() if reads == {True}}
 
 
 def found(code, reading):
-    """The places of the statements that count."""
-    text = plain(code)
+    text = TEXT.sub(blank, code)
     places = set()
     for m in FUNCTION.finditer(text):
         span = body_of(text, m.end())

@@ -4,13 +4,11 @@
 - one of WORDS;
 - a doc comment that begins with "Answers": a function returns, a program prints;
 - a sentence of more than MOST words. A table, a heading and code have no sentences, and code in backticks is one word.
-
-ALLOWED has the places that may keep such a word: a file, a text of the line or the sentence, and the reason.
 """
 import re
 
-from texts.checks import told, tried
-from texts.markdown import texts, tracked, without_code
+from checks import told, tried
+from texts.markdown import CODE, texts, tracked
 from tree import TOP
 
 MOST = 30
@@ -20,36 +18,20 @@ WORDS = re.compile(
     r"|dear(?:er|est)?)\b",
     re.IGNORECASE,
 )
-ALLOWED: list[tuple[str, str, str]] = []
 # A sentence ends with one of these, unless an abbreviation or two dots are there.
 END = re.compile(r"(?<![.])(?<!e\.g)(?<!i\.e)(?<!vs)[.!?](?![.])[)\"'*_]*(?:\s+|$)")
 
 
-def sentences(text):
-    at = 0
-    for end in END.finditer(text):
-        yield text[at:end.end()].strip()
-        at = end.end()
-    if text[at:].strip():
-        yield text[at:].strip()
-
-
 def words(sentence):
     """How many words a sentence has: code is one, and so is the text of a link."""
-    sentence = without_code(sentence, "code")
-    sentence = re.sub(r"\]\([^)]*\)", "]", sentence)
+    sentence = re.sub(r"\]\([^)]*\)", "]", CODE.sub("code", sentence))
     return len(re.findall(r"[^\s]*\w[^\s]*", sentence))
 
 
-def allowed(name, sentence):
-    return any(name == file and text in sentence for file, text, _ in ALLOWED)
-
-
 def why(sentence):
-    """What is wrong with a sentence."""
     if OPENINGS.match(sentence.lstrip("*_(\"")):
         yield "an inverted opening"
-    for word in WORDS.findall(without_code(sentence)):
+    for word in WORDS.findall(CODE.sub("``", sentence)):
         yield f"the word '{word}'"
     if words(sentence) > MOST:
         yield f"a sentence of {words(sentence)} words"
@@ -57,11 +39,11 @@ def why(sentence):
 
 def faults(path, name):
     for number, text in texts(path):
-        found = [(text, "a doc comment begins with Answers")] * (path.suffix != ".md" and text.startswith("Answers "))
-        found += [(sentence, fault) for sentence in sentences(text) for fault in why(sentence)]
-        for sentence, fault in found:
-            if not allowed(name, sentence):
-                yield f"{name}:{number}: {fault}: {sentence[:100]}"
+        if path.suffix != ".md" and text.startswith("Answers "):
+            yield f"{name}:{number}: a doc comment begins with Answers: {text[:100]}"
+        ends = [0, *(end.end() for end in END.finditer(text)), len(text)]
+        for sentence in (text[begin:end].strip() for begin, end in zip(ends, ends[1:])):
+            yield from (f"{name}:{number}: {fault}: {sentence[:100]}" for fault in why(sentence))
 
 
 PLANTED = {

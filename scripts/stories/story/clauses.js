@@ -1,15 +1,15 @@
 // What clauses of the proved theorem `refines_map` say of the heap after a step: with the numbers that the trace shows,
 // so that a reader can add them up. That they hold after each step is proved. A section of docs/HOW-IT-WORKS.md
-// explains each clause.
+// explains each clause. The log is drawn with them.
 
 import { shapeOf } from "./choices.js";
-import { shownAt } from "./state.js";
+import { el, gloss } from "./dom.js";
+import { handsThatBegin, repliesUpTo, shownAt, slotsOf } from "./state.js";
 
 // At which bits of a key its generation, shard and page begin.
 const LAYOUTS = { tiny: [12n, 10n, 6n], wide: [24n, 16n, 6n], tagged: [20n, 14n, 6n] };
 const TAGGED = (1n << 52n) - 1n;
 
-/** The slot that a key names, and the generation. */
 function placeOf(layout, text) {
   const [generation, shard, page] = LAYOUTS[layout];
   const key = BigInt(text) & (layout === "tagged" ? TAGGED : ~0n);
@@ -22,17 +22,17 @@ function count(number, what, many = `${what}s`) {
   return `${number} ${number === 1 ? what : many}`;
 }
 
+function sumOf(numbers) {
+  return numbers.reduce((sum, number) => sum + number, 0);
+}
+
 /** All that the clauses speak of: pages, shards, slots, keys, holds and passes, as the trace has shown them. */
 function sightOf(story, step) {
   const { layout } = shapeOf(story);
-  const frames = story.frames.slice(0, step);
-  const { passes } = frames.at(-1);
-  const parts = [...shownAt(frames, step).values()].map(({ part }) => part);
-  const pages = parts.filter((part) => part.kind === "page").map((part) => ({ ...part, at: part.name.split(" ")[1] }));
-  const slots = pages.flatMap((page) => page.slots.flatMap((run) => Array.from(
-    { length: run.last - run.first + 1 }, (_, at) => ({ ...run, at: `${page.at}.${run.first + at}` }),
-  )));
-  const log = frames.filter((frame) => /^[A-Z]/.test(frame.answer)).map((frame) => frame.answer.split(" "));
+  const { passes } = story.frames[step - 1];
+  const parts = [...shownAt(story.frames, step).values()].map(({ part }) => part);
+  const pages = parts.filter((part) => part.kind === "page");
+  const log = repliesUpTo(story.frames, step).map((frame) => frame.answer.split(" "));
   const keys = log.filter(([kind]) => kind === "Insert").map(([, key, , ...words]) => ({
     key, words: words.join(" "), ...placeOf(layout, key),
     isRemoved: log.some(([kind, other]) => kind === "Removed" && other === key),
@@ -45,7 +45,8 @@ function sightOf(story, step) {
     const [, key, slot] = /^(?:removes (\d+)|leaves slot (\S+))$/.exec(hand) ?? [];
     return key || slot ? [slot ?? placeOf(layout, key).slot] : [];
   });
-  return { passes, pages, shards: parts.filter((part) => part.kind === "shard"), slots, log, keys, holds, visits };
+  const shards = parts.filter((part) => part.kind === "shard");
+  return { passes, pages, shards, slots: pages.flatMap(slotsOf), keys, holds, visits };
 }
 
 function slotOf(sight, at) {
@@ -54,7 +55,7 @@ function slotOf(sight, at) {
 
 function counted({ slots, holds, visits }) {
   return slots.flatMap((slot) => {
-    const held = holds.filter((hold) => hold.slot === slot.at).reduce((sum, hold) => sum + hold.times, 0);
+    const held = sumOf(holds.filter((hold) => hold.slot === slot.at).map((hold) => hold.times));
     const visiting = visits.filter((visit) => visit === slot.at).length;
     if (!held && !visiting && slot.count === "0") return [];
     const text = `slot ${slot.at}: count ${slot.count} = ${count(held, "hold")} + ${count(visiting, "visit")}`;
@@ -63,23 +64,18 @@ function counted({ slots, holds, visits }) {
 }
 
 const KINDS = {
-  live: ({ kind }) => kind === "Live",
-  marked: ({ kind }) => kind === "Marked",
-  retired: ({ kind }) => kind === "Retired",
-  mine: ({ rest }) => rest.startsWith("own of"),
-  "in hand": ({ rest }) => rest.startsWith("in the hand"),
-  queued: ({ rest }) => rest.startsWith("queued"),
+  live: ({ kind }) => kind === "Live", marked: ({ kind }) => kind === "Marked",
+  retired: ({ kind }) => kind === "Retired", mine: ({ rest }) => rest.startsWith("own of"),
+  "in hand": ({ rest }) => rest.startsWith("in the hand"), queued: ({ rest }) => rest.startsWith("queued"),
 };
 
-function oneKind({ pages, slots }) {
+function oneKind({ pages }) {
   return pages.flatMap((page) => {
-    const [, all] = /^class \d+, (\d+) slots/.exec(page.about) ?? [];
+    const [, all] = /^class \d+, (\d+) slots/.exec(page.about[0]) ?? [];
     if (!all) return [];
-    const own = slots.filter((slot) => slot.at.startsWith(`${page.at}.`));
-    const counts = Object.entries(KINDS).map(([kind, is]) => [kind, own.filter(is).length]);
-    const sum = counts.reduce((total, [, number]) => total + number, 0);
+    const counts = Object.entries(KINDS).map(([kind, is]) => [kind, slotsOf(page).filter(is).length]);
     const said = counts.filter(([, number]) => number).map(([kind, number]) => `${number} ${kind}`).join(" + ");
-    return [[`page ${page.at}: ${all} slots = ${said}`, sum === Number(all)]];
+    return [[`page ${page.number}: ${all} slots = ${said}`, sumOf(counts.map(([, one]) => one)) === Number(all)]];
   });
 }
 
@@ -113,35 +109,34 @@ function held(sight) {
 }
 
 function owed({ pages, shards, passes }) {
-  return [...pages, ...shards].flatMap((part) => part.links.flatMap(({ items }) => items.flatMap((item) => {
-    if (!item.owed) return [];
-    const name = `${part.kind === "page" ? "slot" : "page"} ${part.name.split(" ")[1]}.${item.item}`;
-    const owing = passes.filter(({ hand }) => hand.startsWith(`ties ${name} `));
-    return [[`link of ${name}: owed by pass ${owing.map(({ pass }) => pass).join(" ")}`, owing.length === 1]];
-  })));
+  return [...pages, ...shards].flatMap((part) => part.links.flatMap(({ items }) => items).flatMap(({ item, owed }) => {
+    if (!owed) return [];
+    const name = `${part.kind === "page" ? "slot" : "page"} ${part.number}.${item}`;
+    const owing = handsThatBegin(passes, `ties ${name} `);
+    return [[`link of ${name}: owed by pass ${owing.join(" ")}`, owing.length === 1]];
+  }));
 }
 
-/** Whether the pass found this page armed, and has yet to ring. */
 function mustRing({ hand, next }, page) {
   return hand === `rings for page ${page}` || (next.endsWith(" Ring") && hand.startsWith(`ties slot ${page}.`));
 }
 
 function duty({ pages, shards, passes }) {
   return pages.flatMap((page) => {
-    const [shard, number] = page.at.split(".");
-    const lists = shards.find((part) => part.name === `shard ${shard}`)?.links ?? [];
-    const itemsOf = (name) => lists.find((list) => list.name === name)?.items ?? [];
-    const times = (name) => itemsOf(name).filter(({ item }) => item === number).length;
+    const [shard, number] = page.number.split(".");
+    const lists = shards.find((part) => part.number === shard)?.links ?? [];
+    const times = (name) => lists.filter((list) => list.name === name).flatMap(({ items }) => items)
+      .filter(({ item }) => item === number).length;
     const places = {
-      flag: page.about.endsWith("; armed") ? 1 : 0,
-      "pass to ring": passes.filter((pass) => mustRing(pass, page.at)).length,
+      flag: page.about.at(-1) === "armed" ? 1 : 0,
+      "pass to ring": passes.filter((pass) => mustRing(pass, page.number)).length,
       bell: times("bell"),
       "bell chain": times("bell chain"),
     };
-    const isArmed = !page.about.endsWith("not armed");
-    const sum = Object.values(places).reduce((total, one) => total + one, 0);
+    const isArmed = page.about.at(-1) !== "not armed";
+    const sum = sumOf(Object.values(places));
     const said = Object.entries(places).map(([name, one]) => `${name} ${one}`).join(" + ");
-    return isArmed || sum ? [[`page ${page.at}: armed ${Number(isArmed)} = ${said}`, sum === Number(isArmed)]] : [];
+    return isArmed || sum ? [[`page ${page.number}: armed ${Number(isArmed)} = ${said}`, sum === Number(isArmed)]] : [];
   });
 }
 
@@ -149,8 +144,8 @@ function owners({ shards, passes }) {
   return shards.map((part) => {
     const owning = passes.filter(({ has }) => has.includes(`owns ${part.name}`)).map(({ pass }) => pass);
     const said = owning.length ? `owner pass ${owning.join(" ")}` : "left";
-    const text = `${part.name}: ${part.about}, and ${count(owning.length, "pass owns", "passes own")} it`;
-    return [text, said === part.about];
+    const about = part.about.join("; ");
+    return [`${part.name}: ${about}, and ${count(owning.length, "pass owns", "passes own")} it`, said === about];
   });
 }
 
@@ -166,8 +161,26 @@ const CLAUSES = [
   ["owners", 11, "the owner word counts the pass that owns the shard", owners, "no shard was touched"],
 ];
 
-/** The clauses after a step. Each has its cases, and each case a text and whether it holds by the numbers shown. */
-export function clausesAt(story, step) {
+/** A link to a section of docs/HOW-IT-WORKS.md, if the page has the sections. */
+function sectionLink(number, name) {
+  const section = document.querySelector(`#sections a[data-number="${number}"]`);
+  if (!section) return el("b", "", name);
+  return Object.assign(el("a", "", name), { href: section.getAttribute("href"), title: section.textContent });
+}
+
+/** A clause with its cases, each a text and whether it holds by the numbers shown. */
+function clauseItem([name, section, says, of, none], sight) {
+  const lines = of(sight).map(([text, holds]) => (
+    el("li", holds ? "case" : "case broken", text, holds ? "" : " (!)")
+  ));
+  const head = el("p", "", sectionLink(section, name), ` – ${says}`);
+  return el("li", "", head, el("ul", "cases", ...(lines.length ? lines : [el("li", "case", gloss(none))])));
+}
+
+export function facts(story, step) {
+  const log = repliesUpTo(story.frames, step).map((frame) => el("li", "", `pass ${frame.pass} `, frame.answer));
   const sight = sightOf(story, step);
-  return CLAUSES.map(([name, section, says, of, none]) => ({ name, section, says, cases: of(sight), none }));
+  const legal = el("p", "", sectionLink(12, "legal"), " – the replies in this order are a legal history");
+  const entries = log.length ? log : [el("li", "", gloss("no reply yet"))];
+  return [legal, el("ol", "log", ...entries), el("ul", "clauses", ...CLAUSES.map((one) => clauseItem(one, sight)))];
 }

@@ -3,7 +3,6 @@
 
 const FAULT = /^script_trace: fault \d+ (\w+)(?: line (\d+) (\w+))?/;
 
-/** What the program says of a script that it refuses, or null. */
 function faultOf(text) {
   const found = FAULT.exec(text);
   if (!found) return text ? text.trim() : null;

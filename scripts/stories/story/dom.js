@@ -1,6 +1,5 @@
 // Elements of the page. A text goes into it as text alone, so that no trace can write markup.
 
-/** An element with a class, and with children that are elements or texts. */
 export function el(tag, name, ...children) {
   const made = document.createElement(tag);
   if (name) made.className = name;

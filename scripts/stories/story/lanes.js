@@ -4,53 +4,36 @@
 import { passIn } from "./state.js";
 import { el } from "./dom.js";
 
-/** What the bar of a pass is after a frame. */
 function barOf(frame, number) {
   const pass = passIn(frame, number);
   if (pass?.has.some((word) => word.startsWith("holds"))) return "hold";
   return pass && pass.hand !== "idle" ? "call" : "";
 }
 
-/** The part of the answer that the lane has room for. */
-function replyOf(answer) {
-  const [word, ...rest] = answer.split(" ");
-  if (word === "moved") return "";
-  return word === "moved:" ? rest.join(" ") : word.replace(":", "");
-}
-
+/** An event, with the part of the answer that the lane has room for. */
 function chip(frame) {
-  const reply = replyOf(frame.answer);
-  const kind = frame.answer.startsWith("skipped") ? " skipped" : "";
+  const [word, ...rest] = frame.answer.split(" ");
+  const reply = { moved: "", "moved:": rest.join(" ") }[word] ?? word.replace(":", "");
   const children = [el("span", "event", frame.event.join(" "))];
   if (reply) children.push(" ", el("span", "reply", reply));
-  return el("div", `chip${kind}`, ...children);
+  return el("div", `chip${word === "skipped:" ? " skipped" : ""}`, ...children);
 }
 
-function eventRow(frame, at, passes, onPick) {
-  const cells = passes.map((number) => {
-    const cell = el("td", barOf(frame, number));
-    if (number === frame.pass) cell.append(chip(frame));
-    return cell;
-  });
+function rowsOf(frame, at, passes, onPick) {
+  const cells = passes.map((number) => el("td", barOf(frame, number), number === frame.pass ? chip(frame) : null));
   const row = el("tr", "step", el("th", "", String(at + 1)), ...cells);
   row.addEventListener("click", () => onPick(at + 1));
-  return row;
-}
-
-function storyRow(text, columns) {
-  const cell = el("td", "beat", el("div", "", text));
-  cell.colSpan = columns;
-  return el("tr", "", cell);
+  if (!frame.story) return [row];
+  const story = el("td", "beat", el("div", "", frame.story));
+  story.colSpan = passes.length + 1;
+  return [el("tr", "", story), row];
 }
 
 /** The table of the events. Its rows are made once for a story. */
 export function lanesTable(story, onPick) {
   const { frames, passes } = story;
   const heads = passes.map((number) => el("th", "", `pass ${number}`));
-  const rows = frames.flatMap((frame, at) => {
-    const row = eventRow(frame, at, passes, onPick);
-    return frame.story ? [storyRow(frame.story, passes.length + 1), row] : [row];
-  });
+  const rows = frames.flatMap((frame, at) => rowsOf(frame, at, passes, onPick));
   const head = el("thead", "", el("tr", "", el("th", "", "step"), ...heads));
   const table = el("table", "", head, el("tbody", "", ...rows));
   table.style.setProperty("--lanes", passes.length);

@@ -4,27 +4,25 @@ import { passIn } from "./state.js";
 import { el, gloss, heard, steady } from "./dom.js";
 
 /** What a pass owes, as its hand says it: the link of what it ties, and a ring. */
-export function debtsOf(pass) {
+function debtsOf(pass) {
   const ties = /^ties (\S+ \S+) /.exec(pass.hand);
   const rings = pass.next.split(" and then ").includes("Ring");
   return [...(ties ? [`the link of ${ties[1]}`] : []), ...(rings ? ["a ring"] : [])];
 }
 
-/** The words on what a pass owns or holds, without the verb for those who see its label. */
-function withoutVerb(words) {
-  return words.flatMap((word, at) => {
-    const [verb, ...rest] = word.split(" ");
-    return [at ? el("br") : "", el("span", "heard", `${verb} `), rest.join(" "), " "];
-  });
+/** What a pass owns or holds, without the verb for those who see its label. */
+function withoutVerb(pass, verb) {
+  return pass.has.filter((word) => word.startsWith(verb)).flatMap((word, at) => (
+    [at ? el("br") : "", el("span", "heard", `${verb} `), word.slice(verb.length + 1), " "]
+  ));
 }
 
-/** What is said of a pass that has a line, by the labels of the rows. */
 const ROWS = {
   "in hand": (pass) => [pass.hand],
   next: (pass) => (pass.next ? [el("span", "heard", "next "), el("span", "next", pass.next)] : []),
   owes: (pass) => debtsOf(pass).map((debt) => el("span", "debt gloss", debt)),
-  owns: (pass) => withoutVerb(pass.has.filter((word) => word.startsWith("owns"))),
-  holds: (pass) => withoutVerb(pass.has.filter((word) => word.startsWith("holds"))),
+  owns: (pass) => withoutVerb(pass, "owns"),
+  holds: (pass) => withoutVerb(pass, "holds"),
 };
 
 /** The labels of the rows that a pass needs in any step of the story, for each pass. */
@@ -44,23 +42,19 @@ function row(label, pass) {
   return el("div", "row", el("dt", "gloss", label), el("dd", "", ...(values.length ? values : [none])));
 }
 
-function rowsOf(pass, used) {
-  return Object.keys(ROWS).filter((label) => used?.has(label)).map((label) => row(label, pass));
-}
-
 function passCard(number, frame, before, used) {
   const pass = passIn(frame, number);
   const isChanged = before !== undefined && passIn(before, number)?.text !== pass?.text;
   const name = el("h3", pass ? "" : "gloss", `pass ${number}`);
   if (isChanged) name.append(heard(" (changed)"));
   const card = el("article", `card pass${isChanged ? " changed" : ""}${pass ? "" : " unseen"}`, name, " ");
-  card.append(el("dl", "", ...rowsOf(pass, used)));
+  const rows = Object.keys(ROWS).filter((label) => used?.has(label)).map((label) => row(label, pass));
+  card.append(el("dl", "", ...rows));
   card.classList.toggle("acts", number === frame.pass);
   card.setAttribute("aria-label", `pass ${number}`);
   return steady(card, `pass ${number}`);
 }
 
-/** The cards of the passes, in the same order in all steps. */
 export function passCards(story, step) {
   const frame = story.frames[step - 1];
   return story.passes.map((number) => passCard(number, frame, story.frames[step - 2], story.rows.get(number)));

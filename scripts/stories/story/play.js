@@ -1,45 +1,34 @@
 // Plays the stories: picks one, steps through it, and keeps the step in the address of the page.
 
 import { arrow } from "./dom.js";
-import { facts } from "./facts.js";
+import { facts } from "./clauses.js";
 import { heapCards } from "./heap.js";
 import { lanesTable, markStep } from "./lanes.js";
 import { passCards } from "./passes.js";
 import { doScript, drawSimulator, startSimulator } from "./simulate.js";
 import { measured, setHeights } from "./steady.js";
-import { addStory, current, find, freeName, now, stories } from "./stories.js";
+import { addStory, current, find, freeName, isTyped, now, setDisabled, stories } from "./stories.js";
 import { told } from "./told.js";
 
 // How long a step is shown when the story plays by itself, in milliseconds.
 const PACE = 2200;
 
 function drawParts(step) {
-  const story = current();
-  find("told").replaceChildren(...told(story, step));
-  find("heap").replaceChildren(...heapCards(story, step));
-  find("passes").replaceChildren(...passCards(story, step));
-}
-
-/** Whether a button has nothing to do at this step. It stays where the focus is. */
-function setButtons(count) {
-  for (const id of ["first", "back"]) find(id).setAttribute("aria-disabled", String(now.step === 1));
-  for (const id of ["next", "last"]) find(id).setAttribute("aria-disabled", String(now.step === count));
-}
-
-function setSlider(count) {
-  const slider = find("slider");
-  slider.max = count;
-  slider.value = now.step;
-  slider.setAttribute("aria-valuetext", `step ${now.step} of ${count}`);
-  find("place").textContent = `step ${now.step} of ${count}`;
+  find("told").replaceChildren(...told(current(), step));
+  find("heap").replaceChildren(...heapCards(current(), step));
+  find("passes").replaceChildren(...passCards(current(), step));
 }
 
 function draw() {
   const count = current().frames.length;
+  const place = `step ${now.step} of ${count}`;
   drawParts(now.step);
   setHeights(document, now.heights);
-  setSlider(count);
-  setButtons(count);
+  Object.assign(find("slider"), { max: count, value: now.step });
+  find("slider").setAttribute("aria-valuetext", place);
+  find("place").textContent = place;
+  for (const id of ["first", "back"]) setDisabled(id, now.step === 1);
+  for (const id of ["next", "last"]) setDisabled(id, now.step === count);
   markStep(find("lanes"), now.step);
   if (find("facts").open) find("said").replaceChildren(...facts(current(), now.step));
   drawSimulator();
@@ -52,18 +41,13 @@ function measure() {
   now.heights = measured(find("stage"), frames.length, boxes, drawParts);
 }
 
-function hashOf(name, step) {
-  return `#${encodeURIComponent(name)}/${step}`;
-}
-
 /** Goes to a step of the story, or to the nearest that it has. */
 function go(step) {
   now.step = Math.max(1, Math.min(current().frames.length, step));
   draw();
-  window.history.replaceState(null, "", hashOf(now.name, now.step));
+  window.history.replaceState(null, "", `#${encodeURIComponent(now.name)}/${now.step}`);
 }
 
-/** Goes to the next or the last step that has a comment. */
 function goToBeat(direction) {
   const { frames } = current();
   const steps = frames.flatMap((frame, at) => (frame.story ? [at + 1] : []));
@@ -93,13 +77,6 @@ function togglePlay() {
   find("play").textContent = "Pause";
 }
 
-/** Links to the section of docs/HOW-IT-WORKS.md that explains the story. */
-function drawSection(story) {
-  const section = document.querySelector(`#sections a[data-number="${story.section}"]`);
-  find("section").replaceChildren(...(section ? ["Explained in ", section.cloneNode(true)] : []));
-}
-
-/** Shows a story at a step. */
 function show(name, step) {
   stop();
   now.name = name;
@@ -107,20 +84,17 @@ function show(name, step) {
   find("which").value = name;
   find("title").textContent = story.title;
   find("header").textContent = story.header.join("; ");
-  drawSection(story);
+  // (the section of docs/HOW-IT-WORKS.md that explains it)
+  const section = document.querySelector(`#sections a[data-number="${story.section}"]`);
+  find("section").replaceChildren(...(section ? ["Explained in ", section.cloneNode(true)] : []));
   find("lanes").replaceChildren(lanesTable(story, pick));
   measure();
   go(step);
 }
 
-/** Goes to a step that the reader chose. */
 function pick(step) {
   stop();
   go(step);
-}
-
-function report(name, error) {
-  find("fault").textContent = `${name} is no trace of script_trace: ${error.message}`;
 }
 
 async function openFile(event) {
@@ -135,37 +109,31 @@ async function openFile(event) {
       show(name, 1);
     } else doScript(name, text);
   } catch (error) {
-    report(file.name, error);
+    find("fault").textContent = `${file.name} is no trace of script_trace: ${error.message}`;
   }
 }
 
 function onKey(event) {
-  const isTyped = event.target.matches("input, select, textarea") || event.altKey || event.ctrlKey || event.metaKey;
   const direction = { ArrowRight: 1, ArrowLeft: -1 }[event.key];
-  if (isTyped || !direction) return;
+  if (isTyped(event, "input, select, textarea") || !direction) return;
   event.preventDefault();
   stop();
   if (event.shiftKey) goToBeat(direction);
   else go(now.step + direction);
 }
 
-/** The story and the step of the page's address. */
 function goToHash() {
   const [name, step] = window.location.hash.slice(1).split("/").map(decodeURIComponent);
   const known = stories.has(name) ? name : stories.keys().next().value;
   show(known, Number(step) || stories.get(known).start);
 }
 
-function onClick(id, act) {
-  find(id).addEventListener("click", act);
-}
-
 function listen() {
-  onClick("first", () => pick(1));
-  onClick("back", () => pick(now.step - 1));
-  onClick("next", () => pick(now.step + 1));
-  onClick("last", () => pick(current().frames.length));
-  onClick("play", togglePlay);
+  const acts = {
+    first: () => pick(1), back: () => pick(now.step - 1), next: () => pick(now.step + 1),
+    last: () => pick(current().frames.length), play: togglePlay,
+  };
+  for (const [id, act] of Object.entries(acts)) find(id).addEventListener("click", act);
   find("slider").addEventListener("input", (event) => pick(Number(event.target.value)));
   find("which").addEventListener("change", (event) => show(event.target.value, stories.get(event.target.value).start));
   find("file").addEventListener("change", openFile);
@@ -174,7 +142,6 @@ function listen() {
   window.addEventListener("hashchange", goToHash);
 }
 
-/** Measures again when the width changes, once it stays. */
 function watchWidth() {
   let width = window.innerWidth;
   let timer = null;

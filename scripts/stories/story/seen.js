@@ -1,6 +1,5 @@
-// What a reader sees of a step on the page, for scripts/stories/story-checks, which runs this as one expression and
-// compares it with the trace. It is no part of the page. Words of the page's own (gloss) are left out, and an arrow is what the
-// trace writes for it.
+// What a reader sees of a step on the page, for scripts/stories/story-checks, which runs this as one expression. It is
+// no part of the page. Words of the page's own (gloss) are left out, and an arrow is what the trace writes for it.
 (() => {
   "use strict";
 

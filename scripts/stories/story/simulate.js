@@ -1,10 +1,10 @@
 // The simulator: the reader chooses whose next step is done. From a story that makes a script of the reader's own. It
 // has the lines of the story up to the step, and then the steps that were chosen.
 
-import { possible, shapeOf } from "./choices.js";
+import { isNext, linesUpTo, possible, shapeOf } from "./choices.js";
 import { openCore } from "./core.js";
 import { el, gloss } from "./dom.js";
-import { addStory, current, find, freeName, now, stories } from "./stories.js";
+import { addStory, current, find, freeName, isTyped, now, setDisabled, stories } from "./stories.js";
 
 const FRESH = [
   "; A heap with one value. Its owner is pass 0.", "heap tiny 1 1 3", "0 Adopt 0", "0 Read 0.0", "0 SetClass 0.0 7",
@@ -17,10 +17,6 @@ const VALUE = /^(?:0|[1-9]\d{0,18})?(?: (?:0|[1-9]\d{0,18})){0,15}$/;
 
 const simulator = { core: null, show: null, round: 0, passToFocus: null };
 
-function say(text) {
-  find("done").textContent = text;
-}
-
 function isOpen() {
   return find("choose").open && simulator.core !== null;
 }
@@ -28,7 +24,7 @@ function isOpen() {
 /** Does these lines, as the reader's own script of this name, and shows its last step. It says whether it could. */
 function doLines(name, lines, more) {
   const { trace, fault } = simulator.core(lines);
-  say("");
+  find("done").textContent = "";
   try {
     if (fault) throw new Error(fault);
     addStory(name, trace, { isOwn: true, ...more });
@@ -41,39 +37,33 @@ function doLines(name, lines, more) {
   return true;
 }
 
+/** The name of what the reader does: that of the story, if it is the reader's own. */
+function ownName() {
+  return current().isOwn ? now.name : freeName("mine");
+}
+
 /** Does the event that the reader chose. The story's own next event goes on with the story. */
 function choose(pass, event) {
   const story = current();
-  const next = story.frames[now.step];
   simulator.passToFocus = pass;
-  if (next?.pass === pass && next.event.join(" ") === event) {
+  if (isNext(story, now.step, pass, event)) {
     simulator.show(now.name, now.step + 1);
     return;
   }
-  const lines = story.lines.slice(0, story.frames[now.step - 1].lines);
-  const { isOwn, from } = story;
-  if (!isOwn) lines.push(LEFT);
-  const name = isOwn ? now.name : freeName("mine");
-  doLines(name, [...lines, `${pass} ${event}`], { from: from ?? { name: now.name, step: now.step } });
+  const lines = [...linesUpTo(story, now.step), ...(story.isOwn ? [] : [LEFT])];
+  doLines(ownName(), [...lines, `${pass} ${event}`], { from: story.from ?? { name: now.name, step: now.step } });
 }
 
-/** Takes back the last step of a script of the reader's own. */
 function undo() {
-  const { isOwn, frames, lines, from } = current();
-  if (isOwn && frames.length > 1) doLines(now.name, lines.slice(0, frames.at(-2).lines), { from });
+  const { isOwn, frames, from } = current();
+  if (isOwn && frames.length > 1) doLines(now.name, linesUpTo(current(), frames.length - 1), { from });
 }
 
-/** Goes back to the step of the story at which the reader left it. */
 function again() {
   const { from } = current();
   if (from) simulator.show(from.name, from.step);
 }
 
-function fresh() {
-  doLines(freeName("mine"), FRESH, {});
-}
-
-/** Does the lines of a script that the reader wrote or opened. */
 export function doScript(name, text, more = {}) {
   if (simulator.core === null) {
     find("fault").textContent = "This browser does not run the program of the page.";
@@ -81,12 +71,6 @@ export function doScript(name, text, more = {}) {
   }
   const lines = text.trimEnd().split("\n").map((line) => line.trimEnd());
   if (doLines(name, lines, more)) find("choose").open = true;
-}
-
-/** Does the lines of the text box: as the script that is shown, if it is the reader's own. */
-function doWritten() {
-  const { isOwn, from } = current();
-  doScript(isOwn ? now.name : freeName("mine"), find("script").value, { from });
 }
 
 function writeLines() {
@@ -97,55 +81,43 @@ async function copy() {
   writeLines();
   try {
     await navigator.clipboard.writeText(find("script").value);
-    say(`${current().lines.length} lines are copied.`);
+    find("done").textContent = `${current().lines.length} lines are copied.`;
   } catch {
     find("edit").open = true;
     find("script").select();
-    say("The lines are selected: Ctrl+C copies them.");
+    find("done").textContent = "The lines are selected: Ctrl+C copies them.";
   }
 }
 
-// ---- what is drawn
-
 function choice(pass, { event, answer }) {
   const reply = answer.replace(/^moved(: )?/, "");
-  const next = current().frames[now.step];
-  const isNext = next?.pass === pass && next.event.join(" ") === event;
-  const made = el("button", `chip${isNext ? " next-of-story" : ""}`, el("span", "event", event));
+  const isOfStory = isNext(current(), now.step, pass, event);
+  const made = el("button", `chip${isOfStory ? " next-of-story" : ""}`, el("span", "event", event));
   if (reply) made.append(" ", el("span", "reply", reply));
-  if (isNext) made.title = "the next step of this story";
+  if (isOfStory) made.title = "the next step of this story";
   made.addEventListener("click", () => choose(pass, event));
   return made;
 }
 
-function kindOf({ event }) {
-  const [kind, of] = event.split(" ");
-  return kind === "Enter" ? `${kind} ${of}` : kind;
-}
-
 /** The choices of one kind. Those beyond the first few are shown when they are asked for. */
 function choicesOfKind(pass, kind, events) {
-  const first = events.slice(0, SHOWN).map((event) => choice(pass, event));
-  const rest = events.slice(SHOWN).map((event) => choice(pass, event));
-  if (!rest.length) return first;
-  const more = el("details", "more", el("summary", "", `${rest.length} more ${kind}`), ...rest);
-  return [...first, more];
+  const chips = events.map((event) => choice(pass, event));
+  const rest = chips.slice(SHOWN);
+  if (!rest.length) return chips;
+  return [...chips.slice(0, SHOWN), el("details", "more", el("summary", "", `${rest.length} more ${kind}`), ...rest)];
 }
 
 function choiceRow(pass, events) {
   const kinds = new Map();
-  for (const event of events) kinds.set(kindOf(event), [...(kinds.get(kindOf(event)) ?? []), event]);
+  for (const one of events) {
+    const kind = /^(?:Enter )?\w+/.exec(one.event)[0];
+    kinds.set(kind, [...(kinds.get(kind) ?? []), one]);
+  }
   const items = [...kinds].flatMap(([kind, found]) => choicesOfKind(pass, kind, found));
   const row = el("div", "choices", el("h3", "", `pass ${pass}`), el("div", "chips", ...items));
   if (!items.length) row.append(gloss("nothing"));
   row.dataset.pass = pass;
   return row;
-}
-
-function focusAgain() {
-  const { passToFocus } = simulator;
-  if (passToFocus !== null) document.querySelector(`#choices [data-pass="${passToFocus}"] .chip`)?.focus();
-  simulator.passToFocus = null;
 }
 
 const pause = () => new Promise((done) => window.setTimeout(done, 0));
@@ -165,21 +137,18 @@ async function drawChoices() {
   }
   find("choices").replaceChildren(...rows);
   find("choices").setAttribute("aria-busy", "false");
-  focusAgain();
+  if (simulator.passToFocus !== null) {
+    document.querySelector(`#choices [data-pass="${simulator.passToFocus}"] .chip`)?.focus();
+  }
+  simulator.passToFocus = null;
 }
 
-/** Draws the simulator after the step that is shown. */
 export function drawSimulator() {
   const { isOwn, from, frames } = current();
-  find("undo").setAttribute("aria-disabled", String(!isOwn || frames.length === 1));
-  find("again").setAttribute("aria-disabled", String(!from));
+  setDisabled("undo", !isOwn || frames.length === 1);
+  setDisabled("again", !from);
   if (find("edit").open) writeLines();
   if (isOpen()) drawChoices();
-}
-
-function onUndoKey(event) {
-  const isTyped = event.target.matches("input:not([type=range]), textarea, select");
-  if (event.key === "u" && !isTyped && !event.ctrlKey && !event.metaKey && !event.altKey && isOpen()) undo();
 }
 
 function checkValue(event) {
@@ -188,14 +157,17 @@ function checkValue(event) {
   drawSimulator();
 }
 
-/** Starts the simulator. `show` shows a step of a story. */
 export async function startSimulator(show) {
   simulator.show = show;
+  const fresh = () => doLines(freeName("mine"), FRESH, {});
+  const doWritten = () => doScript(ownName(), find("script").value, { from: current().from });
   const acts = { undo, again, fresh, copy, "do-lines": doWritten };
   for (const [id, act] of Object.entries(acts)) find(id).addEventListener("click", act);
   find("value").addEventListener("change", checkValue);
   for (const id of ["choose", "edit"]) find(id).addEventListener("toggle", drawSimulator);
-  document.addEventListener("keydown", onUndoKey);
+  document.addEventListener("keydown", (event) => {
+    if (event.key === "u" && !isTyped(event, "input:not([type=range]), textarea, select") && isOpen()) undo();
+  });
   try {
     simulator.core = await openCore(find("program").textContent);
     document.documentElement.dataset.program = "ready";

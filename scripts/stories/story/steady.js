@@ -16,7 +16,6 @@ function noteHeights(root, heights) {
   }
 }
 
-/** Gives the elements of the page their heights. */
 export function setHeights(root, heights) {
   for (const element of root.querySelectorAll("[data-steady]")) {
     const height = heights.get(element.dataset.steady);

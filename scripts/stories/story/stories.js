@@ -8,30 +8,33 @@ export const find = (id) => document.getElementById(id);
 export const stories = new Map();
 export const now = { name: "", step: 1, heights: new Map(), timer: null };
 
-/** A story of a trace: its frames, and what is the same in all steps. `more` is what the trace does not say of it. */
-function storyOf(name, text, more) {
-  const trace = readTrace(text);
-  const { frames } = trace;
-  return {
-    name, title: trace.title || name, header: trace.header, lines: trace.lines, frames, parts: partNames(frames),
-    passes: passNames(frames), starts: runStarts(frames), rows: rowsUsed(frames), start: 1, ...more,
-  };
-}
-
 export function current() {
   return stories.get(now.name);
 }
 
+/** Adds a story: its trace, and what is the same in all steps. `more` is what the trace does not say of it. */
 export function addStory(name, text, more = {}) {
-  const story = storyOf(name, text, more);
+  const { title, header, lines, frames } = readTrace(text);
   if (!stories.has(name)) find("which").append(new Option(name, name));
-  stories.set(name, story);
+  stories.set(name, {
+    name, title: title || name, header, lines, frames, parts: partNames(frames), passes: passNames(frames),
+    starts: runStarts(frames), rows: rowsUsed(frames), start: 1, ...more,
+  });
 }
 
-/** A name that no story has yet. */
 export function freeName(name) {
   let number = 2;
   if (!stories.has(name)) return name;
   while (stories.has(`${name} ${number}`)) number += 1;
   return `${name} ${number}`;
+}
+
+/** Says that a button has nothing to do at this step, or something. It stays where the focus is. */
+export function setDisabled(id, isDisabled) {
+  find(id).setAttribute("aria-disabled", String(isDisabled));
+}
+
+/** Whether a key is typed into one of these elements, or with another key that is held. */
+export function isTyped(event, elements) {
+  return event.target.matches(elements) || event.altKey || event.ctrlKey || event.metaKey;
 }

@@ -2,54 +2,11 @@
 // frame for each event: the event, its answer, the pages and shards that it touched, as they are after it, and a line
 // for each pass that has begun, owns or holds something. docs/SCRIPTS.md, "Traces", has the format.
 
-const SLOT = /^slots? (\d+)(?: to (\d+))?: (\w+), generation (\d+), count (\d+)(?:; (.*))?$/;
-const PART = /^(page|shard) ([\d.]+): (.*)$/;
-const PASS = /^pass (\d+): (.*)$/;
-const LINKS = /^(stack|chain|bell|bell chain): (.*)$/;
-
-function slotsOf(found) {
-  const [, first, last, kind, generation, count, rest] = found;
-  return { first: Number(first), last: Number(last ?? first), kind, generation, count, rest: rest ?? "" };
-}
-
-/** The items of a list, each with whether a pass still owes its link, and what follows the last: `1 -> 0 ~> end`. */
-function linksOf(text) {
-  const words = text.split(" ");
-  const items = [];
-  let at = 0;
-  for (; words[at + 1] === "->" || words[at + 1] === "~>"; at += 2) {
-    items.push({ item: words[at], owed: words[at + 1] === "~>" });
-  }
-  return { items, end: words.slice(at).join(" ") };
-}
-
-/** What a pass has: its hand, the event that goes on with it, and what it owns and holds. */
-function passOf(found) {
-  const [begun, ...has] = found[2].split("; ");
-  const [hand, next] = begun.split(", next ");
-  return { pass: found[1], text: found[2], hand, next: next ?? "", has };
-}
-
-function lastPart(frame) {
-  const part = frame.parts.at(-1);
-  if (!part) throw new Error("it belongs to no page or shard");
-  return part;
-}
-
-function readInner(frame, line) {
-  const slot = SLOT.exec(line);
-  const links = LINKS.exec(line);
-  if (slot) lastPart(frame).slots.push(slotsOf(slot));
-  else if (links) lastPart(frame).links.push({ name: links[1], text: links[2], ...linksOf(links[2]) });
-  else throw new Error("it is no slot and no list");
-}
-
-function readOuter(frame, line) {
-  const part = PART.exec(line);
-  const pass = PASS.exec(line);
-  if (part) frame.parts.push({ kind: part[1], name: `${part[1]} ${part[2]}`, about: part[3], slots: [], links: [] });
-  else if (pass) frame.passes.push(passOf(pass));
-  else throw new Error("it is no page, shard or pass");
+/** A comment. The first one before the header is the title. */
+function readComment(trace, text) {
+  trace.lines.push(`; ${text}`);
+  if (!trace.title && !trace.header.length) trace.title = text;
+  else trace.story.push(text);
 }
 
 function readEcho(trace, line) {
@@ -59,45 +16,69 @@ function readEcho(trace, line) {
   else trace.header.push(words.join(" "));
 }
 
-function readAnswer(trace, line) {
-  const [pass, kind, ...answer] = line.split(" ");
-  if (!trace.event || trace.event[0] !== pass || trace.event[1] !== kind) throw new Error("it answers no event");
-  trace.frames.push({
-    story: trace.story.join(" "), pass, event: trace.event.slice(1), answer: answer.join(" "), parts: [], passes: [],
-    lines: trace.lines.length,
+/** An answer, which begins a frame. `lines` is how many lines of the script there are up to its event. */
+function readAnswer(trace, pass, kind, answer) {
+  if (trace.event?.[0] !== pass || trace.event[1] !== kind) throw new Error("it answers no event");
+  const event = trace.event.slice(1);
+  const story = trace.story.join(" ");
+  trace.frames.push({ story, pass, event, answer, parts: [], passes: [], lines: trace.lines.length });
+  Object.assign(trace, { event: null, story: [] });
+}
+
+function frameOf(trace) {
+  if (!trace.frames.length) throw new Error("it comes before the first event");
+  return trace.frames.at(-1);
+}
+
+function partOf(trace) {
+  if (!frameOf(trace).parts.length) throw new Error("it belongs to no page or shard");
+  return frameOf(trace).parts.at(-1);
+}
+
+function readPart(trace, kind, number, about) {
+  frameOf(trace).parts.push({
+    kind, number, name: `${kind} ${number}`, about: about.split("; "), slots: [], links: [],
   });
-  trace.event = null;
-  trace.story = [];
 }
 
-/** A comment. The first one before the header is the title. */
-function readComment(trace, text) {
-  trace.lines.push(`; ${text}`);
-  if (!trace.title && !trace.header.length) trace.title = text;
-  else trace.story.push(text);
+/** What a pass has: its hand, the event that goes on with it, and what it owns and holds. */
+function readPass(trace, pass, text) {
+  const [begun, ...has] = text.split("; ");
+  const [hand, next = ""] = begun.split(", next ");
+  frameOf(trace).passes.push({ pass, text, hand, next, has });
 }
 
-function readLine(trace, line) {
-  const bare = line.trim();
-  if (!bare) return;
-  if (bare.startsWith(";")) readComment(trace, bare.slice(1).trim());
-  else if (line.startsWith("> ")) readEcho(trace, line.slice(2));
-  else if (/^\d/.test(line)) readAnswer(trace, line);
-  else if (!trace.frames.length) throw new Error("it comes before the first event");
-  else if (line.startsWith("    ")) readInner(trace.frames.at(-1), bare);
-  else if (line.startsWith("  ")) readOuter(trace.frames.at(-1), bare);
-  else throw new Error("it is none of a trace");
+function readSlots(trace, first, last, kind, generation, count, rest) {
+  partOf(trace).slots.push({
+    first: Number(first), last: Number(last ?? first), kind, generation, count, rest: rest ?? "",
+  });
 }
 
-/**
- * The trace of a text. It throws an error that names the first line that is none of a trace. `lines` of a frame is how
- * many lines of the script there are up to its event.
- */
+/** A list: its items, each with whether a pass still owes its link, and what follows the last: `1 -> 0 ~> end`. */
+function readLinks(trace, name, text) {
+  const items = [...text.matchAll(/(\d+) ([-~])> /g)].map(([, item, link]) => ({ item, owed: link === "~" }));
+  partOf(trace).links.push({ name, text, items, end: text.split("> ").at(-1) });
+}
+
+// Each kind of line, and what reads it.
+const LINES = [
+  [/^ *; *(.*)$/, readComment],
+  [/^> (.*)$/, readEcho],
+  [/^(\d+) (\w+) (.*)$/, readAnswer],
+  [/^ {4}slots? (\d+)(?: to (\d+))?: (\w+), generation (\d+), count (\d+)(?:; (.*))?$/, readSlots],
+  [/^ {4}(stack|chain|bell|bell chain): (.*)$/, readLinks],
+  [/^ {2}(page|shard) ([\d.]+): (.*)$/, readPart],
+  [/^ {2}pass (\d+): (.*)$/, readPass],
+];
+
+/** The trace of a text. It throws an error that names the first line that is none of a trace. */
 export function readTrace(text) {
   const trace = { title: "", header: [], story: [], event: null, frames: [], lines: [] };
-  text.split("\n").forEach((line, at) => {
+  text.split("\n").map((line) => line.trimEnd()).forEach((line, at) => {
+    const [form, read] = LINES.find(([start]) => start.test(line)) ?? [];
     try {
-      readLine(trace, line);
+      if (form) read(trace, ...form.exec(line).slice(1));
+      else if (line) throw new Error("it is none of a trace");
     } catch (error) {
       throw new Error(`line ${at + 1}: ${error.message}: ${line}`);
     }

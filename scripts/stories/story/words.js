@@ -47,7 +47,6 @@ function readOf(name, part) {
   return `${parts[part] ?? `word ${part - 2}`} of the value of key ${name}`;
 }
 
-/** A value of an entry: its length, and its words. */
 function valueOf([length, ...words]) {
   if (length === "0") return "the empty value";
   return `the ${length === "1" ? "word" : "words"} ${words.join(" ")}`;
@@ -55,7 +54,7 @@ function valueOf([length, ...words]) {
 
 function doneBy(verb) {
   const [first, ...rest] = verb.split(" ");
-  return [first + (first.endsWith("sh") ? "es" : "s"), ...rest].join(" ");
+  return [`${first}${first.endsWith("sh") ? "es" : "s"}`, ...rest].join(" ");
 }
 
 /** The verb of the event and what it is done to. The hand counts only if the event is the one that goes on with it. */
@@ -68,7 +67,6 @@ function actionOf(frame, before) {
   return [verb, otherwise && !isNext ? otherwise : object(isNext ? before.hand : "", ...words)];
 }
 
-/** What happened in this frame, in one sentence. `before` is what the frame before it says of the pass. */
 export function sentence(frame, before) {
   const [verb, object] = actionOf(frame, before);
   const [word, ...rest] = frame.answer.split(" ");
@@ -80,18 +78,14 @@ export function sentence(frame, before) {
   return `${who} ${doneBy(verb)} ${object}${entry ? `: ${entry}` : ""}.`;
 }
 
-/** A field of a slot, as it was and as it is. */
-function fromTo(field, was, now) {
-  const name = field === "generation" || field === "count" ? `${field} ` : "";
-  return `${name}${was || "nothing"} → ${now || "nothing"}`;
-}
-
-/** A slot, as the trace names it. */
 export function slotName(slot) {
   return slot.first === slot.last ? `slot ${slot.first}` : `slots ${slot.first} to ${slot.last}`;
 }
 
-/** What changed of a slot, in words. */
 export function slotChangeText(slot, changes) {
-  return [...changes].map(([field, was]) => fromTo(field, was, slot[field])).join("; ");
+  const named = { generation: "generation ", count: "count " };
+  const texts = [...changes].map(([field, was]) => (
+    `${named[field] ?? ""}${was || "nothing"} → ${slot[field] || "nothing"}`
+  ));
+  return texts.join("; ");
 }

@@ -10,38 +10,24 @@ struct tried {
   uint64_t at;
 };
 
-extern unsigned char __heap_base;
-int main(void);
-/* The toolchain's own functions. */
-struct tried rattle_alloc(uint64_t size, uint64_t align);
-struct tried rattle_realloc(void *block, uint64_t kept, uint64_t size, uint64_t align);
-void rattle_dealloc(void *block);
-int64_t rattle_arg(uint64_t number, char *out, uint64_t room);
-int64_t rattle_env(const char *name, char *out, uint64_t room);
-int64_t rattle_env_at(uint64_t number, char *out, uint64_t room);
-int rattle_errno(void);
-void rattle_set_errno(int number);
-int64_t __sysv_signal(int number, int64_t handler);
-/* The multiplication of 128 bits, for which clang calls a function. */
-__int128 __multi3(__int128 left, __int128 right);
-
 #define PAGE 65536ULL
 /* Not more memory is given out. */
 #define MOST (1ULL << 30)
+#define UNUSED __attribute__((unused))
 
+extern unsigned char __heap_base;
+int main(void);
 static uint64_t end;
 static int error;
 
 /* 16 is the greatest alignment that is asked for. */
-static uint64_t rounded(uint64_t size)
-{
-  return (size + 15) / 16 * 16;
-}
+static uint64_t rounded(uint64_t size) { return (size + 15) / 16 * 16; }
 
-struct tried rattle_alloc(uint64_t size, uint64_t align)
+/* The toolchain's own functions. */
+
+struct tried rattle_alloc(uint64_t size, UNUSED uint64_t align)
 {
   uint64_t at = end, room = __builtin_wasm_memory_size(0) * PAGE;
-  (void)align;
   if (size > MOST || at + rounded(size) > MOST)
     return (struct tried){0, 0};
   if (at + rounded(size) > room && __builtin_wasm_memory_grow(0, (rounded(size) + PAGE - 1) / PAGE) == (uintptr_t)-1)
@@ -60,45 +46,15 @@ struct tried rattle_realloc(void *block, uint64_t kept, uint64_t size, uint64_t 
   return found;
 }
 
-void rattle_dealloc(void *block)
-{
-  (void)block;
-}
+void rattle_dealloc(UNUSED void *block) {}
+int64_t rattle_arg(UNUSED uint64_t number, UNUSED char *out, UNUSED uint64_t room) { return -1; }
+int64_t rattle_env(UNUSED const char *name, UNUSED char *out, UNUSED uint64_t room) { return -1; }
+int64_t rattle_env_at(UNUSED uint64_t number, UNUSED char *out, UNUSED uint64_t room) { return -1; }
+int rattle_errno(void) { return error; }
+void rattle_set_errno(int number) { error = number; }
+int64_t __sysv_signal(UNUSED int number, UNUSED int64_t handler) { return 0; }
 
-int64_t rattle_arg(uint64_t number, char *out, uint64_t room)
-{
-  (void)number, (void)out, (void)room;
-  return -1;
-}
-
-int64_t rattle_env(const char *name, char *out, uint64_t room)
-{
-  (void)name, (void)out, (void)room;
-  return -1;
-}
-
-int64_t rattle_env_at(uint64_t number, char *out, uint64_t room)
-{
-  (void)number, (void)out, (void)room;
-  return -1;
-}
-
-int rattle_errno(void)
-{
-  return error;
-}
-
-void rattle_set_errno(int number)
-{
-  error = number;
-}
-
-int64_t __sysv_signal(int number, int64_t handler)
-{
-  (void)number, (void)handler;
-  return 0;
-}
-
+/* The multiplication of 128 bits, for which clang calls a function. */
 __int128 __multi3(__int128 left, __int128 right)
 {
   const uint64_t half = 0xffffffff;

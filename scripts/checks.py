@@ -1,6 +1,22 @@
-"""How checks of texts tell what they find, and are tried themselves."""
+"""How checks run commands, tell what they find, and are tried themselves."""
 import pathlib
+import subprocess
 import tempfile
+
+import tree
+
+
+def written(*words):
+    """What a command writes to the standard output. It has to succeed."""
+    return subprocess.run(words, cwd=tree.TOP, capture_output=True, text=True, check=True).stdout
+
+
+def said(*words):
+    """The same without its line end, and nothing if the command is missing or fails."""
+    try:
+        return written(*words).strip()
+    except (OSError, subprocess.CalledProcessError):
+        return ""
 
 
 def told(name, faults, looked_at):
