@@ -37,7 +37,7 @@ impl Walk {
         self.met.iter().any(|met| *met == key)
     }
 
-    /// Whether it missed the key that all these calls are on: the key was inserted before the walk began, no call that
+    /// Whether it missed the key that all these calls are on. The key was inserted before the walk began, no call that
     /// removed it began before the walk ended, and the walk did not meet it.
     pub fn misses(&self, key: u64, calls: &[Call]) -> bool
         ensures { result ≡ misses self.now key calls.now }
