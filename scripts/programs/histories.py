@@ -73,6 +73,15 @@ def long_histories():
         lines += [f"{at} {at + 1} 0 Got 1 0", f"{at + 2} {at + 3} 0 Released 1", f"{at} {at + 3} 1 Crowded 1"]
     yield judges("320,000 calls on a crowded key", "\n".join([*lines, ""]), "line 5: NotCrowded\n",
                  seconds=4 + int(6 * ran.spent))
+    # (the gets beside each of these refusals might fill the key, so that no call clashes, but one hold ends before the
+    # next begins)
+    lines = ["history 8 10", "0 1 0 Insert 1 0"]
+    for at in range(2, 341_335, 16):
+        for get in range(at, at + 16, 4):
+            lines += [f"{get} {get + 1} 0 Got 1 0", f"{get + 2} {get + 3} 0 Released 1"]
+        lines += [f"{at} {at + 15} {number} Crowded 1" for number in range(1, 8)]
+    yield judges("320,000 calls on a key whose refusals stay undecided", "\n".join([*lines, ""]),
+                 "undecided, line 11 may be NotCrowded\n", seconds=4 + int(6 * ran.spent))
 
 
 def logs():

@@ -8,3 +8,5 @@ pub mod JudgingLemmas
 pub mod CourseLemmas
 pub mod AnswerLemmas
 pub mod FindingLemmas
+mod MarkLemmas
+mod IndexLemmas

@@ -50,6 +50,10 @@ abbrev pub removes : ℕ → Said → Bool
 removes key (Known (Removed pass k)) = k == key
 removes key _ = false
 
+-- it inserted the key, or removed it
+abbrev pub changes : ℕ → Said → Bool
+changes key said = inserts key said || removes key said
+
 -- it is one of the three: the key had been inserted then
 abbrev pub finds : ℕ → Said → Bool
 finds key said = inserts key said || (uses key said || removes key said)

@@ -6,3 +6,5 @@ pub mod Placing
 pub mod Verdicts
 pub mod Courses
 pub mod Moments
+pub mod Marks
+pub mod Indexes

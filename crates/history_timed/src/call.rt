@@ -6,7 +6,7 @@ ghost use Rattle.history_audit.specs.Lines.{entries_in};
 ghost use Rattle.sh_history.specs.declared.entry.Entry.{Entry as Answer};
 ghost use Rattle.history_timed.specs.Calls.{entry_said, key_said, pass_said, inserts, uses, removes, finds, gets};
 ghost use Rattle.history_timed.specs.Calls.{releases, returned};
-ghost use Rattle.history_timed.specs.Calls.{gets_by, releases_by};
+ghost use Rattle.history_timed.specs.Calls.{gets_by, releases_by, changes};
 ghost use Rattle.history_timed.specs.Clashes.{inserts_value, is_another};
 
 use crate::span::Span;
@@ -41,6 +41,16 @@ pub struct Call {
 }
 
 impl Said {
+    /// The same again. It takes no memory.
+    pub fn copy(&self) -> Said
+        ensures { result ≡ self.now }
+    {
+        match self {
+            Said::Known(entry) => Said::Known(entry.copy()),
+            Said::Unread(pass, key) => Said::Unread(*pass, *key),
+        }
+    }
+
     /// The entry that it is. A get whose value was not read is of the value that the audited key was inserted with.
     pub fn entry(&self, audit: &Audit) -> Entry
         ensures { (lines : List (ℕ × Answer)) → Follows audit.now lines
@@ -137,6 +147,13 @@ impl Said {
         matches!(self, Said::Known(Entry::Removed(_, removed)) if *removed == key)
     }
 
+    /// Whether it inserted the key or removed it.
+    pub fn changes(&self, key: u64) -> bool
+        ensures { result ≡ changes key self.now }
+    {
+        self.inserts(key) || self.removes(key)
+    }
+
     /// Whether the key had been inserted: it inserted the key, used its value, or removed the key.
     pub fn finds(&self, key: u64) -> bool
         ensures { result ≡ finds key self.now }
@@ -185,6 +202,17 @@ impl Said {
 }
 
 impl Call {
+    /// The same again. It takes no memory.
+    pub fn copy(&self) -> Call
+        ensures { result ≡ self.now }
+    {
+        Call {
+            line: self.line,
+            times: self.times,
+            said: self.said.copy(),
+        }
+    }
+
     /// Whether it ended, and is that of another line.
     pub fn is_another(&self, than: &Call) -> bool
         ensures { result ≡ is_another than.now self.now }

@@ -1,15 +1,16 @@
 //! Lines that clash in each order.
-ghost use Rattle.std.specs.Prelude.{◌≡◌, not, ◌||◌, ◌&&◌, IfSome, IfNone, Some, None, All, option_map};
-ghost use Rattle.std.specs.List.{list_all, list_any, Contains};
+ghost use Rattle.std.specs.Prelude.{◌≡◌, true, not, ◌||◌, ◌&&◌, IfSome, IfNone, Some, None, All, option_map};
+ghost use Rattle.std.specs.List.{list_all, Contains};
 ghost use Rattle.history_timed.specs.declared.call.Call.{Call as Other};
 ghost use Rattle.history_timed.specs.Times.{ends_before, is_ended};
-ghost use Rattle.history_timed.specs.Calls.{inserts, uses, removes, finds, gets, releases, gets_by, releases_by};
-ghost use Rattle.history_timed.specs.Clashes.{first_line, is_another, inserts_value, most_before, least_before};
+ghost use Rattle.history_timed.specs.Calls.{inserts, removes};
+ghost use Rattle.history_timed.specs.Clashes.{first_line, is_another, inserts_value};
 ghost use Rattle.history_timed.specs.Clashes.{IsAnswer, IsInsertedTwice, IsNeverIssued, HasNoSuchInsert};
 ghost use Rattle.history_timed.specs.Clashes.{IsOfRemoved, IsNotGone, IsHeldByNone, IsUncrowded, IsClash};
-ghost use Rattle.history_timed.specs.Clashes.{ClashesForNone, IsAnyAnswer};
+ghost use Rattle.history_timed.specs.Clashes.{ClashesForNone, ClashesWithNone, IsAnyAnswer};
 
 use crate::call::{Call, Said};
+use crate::index::Index;
 use history_audit::Clash;
 use sh_history::{Entry, Why};
 use sh_value::Value;
@@ -54,16 +55,6 @@ fn earlier_removal(calls: &[Call], key: u64, call: &Call) -> Option<u64>
         .map(|other| other.line)
 }
 
-// The line of the first call that found the key and ended before this one began.
-fn earlier_find(calls: &[Call], key: u64, call: &Call) -> Option<u64>
-    ensures { result ≡ first_line (λ (o : Other). finds key o.said && ends_before o.times call.now.times) calls.now }
-{
-    calls
-        .iter()
-        .find(|other| other.said.finds(key) && other.times.ends_before(&call.times))
-        .map(|other| other.line)
-}
-
 // Whether each call that inserted the key began after this one had ended.
 fn is_never_issued(calls: &[Call], key: u64, call: &Call) -> bool
     ensures { result ≡ list_all
@@ -89,56 +80,6 @@ fn is_removed_later(calls: &[Call], key: u64, call: &Call) -> bool
     calls.iter().all(|other| !other.said.removes(key) || call.times.ends_before(&other.times))
 }
 
-// Whether a call used the key's value, ended, and began after this one had ended.
-fn is_used_later(calls: &[Call], key: u64, call: &Call) -> bool
-    ensures { result ≡ list_any (λ (o : Other). uses key o.said
-        && (ends_before call.now.times o.times && is_ended o.times)) calls.now }
-{
-    calls.iter().any(|other| other.said.uses(key)
-        && call.times.ends_before(&other.times)
-        && other.times.is_ended())
-}
-
-// How many gets of the key by the pass may have come before the call.
-fn gets_before(calls: &[Call], pass: u32, key: u64, call: &Call) -> usize
-    ensures { result ≡ most_before (gets_by pass key) calls.now call.now }
-{
-    calls
-        .iter()
-        .filter(|other| other.said.gets_by(pass, key) && !call.times.ends_before(&other.times))
-        .count()
-}
-
-// How many releases of the key by the pass came before the call.
-fn releases_before(calls: &[Call], pass: u32, key: u64, call: &Call) -> usize
-    ensures { result ≡ least_before (releases_by pass key) calls.now call.now }
-{
-    calls
-        .iter()
-        .filter(|other| other.said.releases_by(pass, key) && other.times.ends_before(&call.times))
-        .count()
-}
-
-// How many gets of the key may have come before the call.
-fn all_gets_before(calls: &[Call], key: u64, call: &Call) -> usize
-    ensures { result ≡ most_before (gets key) calls.now call.now }
-{
-    calls
-        .iter()
-        .filter(|other| other.said.gets(key) && !call.times.ends_before(&other.times))
-        .count()
-}
-
-// How many releases of the key came before the call.
-fn all_releases_before(calls: &[Call], key: u64, call: &Call) -> usize
-    ensures { result ≡ least_before (releases key) calls.now call.now }
-{
-    calls
-        .iter()
-        .filter(|other| other.said.releases(key) && other.times.ends_before(&call.times))
-        .count()
-}
-
 // A clash of the call with that of a line, if there is one.
 fn with_line(why: Why, by: Option<u64>) -> Option<Clash>
     ensures { result ≡ option_map (λ line. record { why = why; by = Some line }) by }
@@ -159,72 +100,79 @@ fn missing(why: Why) -> Clash
     Clash { why, by: None }
 }
 
-fn not_new(calls: &[Call], key: u64, call: &Call) -> Option<Clash>
+fn not_new(calls: &Index, key: u64, call: &Call) -> Option<Clash>
     ensures { IsAnswer Why.NotNew (IsInsertedTwice calls.now key call.now) result }
 {
     if !call.said.inserts(key) {
         return None;
     }
-    with_line(Why::NotNew, other_insert(calls, key, call))
+    with_line(Why::NotNew, other_insert(calls.changes(key), key, call))
 }
 
-fn not_issued(calls: &[Call], key: u64, call: &Call) -> Option<Clash>
+fn not_issued(calls: &Index, key: u64, call: &Call) -> Option<Clash>
     ensures { IsAnswer Why.NotIssued (IsNeverIssued calls.now key call.now) result }
 {
     let is_found = call.said.uses(key) || call.said.removes(key);
-    if is_found && is_never_issued(calls, key, call) {
+    if is_found && is_never_issued(calls.changes(key), key, call) {
         Some(missing(Why::NotIssued))
     } else {
         None
     }
 }
 
-fn other_value(calls: &[Call], key: u64, call: &Call) -> Option<Clash>
+fn other_value(calls: &Index, key: u64, call: &Call) -> Option<Clash>
     ensures { IsAnswer Why.OtherValue (HasNoSuchInsert calls.now key call.now) result }
 {
     let Some(value) = call.said.returned(key) else {
         return None;
     };
-    if !has_no_such_insert(calls, key, value) {
+    if !has_no_such_insert(calls.changes(key), key, value) {
         return None;
     }
-    with_line(Why::OtherValue, any_insert(calls, key))
+    with_line(Why::OtherValue, any_insert(calls.changes(key), key))
 }
 
-fn after_removal(calls: &[Call], key: u64, call: &Call) -> Option<Clash>
+fn after_removal(calls: &Index, key: u64, call: &Call) -> Option<Clash>
     ensures { IsAnswer Why.AfterRemoval (IsOfRemoved calls.now key call.now) result }
 {
     if call.said.uses(key) {
-        return with_line(Why::AfterRemoval, earlier_removal(calls, key, call));
+        return with_line(
+            Why::AfterRemoval,
+            earlier_removal(calls.changes(key), key, call),
+        );
     }
     if call.said.removes(key) {
-        return with_line(Why::AfterRemoval, other_removal(calls, key, call));
+        return with_line(
+            Why::AfterRemoval,
+            other_removal(calls.changes(key), key, call),
+        );
     }
     None
 }
 
-fn still_there(calls: &[Call], key: u64, call: &Call) -> Option<Clash>
+fn still_there(calls: &Index, key: u64, call: &Call) -> Option<Clash>
     ensures { IsAnswer Why.StillThere (IsNotGone calls.now key call.now) result }
 {
     let Said::Known(Entry::Gone(_, gone)) = &call.said else {
         return None;
     };
-    let stays = is_removed_later(calls, key, call) || is_used_later(calls, key, call);
+    let stays = is_removed_later(calls.changes(key), key, call) || calls.is_used_later(key, call);
     if *gone != key || !stays {
         return None;
     }
-    with_line(Why::StillThere, earlier_find(calls, key, call))
+    with_line(Why::StillThere, calls.earlier_find(key, call))
 }
 
-fn not_crowded(calls: &[Call], key: u64, call: &Call, passes: u32, guard_max: u32) -> Option<Clash>
+fn not_crowded(calls: &Index, key: u64, call: &Call, passes: u32, guard_max: u32) -> Option<Clash>
+    requires { is_ended call.now.times ≡ true }
     ensures { IsAnswer Why.NotCrowded (IsUncrowded passes guard_max calls.now key call.now) result }
 {
     let Said::Known(Entry::Crowded(_, crowded)) = &call.said else {
         return None;
     };
-    let holds = all_gets_before(calls, key, call).saturating_sub(all_releases_before(
-        calls, key, call,
-    ));
+    let holds = calls
+        .all_gets_before(key, call)
+        .saturating_sub(calls.all_releases_before(key, call));
     if *crowded == key && holds as u128 + passes as u128 <= guard_max as u128 {
         Some(missing(Why::NotCrowded))
     } else {
@@ -232,14 +180,15 @@ fn not_crowded(calls: &[Call], key: u64, call: &Call, passes: u32, guard_max: u3
     }
 }
 
-fn not_held(calls: &[Call], key: u64, call: &Call) -> Option<Clash>
+fn not_held(calls: &Index, key: u64, call: &Call) -> Option<Clash>
+    requires { is_ended call.now.times ≡ true }
     ensures { IsAnswer Why.NotHeld (IsHeldByNone calls.now key call.now) result }
 {
     let Said::Known(Entry::Released(pass, released)) = &call.said else {
         return None;
     };
-    let most = gets_before(calls, *pass, key, call);
-    if *released == key && most <= releases_before(calls, *pass, key, call) {
+    let most = calls.gets_before(*pass, key, call);
+    if *released == key && most <= calls.releases_before(*pass, key, call) {
         Some(missing(Why::NotHeld))
     } else {
         None
@@ -247,7 +196,7 @@ fn not_held(calls: &[Call], key: u64, call: &Call) -> Option<Clash>
 }
 
 // The clash of a call for this reason.
-fn clash(calls: &[Call], call: &Call, why: Why, passes: u32, guard_max: u32) -> Option<Clash>
+fn clash(calls: &Index, call: &Call, why: Why, passes: u32, guard_max: u32) -> Option<Clash>
     ensures { IsAnswer why (IsClash passes guard_max calls.now call.now why) result }
 {
     if !call.times.is_ended() {
@@ -268,7 +217,7 @@ fn clash(calls: &[Call], call: &Call, why: Why, passes: u32, guard_max: u32) -> 
 // The clash of a call, for the first of these reasons for which it clashes.
 fn first_clash(
     reasons: &[Why],
-    calls: &[Call],
+    calls: &Index,
     call: &Call,
     passes: u32,
     guard_max: u32,
@@ -285,7 +234,7 @@ fn first_clash(
 }
 
 /// The clash of a call, for the first reason of the order of `Why` for which it clashes. `None` if it does not clash.
-pub fn any_clash(calls: &[Call], call: &Call, passes: u32, guard_max: u32) -> Option<Clash>
+pub fn any_clash(calls: &Index, call: &Call, passes: u32, guard_max: u32) -> Option<Clash>
     ensures { IsAnyAnswer passes guard_max calls.now call.now result }
 {
     let reasons = [
@@ -315,9 +264,9 @@ fn last_insert<'a>(calls: &'a [Call], key: u64) -> Option<&'a Call>
 
 /// The clash of a call that some order does not allow for this reason, if no order of the calls that keeps to their
 /// times is legal. If its key was inserted twice, the second insert may clash in its place. It looks for a proof by the
-/// times of one or two other calls, or by counting, and reads all calls a few times.
+/// times of one or two other calls, or by counting.
 pub fn refusal<'a>(
-    calls: &'a [Call],
+    calls: &Index<'a>,
     call: &'a Call,
     why: Why,
     passes: u32,
@@ -329,7 +278,25 @@ pub fn refusal<'a>(
     if let Some(clash) = clash(calls, call, why, passes, guard_max) {
         return Some((call, clash));
     }
-    let insert = last_insert(calls, call.said.key())?;
+    let insert = last_insert(calls.calls(), call.said.key())?;
     let clash = clash(calls, insert, Why::NotNew, passes, guard_max)?;
     Some((insert, clash))
+}
+
+/// The first call that clashes, for whatever reason.
+pub fn first_clashing<'a>(
+    calls: &Index<'a>,
+    passes: u32,
+    guard_max: u32,
+) -> Option<(&'a Call, Clash)>
+    ensures clashes { IfSome result (λ r. IsClash passes guard_max calls.now r.0.now r.1.why r.1.by) }
+    ensures is_in { IfSome result (λ r. Contains calls.now r.0.now) }
+    ensures none { IfNone result (All (ClashesWithNone passes guard_max calls.now) calls.now) }
+{
+    for call in calls.calls() {
+        if let Some(clash) = any_clash(calls, call, passes, guard_max) {
+            return Some((call, clash));
+        }
+    }
+    None
 }

@@ -4,7 +4,7 @@
 //! and a release as late. The removal is as early as it may be: after each use of the value. So if keys are never
 //! crowded, and some order is legal and keeps to the times, this one is and does. No contract says that. It is proved
 //! that this is the order that is tried, and that it is judged rightly.
-ghost use Rattle.std.specs.Prelude.{◌≡◌, ◌&&◌, ℕ, IfOk, OnOk, OnErr};
+ghost use Rattle.std.specs.Prelude.{◌≡◌, ◌&&◌, ℕ, nat_lt, IfOk, OnOk, OnErr};
 ghost use Rattle.history_timed.specs.Times.{is_ended};
 ghost use Rattle.history_timed.specs.Calls.{uses, finds};
 ghost use Rattle.history_timed.specs.Courses.{change_of, comes_first, preferred, no_calls, insert_with, removal_with};
@@ -146,6 +146,20 @@ impl Course {
             Some(removal) => line == insert.line || line == removal.line,
             None => line == insert.line,
         }
+    }
+
+    /// Whether a call that found the key ended before this moment.
+    pub fn is_found_before(&self, moment: u64) -> bool
+        ensures { result ≡ nat_lt self.now.first_end moment }
+    {
+        self.first_end < moment
+    }
+
+    /// Whether a call that used the key's value, and ended, began after this moment.
+    pub fn is_used_after(&self, moment: u64) -> bool
+        ensures { result ≡ nat_lt moment self.now.last_use }
+    {
+        moment < self.last_use
     }
 
     /// When the key was inserted.

@@ -4,6 +4,7 @@ ghost use Rattle.history_timed.specs.Verdicts.{AreFindings};
 
 use crate::call::Call;
 use crate::clashing::any_clash;
+use crate::index::Index;
 use history_audit::Clash;
 use std::alloc::{AllocError, Global};
 
@@ -26,9 +27,10 @@ pub fn findings(
 ) -> Result<Vec<Finding>, AllocError>
     ensures { IfOk result (λ found. AreFindings passes guard_max calls.now calls.now found.items) }
 {
+    let index = Index::new(alloc, calls)?;
     let mut found = Vec::new(alloc);
     for call in calls {
-        if let Some(clash) = any_clash(calls, call, passes, guard_max) {
+        if let Some(clash) = any_clash(&index, call, passes, guard_max) {
             found.push(Finding {
                 line: call.line,
                 clash,

@@ -4,8 +4,8 @@ ghost use Rattle.history_timed.specs.Placing.{call_of};
 ghost use Rattle.history_timed.specs.Verdicts.{IsVerdictOn, HasLegalHistory, IsRefusedAt};
 
 use crate::call::Call;
-use crate::clashing::refusal;
-use crate::finding::findings;
+use crate::clashing::{first_clashing, refusal};
+use crate::index::Index;
 use crate::order::{Placed, in_order};
 use crate::verdict::Verdict;
 use history_audit::Audit;
@@ -52,11 +52,12 @@ pub fn judge(
         Ok(keys) => return Ok(Verdict::Legal(placed.len() as u64, keys)),
         Err(fault) => fault,
     };
-    if let Some((clashing, clash)) = refusal(calls, call, why, passes, guard_max) {
+    let index = Index::new(alloc, calls)?;
+    if let Some((clashing, clash)) = refusal(&index, call, why, passes, guard_max) {
         return Ok(Verdict::Broken(clashing.line, clash));
     }
-    match findings(alloc, calls, passes, guard_max)?.first() {
-        Some(finding) => Ok(Verdict::Broken(finding.line, finding.clash)),
+    match first_clashing(&index, passes, guard_max) {
+        Some((clashing, clash)) => Ok(Verdict::Broken(clashing.line, clash)),
         None => Ok(Verdict::Undecided(call.line, why)),
     }
 }

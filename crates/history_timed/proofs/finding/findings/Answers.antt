@@ -15,8 +15,8 @@ loop-call-preserved c =
     elim c.match-any_clash.branch [
       | in-Some+in_ok-push w ↦ rw (w.found-is, w.in_ok-push.ensures.items, more)
           (found_more c.args.passes c.args.guard_max calls (take n calls) call c.loop-call.found.items
-          w.in-Some.clash c.loop-call.invariant w.in-Some.ensures)
+          w.in-Some.clash c.loop-call.invariant (rw c.in_ok-index.ensures at w.in-Some.ensures))
       | in_default w ↦ rw (w.found-is, more)
           (found_no_more c.args.passes c.args.guard_max calls (take n calls) call c.loop-call.found.items
-          c.loop-call.invariant w.in_default.ensures)
+          c.loop-call.invariant (rw c.in_ok-index.ensures at w.in_default.ensures))
     ]
