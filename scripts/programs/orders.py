@@ -21,6 +21,31 @@ LONG = "heap tiny 1 1 1\n" + "0 Adopt 0\n0 Leave\n" * 10_000
 # 64 passes that each want a shard: more states than memory has room for.
 CROWD = "".join(f"{number} Adopt 0\n" for number in range(64))
 CROWD_BYTES, CROWD_MEMORY = 10_000_000, 100_000_000
+# Comments, and the fault of each.
+FAULTY = [(";explore", "Command"), ("  ;explore ", "Command"), (";where 0 Mark Gone 1", "Command"),
+          (";never 0 Mark Gone 1", "Command"), ("; where", "Count"), ("; never 0 Mark Gone", "Count"),
+          ("; never 0 Mark Gone 1 1", "Count"), ("; where a Mark Gone 1", "Number"),
+          ("; where 0 Mark Gone 01", "Number"), ("; where 0 Enter Got 1 x", "Number"), ("; where 1 Mark Gone 1", "Pass"),
+          ("; where 0 Mark Got 1", "Command"), ("; where 0 Marked Gone 1", "Command"),
+          ("; where 0 Enter Removed 1", "Command")]
+# Scripts with calls, and the line and the fault of each.
+CALLS_FAULTY = [("1 get\n", 5, "Command"), ("1 get 4096 1\n", 5, "Command"), ("1 remove x\n", 5, "Number"),
+                ("1 insert 0.0 1\n", 5, "Command"), ("9 get 1\n", 5, "Pass"), ("1 get 4096", 5, "Cut"),
+                ("1 get 4096\n1 leave\n", 6, "Command"), ("1 get 4096\n;explore\n", 6, "Command")]
+# The steps of the pass that leaves a slot, and the words of each class.
+LEAVING = ["Drop", "Finish", "Put", "Tie", "Ring", "RingTie"]
+WIDTHS = [1, 2, 3, 4, 6, 8, 12, 16]
+# What is asked of the two removers, the status, and what is printed after the counts. Worked out by hand.
+ASKED = [
+    (["where 1 Mark Removed 4096", "never 2 Mark Removed 4096"], 0,
+     "where 1 Mark Removed 4096: 2 of 4\nnever 2 Mark Removed 4096: none of 2\n"),
+    (["never 2  Mark Gone 4096"], 1, "never 2 Mark Gone 4096: 1 of 4\n\noutcome 3 orders 6\n1 Mark Removed 4096\n"
+     "2 Mark Gone 4096\n; order 1 2 1 1 2 2 2 2 2\n"),
+    (["where 2 Enter Gone 4096", "where 1 Mark Removed 4096"], 0,
+     "where 2 Enter Gone 4096: 1 of 4\nwhere 1 Mark Removed 4096: 1 of 1\n\noutcome 1 orders 15\n"
+     "1 Mark Removed 4096\n2 Enter Gone 4096\n; order 1 1 1 1 1 1 2 2\n"),
+    (["where 1 Drop Released 4096"], 0, "where 1 Drop Released 4096: none of 4\n"),
+]
 
 
 def begins(wanted):
@@ -55,6 +80,81 @@ def bounded():
     yield cut([], "heap wide 256 1 64\n" + CROWD, "200000 states: ", "64 adopters of a wide heap")
     yield Row("tool_orders", ["--expect", "/dev/zero"], REMOVERS, 2,
               error="tool_orders: a file of outcomes has at most 16777216 bytes\n", name="outcomes without an end")
+
+
+def faulty():
+    """Comments that ask for something and have a fault."""
+    for comment, cause in FAULTY:
+        yield Row("tool_orders", (), f"heap tiny 1 1 1\n0 Adopt 0\n{comment}\n0 Leave\n", 2, "",
+                  f"tool_orders: fault 14 Script line 3 {cause}\n", comment)
+
+
+def asked():
+    """Comments that ask for replies of the two removers."""
+    script = (FOLDER / "two_removers.script").read_text()
+    for comments, status, wanted in ASKED:
+        text = script + "".join(f"; {comment}\n" for comment in comments)
+        yield Row("tool_orders", (), text, status, f"; states 100\n; ends 12\norders 42\n{wanted}", name=comments[-1])
+
+
+def steps_of(line):
+    """The lines of steps that a line of a script of version 3 is short for."""
+    number, call, *words = line.split()
+    rest, steps = " ".join(words), None
+    if call == "insert":
+        page, width = words[0].rsplit(".", 1)[0], len(words) - 1
+        steps = [f"Read {page}", f"SetClass {page} {next(c for c, w in enumerate(WIDTHS) if width <= w)}",
+                 f"Fill {rest}", *["Fill"] * width, "Publish"]
+    elif number.isdigit():
+        steps = {"adopt": [f"Adopt {rest}"], "get": [f"Enter get {rest}", *LEAVING],
+                 "release": [f"Drop {rest}", *LEAVING[1:]],
+                 "remove": [f"Enter remove {rest}", "Mark", *LEAVING]}.get(call)
+    return [f"{number} {step}" for step in steps] if steps else [line]
+
+
+def in_steps(script):
+    """A script of version 3 as one of version 2, and another as it is."""
+    lines = script.splitlines()
+    if "version 3" not in lines:
+        return script
+    steps = [step for line in lines for step in steps_of(line)]
+    return "\n".join([*steps, ""]).replace("version 3\n", "version 2\n")
+
+
+def called():
+    """Scripts with calls: the two removers again, and faults."""
+    removers = in_calls(FOLDER / "two_removers.script")
+    words = ["--accounts", "--expect", FOLDER / "two_removers.orders"]
+    yield Row("tool_orders", words, removers, name="two removals as calls")
+    for lines, number, cause in CALLS_FAULTY:
+        yield Row("tool_orders", (), f"version 3\nheap tiny 1 1 2\n0 adopt 0\n0 insert 0.0.0 1 2\n{lines}", 2, "",
+                  f"tool_orders: fault 14 Script line {number} {cause}\n", lines)
+    yield Row("tool_orders", (), "version 2\nheap tiny 1 1 1\n0 adopt 0\n", 2, "",
+              "tool_orders: fault 14 Script line 3 Command\n", "a call in version 2")
+
+
+def in_calls(path):
+    """The two removers, with a call in place of each removal."""
+    before = path.read_text().split(f"{MARK}\n")[0]
+    return f"version 3\n{before}{MARK}\n1 remove 4096\n2 remove 4096\n"
+
+
+def beginnings(found):
+    """The replies of the outcomes, whole and without their values."""
+    replies = {line for outcome in found for line in outcome if not line.startswith("page ")}
+    return sorted(replies | {" ".join(line.split()[:4]) for line in replies})
+
+
+def counted(path, found):
+    """Of each reply that some outcomes have it is said how many have it."""
+    script = path.read_text()
+    for reply in beginnings(found):
+        count = sum(any(f"{line} ".startswith(f"{reply} ") for line in outcome) for outcome in found)
+        said = f"\nnever {reply}: {count} of {len(found)}\n"
+        name = f"{path.name} never {reply}"
+        ran = yield Row("tool_orders", ["--accounts"], f"{script}; never {reply}\n", 1, name=name)
+        if said not in ran.text():
+            yield f"{name}: it is not said that {count} of {len(found)} outcomes have it"
 
 
 def outcomes(text):
@@ -116,7 +216,8 @@ def walked(path):
     if not states:
         return
     yield from cut_at(int(states[1]), script, path.name)
-    before, lines = split(script)
+    yield from counted(path, found)
+    before, lines = split(in_steps(script))
     for number, outcome in enumerate(found, 1):
         name = f"{path.name}: the witness of outcome {number}"
         witness = yield Row("tool_orders", ["--accounts", "--witness", number], script, name=name)
@@ -133,6 +234,9 @@ def walked(path):
 
 def order_rows():
     yield from bounded()
+    yield from faulty()
+    yield from asked()
+    yield from called()
     for path in sorted(FOLDER.glob("*.script")):
         yield from walked(path)
 

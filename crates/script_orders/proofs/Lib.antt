@@ -24,3 +24,6 @@ mod FoundLists
 mod FoundTests
 mod Seeing
 mod CountedLines
+mod Words
+mod Answered
+mod CallLines

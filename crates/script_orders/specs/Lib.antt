@@ -11,3 +11,6 @@ pub mod Counts
 pub mod Walks
 pub mod Printed
 pub mod Texts
+pub mod Comments
+pub mod Answers
+pub mod Calls

@@ -1,5 +1,5 @@
 -- What is printed of an exploration.
-use Rattle.std.specs.Prelude.{ℕ, ◌+◌, ◌-◌, ◌^◌, ◌==◌, cond, List, [], ◌∷◌, ◌++◌, codes, decimal, take, drop}
+use Rattle.std.specs.Prelude.{ℕ, ◌-◌, ◌^◌, ◌==◌, cond, List, ◌++◌, codes, decimal, take, drop}
 use Rattle.std.specs.Prelude.{slice_get, vec_items}
 use Rattle.std.specs.List.{flat_map, filter_map}
 use Rattle.script_output.specs.Numbers.{words_text}
@@ -28,19 +28,10 @@ abbrev pub found_text : (number : ℕ) → Found → List ℕ
 found_text number f = codes "\noutcome " ++ decimal number ++ (codes " orders " ++ orders_text f.orders)
     ++ codes "\n" ++ end_text f
 
--- outcomes, of which the first has this number
-abbrev pub all_found : (number : ℕ) → List Found → List ℕ
-all_found number [] = []
-all_found number (f ∷ fs) = found_text number f ++ all_found (number + 1) fs
-
 -- how many states, ends and orders there are
 abbrev pub counts_text : Whole → List ℕ
 counts_text w = codes "; states " ++ decimal w.states ++ (codes "\n; ends " ++ decimal w.ends)
     ++ (codes "\norders " ++ orders_text w.orders) ++ codes "\n"
-
--- the counts, and then each outcome, numbered from 1
-abbrev pub report_text : Whole → List ℕ
-report_text w = counts_text w ++ all_found 1 w.found.items
 
 -- the limit that was passed
 abbrev pub limit_text : Limit → Program → List ℕ

@@ -6,7 +6,10 @@
 #![tactic(auto)]
 
 mod alike;
+pub mod answer;
+pub mod calls;
 mod changes;
+pub mod comments;
 pub mod expected;
 pub mod found;
 mod heap;

@@ -2,7 +2,7 @@
 ghost use Rattle.std.specs.Prelude.{◌≡◌, ◌++◌, OnOk, IfOk, decimal, slice_get, vec_items};
 ghost use Rattle.std.specs.List.{flat_map, filter_map};
 ghost use Rattle.script_orders.specs.Printed.{orders_text, passes_text, end_text, found_text, counts_text};
-ghost use Rattle.script_orders.specs.Printed.{report_text, limit_text, cut_text, line_text, witness_text};
+ghost use Rattle.script_orders.specs.Printed.{limit_text, cut_text, line_text, witness_text};
 
 use crate::found::{Cut, Found, Limit, Orders, Program, Whole};
 use crate::text::{EXPLORE, Lines};
@@ -68,7 +68,7 @@ fn push_end(out: &mut Vec<u8>, found: &Found) -> Result<(), AllocError>
 }
 
 // Adds an outcome, by its number from 1.
-fn push_found(out: &mut Vec<u8>, number: u64, found: &Found) -> Result<(), AllocError>
+pub(crate) fn push_found(out: &mut Vec<u8>, number: u64, found: &Found) -> Result<(), AllocError>
     ensures { OnOk result (out.new.items ≡ out.old.items ++ found_text number found.now) }
 {
     push_count(out, b"\noutcome ", number)?;
@@ -78,27 +78,13 @@ fn push_found(out: &mut Vec<u8>, number: u64, found: &Found) -> Result<(), Alloc
 }
 
 // Adds how many states, ends and orders there are.
-fn push_counts(out: &mut Vec<u8>, whole: &Whole) -> Result<(), AllocError>
+pub(crate) fn push_counts(out: &mut Vec<u8>, whole: &Whole) -> Result<(), AllocError>
     ensures { OnOk result (out.new.items ≡ out.old.items ++ counts_text whole.now) }
 {
     push_count(out, b"; states ", whole.states)?;
     push_count(out, b"\n; ends ", whole.ends)?;
     push_named_orders(out, b"\norders ", whole.orders)?;
     out.extend_from_slice(b"\n")
-}
-
-/// What is printed of all that there is: the counts, and then each outcome.
-pub fn report(alloc: Global, whole: &Whole) -> Result<Vec<u8>, AllocError>
-    ensures { IfOk result (λ text. text.items ≡ report_text whole.now) }
-{
-    let mut out = Vec::new(alloc);
-    push_counts(&mut out, whole)?;
-    let mut number = 0;
-    for found in &whole.found {
-        number += 1;
-        push_found(&mut out, number, found)?;
-    }
-    Ok(out)
 }
 
 // Adds which limit was passed.

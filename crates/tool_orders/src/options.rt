@@ -22,6 +22,8 @@ pub struct Options<'a> {
 const AFTER_HELP: &str =
     "The lines of the script up to a comment line `; explore` are done in their order. Of the lines after it each pass
 does its own in their order, and the passes interleave in every way. A line whose condition does not hold is skipped.
+A comment `; where REPLY` looks only at outcomes with that reply, and `; never REPLY` says that none of them has it.
+After a line `version 3` a line may also be a call, which is short for the steps of its longest way.
 docs/SCRIPTS.md says how to write a script of steps, and docs/ORDERS.md what is printed here.
 
 Example, of files in the folder examples/orders/:
@@ -29,7 +31,7 @@ Example, of files in the folder examples/orders/:
 
 Exit status:
   0  the outcomes were printed, and are those that are expected; or help or the version was asked for
-  1  they are not those that are expected: the first difference is named
+  1  they are not those that are expected: the first difference is named; or an outcome has a reply of `; never`
   2  the command line, the script or the file of outcomes is wrong, there is no such outcome, or a limit was passed
   3  memory was refused, or a read or a write failed";
 

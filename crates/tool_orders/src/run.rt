@@ -1,11 +1,14 @@
 //! What the program prints for a script.
 use crate::options::Options;
+use script_orders::answer::{Answer, report};
+use script_orders::calls::{expand, has_calls, origin};
+use script_orders::comments::{Asked, asked_of};
 use script_orders::expected::first_difference;
-use script_orders::report::{report, report_cut, witness};
+use script_orders::report::{report_cut, witness};
 use script_orders::text::{Lines, lines_of};
 use script_orders::{Explored, Program, Whole, explore};
 use sh_key::{Tiny, Wide};
-use sh_script::{Events, Fault, Layout, parse_events};
+use sh_script::{Cause, Events, Fault, Layout, parse_events};
 use std::alloc::{AllocError, Global};
 
 /// What is printed, and the exit status.
@@ -19,12 +22,17 @@ pub struct Printed {
     pub status: u8,
 }
 
-// What is printed if nothing is wrong.
-fn good(alloc: Global, output: Vec<u8>) -> Printed {
+// The exit status of an answer: 1 if an outcome has a reply that it is never to have.
+fn status_of(answer: &Answer) -> u8 {
+    if answer.holds { 0 } else { 1 }
+}
+
+// An output, and nothing on the standard error.
+fn output_alone(alloc: Global, output: Vec<u8>, status: u8) -> Printed {
     Printed {
         output,
         errors: Vec::new(alloc),
-        status: 0,
+        status,
     }
 }
 
@@ -80,18 +88,18 @@ fn push_side(errors: &mut Vec<u8>, name: &[u8], line: Option<&[u8]>) -> Result<(
     errors.extend_from_slice(b"\n")
 }
 
-// Compares the outcomes with those that are expected.
-fn compared(alloc: Global, output: Vec<u8>, expected: &[u8]) -> Result<Printed, AllocError> {
+// Compares what is printed with what is expected.
+fn compared(alloc: Global, answer: Answer, expected: &[u8]) -> Result<Printed, AllocError> {
     let mut errors = Vec::new(alloc);
-    let mut status = 0;
-    if let Some(difference) = first_difference(expected, output.as_slice()) {
+    let mut status = status_of(&answer);
+    if let Some(difference) = first_difference(expected, answer.text.as_slice()) {
         errors.extend_from_slice(b"tool_orders: other outcomes than expected\n")?;
         push_side(&mut errors, b"expected: ", difference.expected)?;
         push_side(&mut errors, b"found: ", difference.found)?;
         status = 1;
     }
     Ok(Printed {
-        output,
+        output: answer.text,
         errors,
         status,
     })
@@ -107,7 +115,7 @@ fn witnessed(
 ) -> Result<Printed, AllocError> {
     let place = number.saturating_sub(1);
     match whole.found.get(place as usize) {
-        Some(found) => Ok(good(alloc, witness(alloc, lines, first, found)?)),
+        Some(found) => Ok(output_alone(alloc, witness(alloc, lines, first, found)?, 0)),
         None => wrong(alloc, b"there is no outcome of that number"),
     }
 }
@@ -119,33 +127,38 @@ fn outcomes_printed(
     whole: &Whole,
     lines: &Lines<'_>,
     first: usize,
+    asked: &Asked<'_>,
     expected: Option<&[u8]>,
 ) -> Result<Printed, AllocError> {
     if let Some(number) = options.witness {
         return witnessed(alloc, whole, lines, first, number);
     }
-    let output = report(alloc, whole)?;
+    let answer = report(alloc, whole, asked)?;
     match expected {
-        Some(expected) => compared(alloc, output, expected),
-        None => Ok(good(alloc, output)),
+        Some(expected) => compared(alloc, answer, expected),
+        None => {
+            let status = status_of(&answer);
+            Ok(output_alone(alloc, answer.text, status))
+        }
     }
 }
 
-fn memory(printed: Result<Printed, AllocError>) -> Result<Printed, Fault> {
-    match printed {
-        Ok(printed) => Ok(printed),
+fn memory<T: Drop>(given: Result<T, AllocError>) -> Result<T, Fault> {
+    match given {
+        Ok(given) => Ok(given),
         Err(_) => Err(Fault::Memory),
     }
 }
 
-/// What is printed for a script, by the options, and by the outcomes that are expected, if there are such.
-pub fn run_script(
+// What is printed for a script of steps.
+fn run_steps(
     alloc: Global,
     options: &Options<'_>,
     text: &[u8],
     expected: Option<&[u8]>,
 ) -> Result<Printed, Fault> {
     let events = parse_events(alloc, text)?;
+    let asked = asked_of(alloc, events.header.shape.passes(), text)?;
     let Ok(lines) = lines_of(alloc, text) else {
         return Err(Fault::Memory);
     };
@@ -160,6 +173,7 @@ pub fn run_script(
             &whole,
             &lines,
             header.saturating_add(from),
+            &asked,
             expected,
         )),
         Some(Explored::Cut(cut)) => match report_cut(alloc, cut, &program) {
@@ -170,5 +184,32 @@ pub fn run_script(
             alloc,
             b"a script of layout tagged: use layout tiny or wide, whose keys have no tag",
         )),
+    }
+}
+
+// The fault of a script of version 3, by that of its script of steps.
+fn fault_of(alloc: Global, text: &[u8], line: u64, cause: Cause) -> Result<Fault, Fault> {
+    if line == 0 {
+        return Ok(Fault::Script(0, cause));
+    }
+    let line = memory(origin(alloc, text, line))?;
+    Ok(Fault::Script(line, cause))
+}
+
+/// What is printed for a script, by the options, and by what is expected, if something is. A script of version 3 may
+/// have calls beside steps.
+pub fn run_script(
+    alloc: Global,
+    options: &Options<'_>,
+    text: &[u8],
+    expected: Option<&[u8]>,
+) -> Result<Printed, Fault> {
+    if !memory(has_calls(alloc, text))? {
+        return run_steps(alloc, options, text, expected);
+    }
+    let steps = memory(expand(alloc, text))?;
+    match run_steps(alloc, options, steps.as_slice(), expected) {
+        Err(Fault::Script(line, cause)) => Err(fault_of(alloc, text, line, cause)?),
+        printed => printed,
     }
 }
