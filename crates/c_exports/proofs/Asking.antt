@@ -6,7 +6,7 @@ use Rattle.std.specs.declared.option.Option.TheVariants.{None, Some}
 use Rattle.sh_value.specs.declared.refusal.Refusal.{Refusal}
 use Rattle.c_handles.specs.declared.held_pass.HeldPass.{HeldPass}
 use Rattle.c_handles.specs.Owning.{has_value}
-use Rattle.c_exports.specs.Told.{Asked, AskedNumber, ReadBy, ReadTold, code_of, empty_code, number_told}
+use Rattle.c_exports.specs.Told.{Asked, AskedNumber, ReadBy, ReadTold, ReadWritten, code_of, empty_code, number_told}
 
 -- a call on an empty handle does nothing
 pub no_value : {V : Type 0} (o : Option V) → has_value o ≡ false → o ≡ None
@@ -45,3 +45,15 @@ pub read_told : (reads : HeldPass → Result (List ℕ) Refusal → HeldPass →
     → ReadTold reads code old new was count a b
 read_told reads code old new was count a b v w answer is after r d =
     subst (λ o. ReadTold reads code old new was count o b) (sym is) (w, after, (answer, r, d))
+
+-- a read into a room that has the caller's words was a read into these words
+pub read_through : (reads : HeldPass → Result (List ℕ) Refusal → HeldPass → Type 0) (code : ℕ)
+    (old new there left : List ℕ) (was count here many : ℕ) (a b : Option HeldPass) (v w : HeldPass) → a ≡ Some v
+    → b ≡ Some w → there ≡ old → new ≡ left → here ≡ was → count ≡ many
+    → ReadWritten reads code there left here many v w → ReadTold reads code old new was count a b
+read_through reads code old new there left was count here many a b v w is after begins ends has counts r =
+    subst (λ (xs : List ℕ). ReadTold reads code xs new was count a b) begins
+    (subst (λ (xs : List ℕ). ReadTold reads code there xs was count a b) (sym ends)
+    (subst (λ (k : ℕ). ReadTold reads code there left k count a b) has
+    (subst (λ (k : ℕ). ReadTold reads code there left here k a b) (sym counts)
+    (read_told reads code there left here many a b v w r.0 is after r.1 r.2))))

@@ -69,9 +69,15 @@ abbrev pub ReadBy : ℕ → List ℕ → List ℕ → ℕ → ℕ → Result (Li
 ReadBy code old new was count (Ok value) = (count ≡ length value) × WordsTold value old code new
 ReadBy code old new was count (Err why) = (code ≡ refusal_number why) × (new ≡ old) × (count ≡ was)
 
--- a read by its code, and what it wrote
+-- a read of the value behind a handle did what a result says, by its code and by what it wrote
+abbrev pub ReadWritten : (HeldPass → Result (List ℕ) Refusal → HeldPass → Type 0) → ℕ → List ℕ → List ℕ → ℕ → ℕ
+    → HeldPass → HeldPass → Type 0
+ReadWritten reads code old new was count v w =
+    (answer : Result (List ℕ) Refusal) × ReadBy code old new was count answer × reads v answer w
+
+-- the same of a handle that may hold nothing
 abbrev pub ReadTold : (HeldPass → Result (List ℕ) Refusal → HeldPass → Type 0) → ℕ → List ℕ → List ℕ → ℕ → ℕ
     → Option HeldPass → Option HeldPass → Type 0
 ReadTold reads code old new was count None after = (code ≡ empty_code) × (after ≡ None) × (new ≡ old) × (count ≡ was)
-ReadTold reads code old new was count (Some v) after = (w : HeldPass) × (after ≡ Some w)
-    × ((answer : Result (List ℕ) Refusal) × ReadBy code old new was count answer × reads v answer w)
+ReadTold reads code old new was count (Some v) after =
+    (w : HeldPass) × (after ≡ Some w) × ReadWritten reads code old new was count v w

@@ -1,10 +1,11 @@
 //! The calls that name a value: what they store, and what they write into the caller's room.
 ghost use Rattle.std.specs.Prelude.{◌≡◌, ◌≤◌, ◌+◌, ◌++◌, drop, length};
 ghost use Rattle.c_handles.specs.HeldPasses.{HeldFetches, HeldReads};
-ghost use Rattle.c_exports.specs.Told.{InsertTold, InsertsWords, PrepareTold, PreparesFor, ReadTold, WordsTold};
+ghost use Rattle.c_exports.specs.Told.{InsertTold, InsertsWords, PrepareTold, PreparesFor, ReadTold, ReadWritten, WordsTold};
 ghost use Rattle.c_exports.specs.Told.{number_told};
 
 use crate::codes::{EMPTY, OK, SHORT, code};
+use crate::rooms::WordsRoom;
 use c_handles::{HeldPass, PassHandle};
 use sh_shape::classes;
 use sh_value::{Hold, Refusal, Value, WORDS_MAX};
@@ -59,6 +60,18 @@ pub extern "C" fn shardheap_raw_read(
     }
 }
 
+// Looks at a key, and puts into the room what the look returned.
+fn look_into(member: &mut HeldPass, key: u64, room: &mut WordsRoom)
+    ensures words { room.new.words.ghost_name ≡ room.old.words.ghost_name }
+    ensures count { room.new.count.ghost_name ≡ room.old.count.ghost_name }
+    ensures looks { ReadWritten (HeldFetches key) room.new.code room.old.words.now room.new.words.now room.old.count.now
+        room.new.count.now member.old member.new }
+{
+    if let Err(refusal) = member.look_into(key, room) {
+        room.code = refusal.number();
+    }
+}
+
 /// Loads the value of a key, by a look. The holds stay as they were.
 #[unsafe(no_mangle)]
 pub extern "C" fn shardheap_raw_load(
@@ -74,11 +87,9 @@ pub extern "C" fn shardheap_raw_load(
     if !pass.is_full() {
         return EMPTY;
     }
-    let mut value = Value::from(0);
-    match pass.held().look_into(key, &mut value) {
-        Ok(()) => write_words(value.words(), words, count),
-        Err(refusal) => refusal.number(),
-    }
+    let mut room = WordsRoom::new(words, count);
+    look_into(pass.held(), key, &mut room);
+    room.code
 }
 
 // Appends the words to the value in place, so that the value is not copied.

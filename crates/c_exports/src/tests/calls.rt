@@ -102,6 +102,30 @@ fn rooms(rt: &impl Abort, alloc: Global, pass: &mut PassHandle, key: u64) {
     is_not_held(rt, alloc, pass, key);
 }
 
+// The same of a value of one word, and of one of no words, which fits each room.
+fn small_rooms(rt: &impl Abort, alloc: Global, one: &mut PassHandle, other: &mut PassHandle) {
+    let word = stored(rt, alloc, one, &[6]);
+    let none = stored(rt, alloc, one, &[]);
+    agree(rt, load(alloc, other, word, 0), (SHORT, (BLANK, 1)));
+    agree(rt, load(alloc, other, word, 1), (OK, ([6, 5, 5, 5], 1)));
+    agree(rt, load(alloc, other, none, 0), (OK, (BLANK, 0)));
+    agree(rt, load(alloc, other, none, 4), (OK, (BLANK, 0)));
+    agree(rt, shardheap_raw_remove(alloc, one, word), OK);
+    agree(rt, shardheap_raw_remove(alloc, one, none), OK);
+}
+
+// A value of 16 words fills a room of 16, and does not fit one of 15.
+fn full_room(rt: &impl Abort, alloc: Global, one: &mut PassHandle, other: &mut PassHandle) {
+    let all = [1, 2, 3, 4, 5, 6, 7, 8, 9, 10, 11, 12, 13, 14, 15, 16];
+    let key = stored(rt, alloc, one, &all);
+    let (mut words, mut length) = ([0; 16], 99);
+    let code = shardheap_raw_load(alloc, other, key, &mut words[..15], &mut length);
+    agree(rt, (code, words, length), (SHORT, [0; 16], 16));
+    let code = shardheap_raw_load(alloc, other, key, &mut words[..], &mut length);
+    agree(rt, (code, words, length), (OK, all, 16));
+    agree(rt, shardheap_raw_remove(alloc, one, key), OK);
+}
+
 // A key may have four holds in this layout. A load needs no room for one more.
 fn holds(rt: &impl Abort, alloc: Global, pass: &mut PassHandle, key: u64) {
     for _ in 0..4 {
@@ -161,6 +185,8 @@ fn a_key_serves_its_owner_and_others(rt: HostRuntime) {
     rooms(&rt, alloc, &mut other, key);
     holds(&rt, alloc, &mut one, key);
     holds(&rt, alloc, &mut other, key);
+    small_rooms(&rt, alloc, &mut one, &mut other);
+    full_room(&rt, alloc, &mut one, &mut other);
     removed(&rt, alloc, &mut one, &mut other, key);
     value_taken(&rt, alloc, &mut one, &mut other);
     left(&rt, alloc, one);
