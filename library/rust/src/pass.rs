@@ -72,7 +72,11 @@ impl Pass {
     pub fn load(&self, key: Key) -> Result<Value, Error> {
         let mut value = Value::default();
         self.handle.load(key, &mut value)?;
-        Ok(value)
+        // (A value of one word, as most are, is made of that word: a move copies the room of all 16.)
+        Ok(match *value {
+            [word] => Value::of(&word),
+            _ => value,
+        })
     }
 
     /// The same, into a value of the caller's, which stays as it was if this is refused. A loop that has one value

@@ -50,16 +50,13 @@ impl Words {
     ///
     /// # Safety
     ///
-    /// If `call` is not refused, it wrote as many words as it says. If it is refused, it wrote none.
+    /// If `call` is not refused, it wrote as many words as it says, at most 16. If it is refused, it wrote nothing.
     #[inline]
     pub(crate) unsafe fn fill(
         &mut self,
-        call: impl FnOnce(*mut u64, &mut u64) -> Result<(), Error>,
+        call: impl FnOnce(*mut u64, *mut u64) -> Result<(), Error>,
     ) -> Result<(), Error> {
-        let mut length = 0;
-        call(self.words.as_mut_ptr().cast(), &mut length)?;
-        self.length = (length as usize).min(MAX_WORDS);
-        Ok(())
+        call(self.words.as_mut_ptr().cast(), (&raw mut self.length).cast())
     }
 }
 
@@ -98,10 +95,11 @@ mod tests {
 
     // What a call does that is not refused.
     fn filled(words: &mut Words, with: &[u64]) {
-        let call = |room: *mut u64, length: &mut u64| {
+        let call = |room: *mut u64, length: *mut u64| {
             // SAFETY: the room has 16 words, and `with` has no more.
             unsafe { room.copy_from(with.as_ptr(), with.len()) };
-            *length = with.len() as u64;
+            // SAFETY: it is the length of `words`, which this call has alone.
+            unsafe { length.write(with.len() as u64) };
             Ok(())
         };
         // SAFETY: it wrote as many words as it says.

@@ -71,7 +71,8 @@ impl PassHandle {
     /// Reads into the value's own room.
     #[inline]
     pub(crate) fn read(&self, key: Key, value: &mut Value) -> Result<(), Error> {
-        // SAFETY: as in `get`. `words` has room for `MAX_WORDS`; the library writes `length` of them.
+        // SAFETY: as in `get`. Each value fits a room of `MAX_WORDS`: the library writes its words and their number, or
+        // refuses the call and writes nothing.
         self.log.read(key, value, |value| unsafe {
             value.words.fill(|words, length| told(shardheap_raw_read(self.at(), key.into(), words, MAX_WORDS, length)))
         })
@@ -80,7 +81,7 @@ impl PassHandle {
     /// Loads into the value's own room.
     #[inline]
     pub(crate) fn load(&self, key: Key, value: &mut Value) -> Result<(), Error> {
-        // SAFETY: as in `get`. `words` has room for `MAX_WORDS`; the library writes `length` of them.
+        // SAFETY: as in `read`.
         self.log.load(key, value, |value| unsafe {
             value.words.fill(|words, length| told(shardheap_raw_load(self.at(), key.into(), words, MAX_WORDS, length)))
         })
@@ -111,7 +112,7 @@ impl PassHandle {
         if self.log.is_on() {
             return self.take_in_parts(key, value);
         }
-        // SAFETY: as in `load`.
+        // SAFETY: as in `read`.
         unsafe {
             value
                 .words
