@@ -39,18 +39,18 @@ PROMPT = "trace> "
 SECONDS = 120
 # Lines that are typed one after the other, and what the answer to each has in it.
 SESSION = [
-    ("0 Adopt 0", "Header: the first line is a header"),
+    ("0 Adopt 0", "not done: Header: "),
     ("; a comment", "; a comment"),
     ("heap tiny 1 1 2", "> heap tiny 1 1 2"),
     ("0 Adopt 0", "0 Adopt moved\n  shard 0: owner pass 0"),
-    ("0 adopt 0", "not done: Command: there is no such event"),
+    ("0 adopt 0", "not done: Command: "),
     ("2 Adopt 0", "not done: Pass: "),
     ("0 Read", "not done: Count: "),
     ("0 Read 0", "not done: Number: "),
     ("0 Read 0.0", "page 0.0: blank; owner pass 0; not armed"),
     ("next 1", "pass 1: Adopt 0 (the shard has an owner)"),
     ("0 SetClass 0.0 7", "slots 0 to 2: Empty"),
-    ("next 0", "Fill 0.0.2 WORD .., Put 0.0.2"),
+    ("next 0", "Fill 0.0.2 WORD .., Put 0.0.0"),
     ("0 Fill 0.0.0", "fills slot 0.0.0 with 0 of 0 words, next Publish"),
     ("next", "pass 0: Publish\npass 1: Adopt 0"),
     ("0 Publish", "0 Publish Insert 4096 0"),
@@ -60,7 +60,7 @@ SESSION = [
     ("save", "not saved: save FILE"),
     ("save kept.script", "kept.script has 6 lines"),
     ("save kept.script", "not saved: File exists"),
-    ("?", "SetClass S.P c"),
+    ("?", "SetClass PAGE CLASS"),
     ("undo 9", "there is no line"),
     ("next", "there is no heap yet"),
 ]
@@ -68,7 +68,7 @@ SESSION = [
 AFTER_FILE = [
     ("undo 7", "taken back: 0 Follow 0.0"),
     ("next 1", "pass 1: Tie\n"),
-    ("next 0", "Follow 0.0 (the link is not written), "),
+    ("next 0", "Follow 0.0 (the link is not written),\n  TakeBell"),
     ("1 Tie", "slot 0: Empty, generation 2, count 0; queued, linked to the end"),
 ]
 

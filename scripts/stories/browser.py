@@ -115,10 +115,9 @@ class Browser:
     def of(self, name, what):
         return self.run(f'document.getElementById("{name}").{what}')
 
-    def key(self, name, code, shift=False):
+    def key(self, name, code):
         for kind in ("keyDown", "keyUp"):
-            self.call("Input.dispatchKeyEvent", type=kind, key=name, code=name, windowsVirtualKeyCode=code,
-                      modifiers=8 if shift else 0)
+            self.call("Input.dispatchKeyEvent", type=kind, key=name, code=name, windowsVirtualKeyCode=code)
 
     def look(self, width, height, scheme):
         """Sets the size of the window in pixels, and light or dark."""

@@ -1,10 +1,10 @@
 """A story as lanes: a lane for each pass, a row for each event, and next to it the slots of the page after the event.
 The slots that the event changed are framed. The events before the story begins are one row."""
 
-from dataclasses import dataclass
+import textwrap
 
-from stories.svg import LETTER, Picture, wrapped
-from stories.trace import Part
+from stories.svg import LETTER, Picture
+from stories.trace import look_of
 
 LEFT, SLOT, LONGEST = 44, 96, 20
 TOP, CELL, STEP, LINE, SECOND = 44, 20, 24, 16, 13
@@ -15,23 +15,31 @@ NAMES = {"live": "Live", "marked": "Marked", "retired": "Retired", "own": "own",
 ALIKE = ("Fill", "Read")
 
 
-@dataclass
 class Row:
-    """An event, or several that are alike, and what the page and the shard were like after it."""
-    steps: list
-    page: Part | None
-    shard: Part | None
-    is_setup: bool = False
-    # Where it is drawn, and the lines of the story above it.
-    y: float = 0
-    lines: list = ()
+    """An event, or several that are alike, and what the page and the shard were like after it. The first row has the
+    events before the story begins; the row before it is itself. `y` is where it is drawn."""
+
+    def __init__(self, steps, before=None):
+        self.steps, self.before, self.is_setup, self.y, self.lines = [], before or self, not before, 0, []
+        self.page, self.shard = (before.page, before.shard) if before else (None, None)
+        for step in steps:
+            self.take(step)
+
+    def take(self, step):
+        self.steps.append(step)
+        self.page, self.shard = step.shown("page") or self.page, step.shown("shard") or self.shard
+
+    def goes_on_with(self, step):
+        """Whether the next event is of the same kind and of the same pass, so that both are one row."""
+        is_alike = step.name() in ALIKE and self.last().event.split()[:2] == step.event.split()[:2]
+        return not self.is_setup and not step.comment and is_alike
+
+    def last(self):
+        return self.steps[-1]
 
     def number(self):
         first, last = self.steps[0].number, self.last().number
         return str(last) if last == first else f"{first}-{last}"
-
-    def last(self):
-        return self.steps[-1]
 
     def event(self):
         """The event, and the reply to the pass, in one line or in two."""
@@ -51,23 +59,25 @@ class Row:
         return STEP + SECOND * (len(self.event()) - 1)
 
     def slots(self):
-        return [(slot.look(), label(slot)) for slot in self.page.slots.values()] if self.page else []
+        return [(look_of(slot), label(slot)) for slot in self.page.slots()] if self.page else []
 
     def links(self):
-        lists = {name: part.links(name) for part in (self.page, self.shard) if part for name in part.lists}
-        return {name: links for name, links in lists.items() if links}
+        lists = [it for part in (self.page, self.shard) if part for it in part.links().items()]
+        return {name: links for name, links in lists if links}
 
     def words(self):
-        about = self.page.about if self.page else [""]
+        about = self.page.rows[""] if self.page else [""]
         flag = {"not armed": "", "armed": "armed"}.get(about[-1], "flag taken" if "taken" in about[-1] else "")
-        owner = self.shard.about[0]
+        owner = self.shard.rows[""][0]
         return {"class": about[0].replace(",", ":"),
                 "owner": "no owner" if owner == "left" else owner.replace("owner ", "owner: "), "flag": flag}
 
-    def takes(self, step):
-        """Whether the next event is of the same kind and of the same pass, so that both are one row."""
-        is_alike = step.name() in ALIKE and self.last().event.split()[:2] == step.event.split()[:2]
-        return not self.is_setup and not step.story and is_alike
+    def shared(self, changing):
+        """What is said in words of page and shard, each with whether it is new. What never changes is not said."""
+        for name, now in self.words().items():
+            old = self.before.words()[name]
+            if name in changing and now and (now != old or name == "flag" or now == "no owner"):
+                yield now, now != old
 
 
 def again(event, times):
@@ -78,8 +88,9 @@ def again(event, times):
 
 
 def label(slot):
-    count = f" c{slot.count}" if slot.count != "0" or slot.kind in ("Live", "Marked") else ""
-    return f"{NAMES[slot.look()]} g{slot.generation}{count}"
+    kind, generation, count, _ = slot
+    shown = f" {count}" if count != "count 0" or kind in ("Live", "Marked") else ""
+    return f"{NAMES[look_of(slot)]} {generation}{shown}".replace("generation ", "g").replace("count ", "c")
 
 
 def reply_of(answer):
@@ -98,31 +109,28 @@ def summary(steps):
 
 def rows_of(steps):
     """The rows. The events before the first comment that follows an event are the setup."""
-    begun = next(at for at, step in enumerate(steps) if at and step.story)
-    last = [next((found for step in reversed(steps[:begun]) if (found := step.shown(kind))), None)
-            for kind in ("page", "shard")]
-    rows = [Row(steps[:begun], *last, is_setup=True)]
+    begun = next(at for at, step in enumerate(steps) if at and step.comment)
+    rows = [Row(steps[:begun])]
     for step in steps[begun:]:
-        page = step.shown("page") or rows[-1].page
-        if rows[-1].takes(step):
-            rows[-1].steps.append(step)
-            rows[-1].page = page
+        if rows[-1].goes_on_with(step):
+            rows[-1].take(step)
         else:
-            rows.append(Row([step], page, step.shown("shard") or rows[-1].shard))
+            rows.append(Row([step], rows[-1]))
     return rows
 
 
 class Lanes:
-    """The picture of a story: its rows, each with the one before it, and the widths of its columns."""
+    """The picture of a story: its rows, and the widths of its columns."""
 
     def __init__(self, trace):
         self.rows, self.names = rows_of(trace.steps), sorted({step.by() for step in trace.steps})
-        self.pairs = list(zip(self.rows, [self.rows[0], *self.rows]))
         self.lane = int(max(len(line) for row in self.rows[1:] for line in row.event()) * LETTERS) + BAR + 17
-        self.changing = {name for name in ("class", "owner", "flag")
-                         if len({row.words()[name] for row in self.rows}) > 1}
+        self.changing = {name for name in self.rows[0].words() if len({row.words()[name] for row in self.rows}) > 1}
         self.after = LEFT + len(self.names) * self.lane
-        self.shared = self.shared_width()
+        # (the column of links and words is left out if there are none)
+        widest = max(sum(len(words) * LETTERS + 12 for words, _ in row.shared(self.changing))
+                     + sum(links_width(name, links) for name, links in row.links().items()) for row in self.rows)
+        self.shared = max(180, 8 + widest) if widest else 0
         self.width = int(self.after + SLOTS * SLOT + self.shared) + 4
         self.bottom = self.place()
         about = (f"A lane for each of {len(self.names)} passes and a row for each event. Next to each event are the "
@@ -133,37 +141,21 @@ class Lanes:
         """Says where each row is. Returns where the last one ends."""
         y = TOP
         for row in self.rows:
-            story = row.steps[0].story
-            row.lines = wrapped(story, int((self.width - 16) / LETTERS)) if story else []
-            y += LINE * len(row.lines) + (3 if row.lines else 0)
-            row.y = y
-            y += row.high() + (LINE if row.reason() else 0)
+            row.lines = textwrap.wrap(row.steps[0].comment, int((self.width - 16) / LETTERS), break_on_hyphens=False)
+            row.y = y + LINE * len(row.lines) + (3 if row.lines else 0)
+            y = row.y + row.high() + (LINE if row.reason() else 0)
         return y
-
-    def words_of(self, row, before):
-        """What is said in words, each with whether it is new. What never changes is not said."""
-        for name, now in row.words().items():
-            old = before.words()[name]
-            if name in self.changing and now and (now != old or name == "flag" or now == "no owner"):
-                yield now, now != old and row is not before
-
-    def shared_width(self):
-        """How wide the column of links and words has to be: nothing if there are none."""
-        widest = max(sum(len(words) * LETTERS + 12 for words, _ in self.words_of(row, before))
-                     + sum(links_width(name, links) for name, links in row.links().items())
-                     for row, before in self.pairs)
-        return max(180, 8 + widest) if widest else 0
 
     def drawn(self):
         self.draw_heads()
         for number, name in enumerate(self.names):
             self.draw_bars(name, LEFT + number * self.lane)
-        for row, before in self.pairs:
+        for row in self.rows:
             for number, line in enumerate(row.lines):
                 self.draw_line(8, row.y - 8 - LINE * (len(row.lines) - 1 - number), line, "story")
             self.draw_event(row)
-            self.draw_slots(row, before)
-            self.draw_shared(row, before, self.after + SLOTS * SLOT + 8)
+            self.draw_slots(row)
+            self.draw_shared(row, self.after + SLOTS * SLOT + 8)
             if row.reason():
                 self.draw_line(LEFT + BAR + 3, row.y + row.high() + 8, row.reason(), "red")
         draw_legend(self.picture, self.bottom + 8)
@@ -197,20 +189,19 @@ class Lanes:
         self.picture.box(x - 2, y - 11, len(line) * LETTERS + 4, LINE - 1, "page", 0)
         self.picture.text(x, y, line, kind, 11)
 
-    def draw_slots(self, row, before):
-        old = before.slots()
+    def draw_slots(self, row):
         for number, (look, words) in enumerate(row.slots()[:SLOTS]):
             x = self.after + number * SLOT
             self.picture.cell(x, row.y, SLOT - 4, CELL, [words], look, 11)
-            if old[number] != (look, words):
+            if row.before.slots()[number] != (look, words):
                 self.picture.box(x, row.y, SLOT - 4, CELL, "changed")
 
-    def draw_shared(self, row, before, x):
-        for words, is_new in self.words_of(row, before):
+    def draw_shared(self, row, x):
+        for words, is_new in row.shared(self.changing):
             self.picture.text(x, row.y + 14, words, "bold" if is_new else "", 11)
             x += len(words) * LETTERS + 12
         for name, links in row.links().items():
-            draw_links(self.picture, x, row.y, name, links, before.links().get(name) != links)
+            draw_links(self.picture, x, row.y, name, links, row.before.links().get(name) != links)
             x += links_width(name, links)
 
 
@@ -237,7 +228,6 @@ def draw_legend(picture, y):
     picture.text(214, y + 14, "changed by the event", "grey", 11)
     picture.arrow(376, y + 10, 404, y + 10, "owed")
     picture.text(412, y + 14, "a link that is not written yet", "grey", 11)
-    picture.box(8, y + 24, BAR, 18, "call", 0)
-    picture.text(20, y + 37, "the pass is inside a call", "grey", 11)
-    picture.box(214, y + 24, BAR, 18, "hold", 0)
-    picture.text(226, y + 37, "it has a hold on the key", "grey", 11)
+    for x, kind, words in ((8, "call", "the pass is inside a call"), (214, "hold", "it has a hold on the key")):
+        picture.box(x, y + 24, BAR, 18, kind, 0)
+        picture.text(x + 12, y + 37, words, "grey", 11)

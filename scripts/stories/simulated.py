@@ -26,18 +26,9 @@ READY = """new Promise((done, fail) => {
         else setTimeout(look, 20);
     })();
 })"""
-CHOICES = """[...document.querySelectorAll("#choices [data-pass]")].map((row) => [row.dataset.pass,
-    [...row.querySelectorAll(".chip")].map((chip) => [chip.querySelector(".event").textContent,
-        chip.querySelector(".reply")?.textContent ?? ""])])"""
-# The step as mode steps replies to it: the pass, the first word of the event, and the answer without a reason.
-REPLY = """(() => {
-    const text = (name) => document.querySelector(`#told .line .${name}`).textContent;
-    return [text("who"), text("event").split(" ")[0], text("answer").split(": ")[0]].join(" ");
-})()"""
-
-
-def has_program():
-    return os.access(PROGRAM, os.X_OK)
+CHIPS = """(root) => [...root.querySelectorAll(".chip")].map((chip) => [chip.querySelector(".event").textContent,
+    chip.querySelector(".reply")?.textContent ?? ""])"""
+CHOICES = f"""[...document.querySelectorAll("#choices [data-pass]")].map((row) => [row.dataset.pass, ({CHIPS})(row)])"""
 
 
 class Choices:
@@ -61,26 +52,20 @@ class Choices:
         return {number: dict(events) for number, events in self.page.run(CHOICES)}
 
     def choose(self, number, event):
-        return self.act(f"""(() => {{
-            const row = document.querySelector('#choices [data-pass="{number}"]');
-            const chips = [...row.querySelectorAll(".chip")];
-            const chip = chips.find((one) => one.querySelector(".event").textContent === {event!r});
-            chip?.click();
-            return Boolean(chip);
-        }})()""")
+        """Clicks on an event of a pass, and returns the page's line of it."""
+        self.act(f"""[...document.querySelectorAll('#choices [data-pass="{number}"] .chip')]
+            .find((one) => one.querySelector(".event").textContent === {event!r})?.click()""")
+        return self.line()
 
     def give_value(self, words):
-        self.act(f"""(() => {{
-            document.getElementById("value").value = {" ".join(words)!r};
-            document.getElementById("value").dispatchEvent(new Event("change"));
-        }})()""")
+        self.page.of("value", f"value = {' '.join(words)!r}")
+        self.act('document.getElementById("value").dispatchEvent(new Event("change"))')
 
     def line(self):
         text = self.page.run('document.querySelector("#told .line").textContent')
         return " ".join(text.removeprefix("pass ").split())
 
-    def exported(self):
-        self.press("copy")
+    def script(self):
         return [text for text in self.page.of("script", "value").splitlines() if not text.startswith(";")]
 
     def do_lines(self, lines):
@@ -88,21 +73,15 @@ class Choices:
         self.page.of("script", f"value = {text!r}")
         self.press("do-lines")
 
-    def all_replies(self):
-        """The replies of all steps, as the page has them one after the other."""
-        self.page.of("choose", "open = false")
-        self.page.of("first", "click()")
-        for _ in range(int(self.page.of("slider", "max"))):
-            yield self.page.run(REPLY)
-            self.page.of("next", "click()")
-        self.act('document.getElementById("choose").open = true')
-
     def check_replies(self):
-        if has_program():
-            replies = list(self.all_replies())
-            text = "".join(f"{one}\n" for one in self.exported())
+        """The lanes have the replies of shardheap, of which mode steps runs the page's script, if that is built."""
+        if os.access(PROGRAM, os.X_OK):
+            text = "".join(f"{one}\n" for one in self.script())
             ran = subprocess.run([PROGRAM, "steps"], input=text, capture_output=True, text=True, check=False)
-            yield from same("replies of shardheap steps", replies, (ran.stdout or ran.stderr).splitlines())
+            said = [line.split()[1:3] for line in ran.stdout.splitlines()]
+            chips = self.page.run(f'({CHIPS})(document.getElementById("lanes"))')
+            shown = [[event.split()[0], reply if reply[:1].isupper() else "moved"] for event, reply in chips]
+            yield from same("replies of shardheap steps", shown, said)
 
 
 def check_story_by_clicks(page, path, text):
@@ -111,24 +90,19 @@ def check_story_by_clicks(page, path, text):
     for step in trace.read(text).steps[BEGUN:]:
         if step.name() == "Fill" and step.action() != "Fill":
             choices.give_value(step.event.split()[3:])
-        if not choices.choose(step.by(), step.action()):
-            yield f"step {step.number}: {step.event} is no choice"
-            return
-        yield from same(f"step {step.number} by a click", choices.line(), f"{step.event} {step.answer}")
-    yield from same("exported script", choices.exported(), [it[2:] for it in text.splitlines() if it.startswith("> ")])
+        yield from same(f"step {step.number} by a click", choices.choose(step.by(), step.action()),
+                        f"{step.event} {step.answer}")
+    yield from same("the page's script", choices.script(), [it[2:] for it in text.splitlines() if it.startswith("> ")])
     yield from choices.check_replies()
 
 
 def check_fork(page, path):
     """Another pass than the one of the story, a step back, and the way back to the story."""
     choices = Choices(page, path, f"#{STORY}/{FORK}")
-    yield from same("what passes 1 and 2 can do", [list(choices.all()[one].items()) for one in "12"],
-                    [[("Mark", "Removed 4096")], [("Mark", "Removed 4096")]])
-    choices.choose("1", "Mark")
-    yield from same("pass 1 marks first", choices.line(), "1 Mark Removed 4096")
-    yield from same("pass 2 marks then", choices.all()["2"], {"Mark": "Gone 4096"})
-    choices.choose("2", "Mark")
-    yield from same("pass 2 marked", choices.line(), "2 Mark Gone 4096")
+    yield from same("what passes 1 and 2 can do", [choices.all()[one] for one in "12"], [{"Mark": "Removed 4096"}] * 2)
+    yield from same("pass 1 marks first", choices.choose("1", "Mark"), "1 Mark Removed 4096")
+    yield from same("what pass 2 can do then", choices.all()["2"], {"Mark": "Gone 4096"})
+    yield from same("pass 2 marks then", choices.choose("2", "Mark"), "2 Mark Gone 4096")
     page.key("u", 85)
     page.run(READY)
     yield from same("a step back", choices.line(), "1 Mark Removed 4096")
@@ -147,9 +121,8 @@ def check_walk(page, path):
     for _ in range(STEPS):
         number, events = chance.choice([(one, found) for one, found in choices.all().items() if found])
         event, reply = chance.choice(list(events.items()))
-        choices.choose(number, event)
-        said = choices.line().removeprefix(f"{number} {event} ")
-        yield from same(f"answer to {number} {event}", said.removeprefix("moved").removeprefix(": "), reply)
+        answer = choices.choose(number, event).removeprefix(f"{number} {event} ").removeprefix("moved")
+        yield from same(f"answer to {number} {event}", answer.removeprefix(": "), reply)
         broken = page.run('[...document.querySelectorAll(".broken")].map((one) => one.textContent)')
         yield from same("clauses that do not hold", broken, [])
     yield from choices.check_replies()

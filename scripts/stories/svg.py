@@ -73,12 +73,6 @@ class Picture:
         self.add(f'<line x1="{num(x1)}" y1="{num(y1)}" x2="{num(x2)}" y2="{num(y2)}" class="{kind}" '
                  f'marker-end="url(#{head})"/>')
 
-    def line(self, x1, y1, x2, y2, kind="thin"):
-        self.add(f'<line x1="{num(x1)}" y1="{num(y1)}" x2="{num(x2)}" y2="{num(y2)}" class="{kind}"/>')
-
-    def dot(self, x, y, radius=6, kind="dark"):
-        self.add(f'<circle cx="{num(x)}" cy="{num(y)}" r="{radius}" class="{kind}"/>')
-
     def written(self):
         heads = "".join(
             f'<marker id="{name}" viewBox="0 0 8 8" refX="7" refY="4" markerWidth="7" markerHeight="7" orient="auto">'
@@ -116,12 +110,3 @@ def drawn(text):
 
 def num(value):
     return f"{value:.1f}".rstrip("0").rstrip(".")
-
-
-def wrapped(text, letters):
-    lines = [""]
-    for word in text.split():
-        if lines[-1] and len(lines[-1]) + 1 + len(word) > letters:
-            lines.append("")
-        lines[-1] = f"{lines[-1]} {word}".strip()
-    return lines

@@ -1,69 +1,53 @@
-"""A trace of script_trace: a step for each event, with all that was said of the heap up to it. The pictures, the prompt
-and the checks of the page share it. The page itself reads traces by story/trace.js."""
+"""A trace of script_trace: a step for each event, with all that was said of the heap up to it. The pictures and the
+checks of the page share it. The page itself reads traces by story/trace.js, into the same rows."""
 
 import re
-import typing
 from dataclasses import dataclass, field
 
 from tree import TOP
 
 STORIES = TOP / "examples/watch"
-OWING = re.compile(r"pass (\d+) owes its link")
 LINK = re.compile(r"(\d+) ([-~])> ")
-# How an empty slot is drawn, by the beginning of what is said of it.
-EMPTY = {"own": "own", "in the hand": "hand", "queued": "queued"}
+# How an empty slot is drawn, by the first word that is said of it.
+EMPTY = {"own": "own", "in": "hand", "queued": "queued"}
 
 
-class Slot(typing.NamedTuple):
-    """A slot, as the words of its line."""
-    kind: str
-    generation: str
-    count: str
-    rest: str
-
-    def look(self):
-        """How it is drawn: by its kind, and an empty one by who has it."""
-        if self.kind != "Empty":
-            return self.kind.lower()
-        return next(look for start, look in EMPTY.items() if self.rest.startswith(start))
-
-    def owing(self):
-        found = OWING.search(self.rest)
-        return found[1] if found else None
-
-    def text(self):
-        return " ".join(f"{self.kind} generation {self.generation} count {self.count} {self.rest}".split())
+def look_of(slot):
+    """How a slot is drawn: by its kind, and an empty one by who has it."""
+    kind, *_, rest = slot
+    return EMPTY[re.match(r"\w+", rest)[0]] if kind == "Empty" else kind.lower()
 
 
 @dataclass
 class Part:
-    """A page or a shard as a step showed it: its words, its slots by their numbers, and its lists by their names."""
+    """A page or a shard as a step showed it, in rows of words: its own by the name "", those of a slot by "slot 0", and
+    a list by its name, as "stack"."""
     name: str
-    about: list
     step: int
-    slots: dict = field(default_factory=dict)
-    lists: dict = field(default_factory=dict)
+    rows: dict
 
     def number(self):
         return self.name.split()[1]
 
-    def links(self, name):
-        """The items of a list, each with whether its link is owed: `1 -> 0 ~> end`."""
-        return [(item, link == "~") for item, link in LINK.findall(self.lists[name])]
+    def slots(self):
+        return [words for row, words in self.rows.items() if row.startswith("slot ")]
+
+    def links(self):
+        """The items of each list, each with whether its link is owed: `1 -> 0 ~> end`."""
+        return {row: [(item, link == "~") for item, link in LINK.findall(words[0])]
+                for row, words in self.rows.items() if row in LISTS}
 
 
 @dataclass
 class Step:
-    """One event and what the trace says after it. `parts` has all that was shown up to it."""
+    """One event, its answer, and the comment that comes with it. `parts` has all that was shown up to it, and `passes`
+    the line of each pass."""
     number: int
     event: str
     answer: str
-    # (the comment that comes with it, and the last one)
-    story: str
-    beat: str
+    comment: str
     before: "Step | None"
     parts: dict
-    touched: list = field(default_factory=list)
     passes: dict = field(default_factory=dict)
 
     def by(self):
@@ -75,32 +59,26 @@ class Step:
     def name(self):
         return self.event.split()[1]
 
-    def shown(self, kind):
-        return next((part for part in self.touched if part.name.startswith(kind)), None)
+    def last_comment(self):
+        return self.comment or (self.before.last_comment() if self.before else "")
 
     def owing(self, part, item):
         """The pass that owes the link of an item of a part's list."""
-        if part.slots:
-            return part.slots[int(item)].owing()
-        page = f"ties page {part.number()}.{item} "
-        return next(number for number, line in self.passes.items() if line.startswith(page))
+        ties = f"ties {'slot' if part.name.startswith('page') else 'page'} {part.number()}.{item} "
+        return next(number for number, line in self.passes.items() if line.startswith(ties))
+
+    def touched(self):
+        return [part for part in self.parts.values() if part.step == self.number]
+
+    def shown(self, kind):
+        return next((part for part in self.touched() if part.name.startswith(kind)), None)
 
 
 class Trace:
-    """The title, the lines of the header, and the steps. It takes the lines of a trace one by one."""
+    """The title, the lines of the header, and the steps."""
 
     def __init__(self):
-        self.title, self.header, self.steps, self.told, self.event = "", [], [], [], []
-
-    def take(self, line):
-        """Takes a line, and says whether it is one of a trace."""
-        if line.lstrip().startswith(";"):
-            self.comment(line.lstrip()[1:].strip())
-            return True
-        if line.startswith("  ") and not self.steps or line.startswith("    ") and not self.steps[-1].touched:
-            return False
-        forms = ((form.fullmatch(line), taken_by) for form, taken_by in LINES)
-        return next((taken_by(self, *found.groups()) is not False for found, taken_by in forms if found), False)
+        self.title, self.header, self.steps, self.told, self.event, self.part = "", [], [], [], "", None
 
     def comment(self, text):
         """The first one before the header is the title."""
@@ -111,49 +89,46 @@ class Trace:
 
     def echo(self, text):
         if text[0].isdigit():
-            self.event = text.split()
+            self.event = " ".join(text.split())
         else:
             self.header.append(text)
 
-    def answer(self, number, name, answer):
-        if self.event[:2] != [number, name]:
-            return False
-        before, story = self.steps[-1] if self.steps else None, " ".join(self.told)
-        beat, parts = (story or before.beat, dict(before.parts)) if before else (story, {})
-        self.steps.append(Step(len(self.steps) + 1, " ".join(self.event), answer, story, beat, before, parts))
-        self.event, self.told = [], []
-        return True
+    def answer(self, text):
+        before = self.steps[-1] if self.steps else None
+        parts = dict(before.parts) if before else {}
+        self.steps.append(Step(len(self.steps) + 1, self.event, text, " ".join(self.told), before, parts))
+        self.told = []
 
-    def part(self, name, about):
+    def page_or_shard(self, name, about):
         step = self.steps[-1]
-        step.parts[name] = Part(name, about.split("; "), step.number)
-        step.touched.append(step.parts[name])
+        self.part = step.parts[name] = Part(name, step.number, {"": about.split("; ")})
 
     def slots(self, first, last, kind, generation, count, rest):
-        slot = Slot(kind, generation, count, rest or "")
-        self.steps[-1].touched[-1].slots.update(dict.fromkeys(range(int(first), int(last or first) + 1), slot))
+        words = [kind, f"generation {generation}", f"count {count}", rest or ""]
+        self.part.rows.update({f"slot {at}": words for at in range(int(first), int(last or first) + 1)})
 
-    def links(self, name, text):
-        self.steps[-1].touched[-1].lists[name] = text
+    def list(self, name, text):
+        self.part.rows[name] = [text]
 
     def of_pass(self, number, text):
         self.steps[-1].passes[number] = text
 
 
+LISTS = ("stack", "chain", "bell", "bell chain")
 # Each kind of line, and what takes it.
 LINES = [(re.compile(form), taken_by) for form, taken_by in (
-    (r"> (.+)", Trace.echo), (r"(\d+) (\w+) (moved|skipped: .+|moved: .+|\w+ \d+.*)", Trace.answer),
+    (r" *; *(.*)", Trace.comment), (r"> (.+)", Trace.echo), (r"\d+ \w+ (.+)", Trace.answer),
     (r"    slots? (\d+)(?: to (\d+))?: (\w+), generation (\d+), count (\d+)(?:; (.+))?", Trace.slots),
-    (r"    (stack|chain|bell|bell chain): (none|(?:\d+ [-~]> )+(?:end|not written))", Trace.links),
-    (r"  (page \d+\.\d+|shard \d+): (.+)", Trace.part), (r"  pass (\d+): (.+)", Trace.of_pass))]
+    (rf"    ({'|'.join(LISTS)}): (.+)", Trace.list),
+    (r"  (page \d+\.\d+|shard \d+): (.+)", Trace.page_or_shard), (r"  pass (\d+): (.+)", Trace.of_pass),
+    (r"", lambda trace: None))]
 
 
 def read(text):
-    """The trace of a text. Its first line that is none of a trace raises a ValueError."""
     trace = Trace()
-    for number, line in enumerate(text.splitlines(), 1):
-        if line.strip() and not trace.take(line):
-            raise ValueError(f"line {number}: {line}")
+    for line in text.splitlines():
+        found, taken_by = next((found, taken_by) for form, taken_by in LINES if (found := form.fullmatch(line)))
+        taken_by(trace, *found.groups())
     return trace
 
 

@@ -1,13 +1,11 @@
 // What each pass can do next. The page proposes events on all that the trace has shown, and the program says of each
 // what it does. An event that is skipped changes nothing, so one run tries them in a row up to the first that is not.
 
-import { passIn, repliesUpTo, shownAt, slotsOf } from "./state.js";
+import { find } from "./dom.js";
+import { partsOf, repliesUpTo, slotsOf } from "./state.js";
 
-const ALONE = "Mark Drop Finish Fill Publish Put Tie Ring RingTie Leave TakeBell FollowBell".split(" ");
 // Not more shards are tried.
 const SHARDS = 4;
-const CLASSES = [7, 6, 5, 4, 3, 2, 1, 0];
-const PAGES = 8;
 
 export function shapeOf(story) {
   const [, layout, ...numbers] = story.header.find((line) => line.startsWith("heap ")).split(" ");
@@ -15,57 +13,45 @@ export function shapeOf(story) {
   return { layout, shards, segments, passes };
 }
 
-export function isNext(story, step, pass, event) {
-  const next = story.frames[step];
+export function isNext(story, frame, pass, event) {
+  const next = story.frames[frame.number];
   return next?.pass === pass && next.event.join(" ") === event;
 }
 
-export function linesUpTo(story, step) {
-  return story.lines.slice(0, story.frames[step - 1].lines);
+const range = (length) => Array.from({ length }, (_, at) => String(at));
+
+/** What can come in each place of an event: the keys, pages and slots that the trace has shown, and the next page of
+    each shard. `value` is what a Fill would store. */
+function known(story, frame, value) {
+  const replies = repliesUpTo(story, frame).map(({ answer }) => answer.split(" "));
+  const inserts = replies.filter(([kind]) => kind === "Insert");
+  const shards = range(Math.min(shapeOf(story).shards, SHARDS));
+  const shown = partsOf(frame, "page");
+  const pages = shown.map(({ number }) => number);
+  const fresh = shards.map((shard) => `${shard}.${pages.filter((page) => page.startsWith(`${shard}.`)).length}`);
+  return {
+    SHARD: shards, PAGE: [...pages, ...fresh], CLASS: range(8).reverse(), "WORD ..": [value],
+    SLOT: shown.flatMap(slotsOf).map(({ at }) => at), KEY: inserts.map(([, key]) => key),
+    PART: range(Math.max(...inserts.map(([, , length]) => Number(length))) + 2),
+  };
 }
 
-/** Events of an owner on the pages of its shard, and on its slots. `value` is what a Fill would store. */
-function ownersEvents(story, step, pass, value) {
-  const owns = passIn(story.frames[step - 1], pass)?.has.find((word) => word.startsWith("owns shard "));
-  if (!owns) return [];
-  const shown = [...shownAt(story.frames, step).values()].map(({ part }) => part).filter(({ kind }) => kind === "page");
-  const all = Array.from({ length: shapeOf(story).segments * PAGES }, (_, page) => `${owns.split(" ")[2]}.${page}`);
-  // (the pages that were shown, and the first one that was not)
-  const isShown = (page) => shown.some(({ number }) => number === page);
-  const fresh = all.find((page) => !isShown(page));
-  const onPages = all.filter((page) => isShown(page) || page === fresh).flatMap((page) => [
-    ...["Read", "Take", "Follow", "Arm"].map((event) => `${event} ${page}`),
-    ...CLASSES.map((number) => `SetClass ${page} ${number}`),
-  ]);
-  const slots = shown.flatMap(slotsOf).filter(({ rest }) => rest === `own of pass ${pass}`).map(({ at }) => at);
-  return [...onPages, ...slots.map((slot) => `Fill ${slot} ${value}`.trim()), ...slots.map((slot) => `Put ${slot}`)];
+/** The events of a form, with all that can come in its places. */
+function filled(form, places) {
+  const place = Object.keys(places).find((one) => form.includes(one));
+  return place ? places[place].flatMap((it) => filled(form.replace(place, it), places)) : [form.trim()];
 }
 
-/** Events on the keys that were issued, each with the length of its value. */
-function eventsOnKeys(story, step) {
-  const answers = repliesUpTo(story.frames, step).map((frame) => frame.answer.split(" "));
-  const keys = new Map(answers.filter(([kind]) => kind === "Insert").map(([, key, length]) => [key, Number(length)]));
-  return [...keys].flatMap(([key, length]) => [
-    `Enter get ${key}`, `Enter remove ${key}`, `Drop ${key}`,
-    ...Array.from({ length: length + 2 }, (_, part) => `Read ${key} ${part}`),
-  ]);
-}
-
-/** The events that a pass could be asked to do next. The one of the story is the first. */
-function candidates(story, step, pass, value) {
-  const next = story.frames[step];
-  const told = next?.pass === pass ? [next.event.join(" ")] : [];
-  const adopts = Array.from({ length: Math.min(shapeOf(story).shards, SHARDS) }, (_, shard) => `Adopt ${shard}`);
-  const all = [...told, ...ALONE, ...adopts, ...ownersEvents(story, step, pass, value), ...eventsOnKeys(story, step)];
-  return [...new Set(all)];
-}
-
-/** The events that the pass can do next, each with what it would be answered. */
-export function possible(core, story, step, pass, value) {
-  const lines = linesUpTo(story, step);
+/** The events that the pass can do next, each with its answer. The one of the story is the first. */
+export function possible(core, story, frame, pass, value) {
+  const lines = story.lines.slice(0, frame.lines);
   const { length } = core(lines).trace;
+  const places = known(story, frame, value);
+  const forms = Object.values(JSON.parse(find("events").textContent)).flat();
+  const events = forms.flatMap((form) => filled(form, places));
+  const next = story.frames[frame.number]?.event.join(" ");
   const found = [];
-  let left = candidates(story, step, pass, value);
+  let left = [...new Set(isNext(story, frame, pass, next) ? [next, ...events] : events)];
   while (left.length) {
     const { trace } = core([...lines, ...left.map((event) => `${pass} ${event}`)]);
     const answers = [...trace.slice(length).matchAll(/^\d+ \w+ (.*)$/gm)].map(([, answer]) => answer);

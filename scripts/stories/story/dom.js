@@ -1,5 +1,7 @@
 // Elements of the page. A text goes into it as text alone, so that no trace can write markup.
 
+export const find = (id) => document.getElementById(id);
+
 export function el(tag, name, ...children) {
   const made = document.createElement(tag);
   if (name) made.className = name;
@@ -17,9 +19,9 @@ export function heard(text) {
   return el("span", "gloss heard", text);
 }
 
-/** Marks an element as changed by the step, with what it was. */
+/** Marks an element as changed by the step, with what it was; null if it is as before. */
 export function lit(element, was) {
-  if (was === undefined || was === null) return element;
+  if (was === null) return element;
   element.classList.add("lit");
   element.title = `before: ${was || "nothing"}`;
   return element;
@@ -31,18 +33,9 @@ export function steady(element, key) {
   return element;
 }
 
-const SVG = "http://www.w3.org/2000/svg";
-
-function shape(tag, attributes) {
-  const made = document.createElementNS(SVG, tag);
-  for (const [name, value] of Object.entries(attributes)) made.setAttribute(name, value);
-  return made;
-}
-
 /** An arrow to the right: of a link that is written (tied), of one that a pass owes (owed), or of a head (from). */
-export function arrow(kind, by) {
-  const picture = shape("svg", { viewBox: "0 0 64 12", width: 64, height: 12, "aria-hidden": "true" });
-  picture.append(shape("line", { x1: 2, y1: 6, x2: 54, y2: 6 }), shape("path", { d: "M52,1 L62,6 L52,11 z" }));
+export function arrow(kind, by = "") {
   const says = { tied: " is linked to ", owed: " has no link yet to ", from: " leads to " }[kind];
-  return el("span", `arrow ${kind}`, el("span", "by gloss", by ?? ""), picture, heard(says));
+  const picture = find("arrow").content.cloneNode(true);
+  return el("span", `arrow ${kind}`, el("span", "by gloss", by), picture, heard(says));
 }

@@ -1,79 +1,69 @@
 // Draws the shards and pages as the trace last showed them: slots as boxes, stacks, chains and bells as arrows.
 
-import { aboutChanges, cutSlots, handsThatBegin, linksBefore, shownAt, slotAt, slotChanges } from "./state.js";
 import { arrow, el, gloss, heard, lit, steady } from "./dom.js";
-import { slotName } from "./words.js";
+import { boxesOf, handsThatBegin, itemsOf, stateOf, wordsAt } from "./state.js";
 
-export function lookOf(slot) {
-  if (slot.kind !== "Empty") return slot.kind.toLowerCase();
-  return { in: "hand", queued: "queued" }[slot.rest.split(/[ ,]/)[0]] ?? "own";
+const FIELDS = ["kind", "generation", "count", "rest"];
+
+/** The words of a value are boxes of their own. */
+function inBoxes(text) {
+  const [first, ...words] = text.split(" ");
+  return first === "value" ? [first, ...words.flatMap((word) => [" ", el("span", "word", word)])] : [text];
 }
 
-/** What follows a slot's state. The words of a value are boxes of their own. */
-function restOf(slot) {
-  const [first, ...words] = slot.rest.split(" ");
-  if (first !== "value") return el("span", "rest", slot.rest);
-  return el("span", "rest", first, ...words.flatMap((word) => [" ", el("span", "word", word)]));
-}
-
-function slotBox(slot, changes, key) {
-  const field = (name, ...children) => lit(el("span", name, ...children), changes.get(name));
-  const number = (name) => field(name, `${name} ${slot[name]}`);
-  const top = el("span", "top", el("span", "number", slotName(slot)), " ", field("kind", slot.kind));
-  const rest = lit(restOf(slot), changes.get("rest"));
-  const box = el("li", `slot ${lookOf(slot)}`, top, " ", number("generation"), " ", number("count"), " ", rest);
-  if (changes.size) {
+function slotBox(frame, part, { row, name }) {
+  const words = wordsAt(frame, part, row);
+  const [kind, ...fields] = words.map(({ now, was }, at) => lit(el("span", FIELDS[at], ...inBoxes(now)), was));
+  const top = el("span", "top", el("span", "number", name), " ", kind);
+  const box = el("li", `slot ${stateOf(words[0].now, words[3].now)}`, top, ...fields.flatMap((field) => [" ", field]));
+  if (words.some(({ was }) => was !== null)) {
     box.classList.add("changed");
     box.append(heard(" (changed)"));
   }
-  return steady(box, key);
+  return steady(box, `${part.name} slots`);
 }
 
 /** An arrow with the pass that owes the link of an item, as a slot or the line of a pass says it. */
-function owedArrow(part, item, passes) {
-  const [pass] = part.kind === "page"
-    ? /pass (\d+) owes its link/.exec(slotAt(part, Number(item))?.rest)?.slice(1) ?? []
-    : handsThatBegin(passes, `ties page ${part.number}.${item} `);
-  return arrow("owed", pass === undefined ? "owed" : `pass ${pass} owes`);
+function owedArrow(frame, part, item) {
+  const said = part.rows.get(`slot ${item}`)?.[3] ?? "";
+  const pass = /pass (\d+) owes its link/.exec(said)?.[1];
+  return arrow("owed", `pass ${pass ?? handsThatBegin(frame, `ties page ${part.number}.${item} `)[0]} owes`);
 }
 
 const HEADS = { stack: "head", chain: "cursor", bell: "bell", "bell chain": "cursor" };
 
-function linksRow(part, links, passes, was) {
-  const what = part.kind === "page" ? "slot " : "page ";
-  const nodes = links.items.flatMap(({ item, owed }) => [
-    el("span", "item", gloss(what), item), " ", owed ? owedArrow(part, item, passes) : arrow("tied"), " ",
+function listRow(frame, part, name) {
+  const items = itemsOf(part, name);
+  const [{ now, was }] = wordsAt(frame, part, name);
+  const start = items.length ? [el("span", "start gloss", HEADS[name]), arrow("from")] : [];
+  const nodes = items.flatMap(({ item, owed }) => [
+    el("span", "item", gloss(part.kind === "page" ? "slot " : "page "), item), " ",
+    owed ? owedArrow(frame, part, item) : arrow("tied"), " ",
   ]);
-  const start = links.items.length ? [el("span", "start gloss", HEADS[links.name]), arrow("from")] : [];
-  const row = lit(el("span", "list", ...start, ...nodes, el("span", "end", links.end)), was);
+  const row = lit(el("span", "list", ...start, ...nodes, el("span", "end", now.split("> ").at(-1))), was);
   if (was !== null) row.append(heard(" (changed)"));
-  return steady(el("div", "links", el("span", "name", links.name), " ", row), `${part.name} ${links.name}`);
+  return steady(el("div", "links", el("span", "name", name), " ", row), `${part.name} ${name}`);
 }
 
-function partCard(name, shown, before, step, story) {
-  const card = steady(el("article", `card part${shown ? "" : " unseen"}`), name);
+function partCard(story, frame, name) {
+  const part = frame.parts.get(name);
+  const card = steady(el("article", `card part${part ? "" : " unseen"}`), name);
   card.setAttribute("aria-label", name);
-  if (!shown) {
+  if (!part) {
     card.append(el("p", "said", el("strong", "name gloss", name), " ", gloss("not touched yet")));
     return card;
   }
-  const { part } = shown;
-  const changes = aboutChanges(part, before);
-  const words = part.about.flatMap((word, at) => [lit(el("span", "about", word), changes.get(at)), " "]);
+  const words = wordsAt(frame, part, "").flatMap(({ now, was }) => [lit(el("span", "about", now), was), " "]);
   // (when the trace showed the part, unless it was in this step)
-  const age = el("span", "age gloss", shown.step === step ? "" : `as step ${shown.step} showed it`);
+  const age = el("span", "age gloss", part.step === frame.number ? "" : `as step ${part.step} showed it`);
   const said = el("p", "said", el("strong", "name", name), " ", ...words);
-  const boxes = cutSlots(part, story.starts).map((slot) => slotBox(slot, slotChanges(slot, before), `${name} slots`));
-  const { passes } = story.frames[step - 1];
-  const rows = part.links.map((links) => linksRow(part, links, passes, linksBefore(links, before)));
+  const boxes = boxesOf(story, part).map((box) => slotBox(frame, part, box));
   card.append(steady(el("div", "about-row", said, age), `${name} about`));
   if (boxes.length) card.append(el("ul", "slots", ...boxes));
-  card.append(el("div", `lists of-${part.kind}`, ...rows));
+  card.append(el("div", `lists of-${part.kind}`, ...part.lists.map((list) => listRow(frame, part, list))));
   return card;
 }
 
-export function heapCards(story, step) {
-  const now = shownAt(story.frames, step);
-  const before = shownAt(story.frames, step - 1);
-  return story.parts.map((name) => partCard(name, now.get(name), before.get(name)?.part, step, story));
+export function heapCards(story, frame) {
+  return story.parts.map((name) => partCard(story, frame, name));
 }

@@ -1,28 +1,25 @@
-// Plays the stories: picks one, steps through it, and keeps the step in the address of the page.
+// Shows the stories: picks one, steps through it, and keeps the step in the address of the page.
 
-import { arrow } from "./dom.js";
-import { facts } from "./clauses.js";
+import { facts, sectionLink } from "./clauses.js";
+import { arrow, find } from "./dom.js";
 import { heapCards } from "./heap.js";
 import { lanesTable, markStep } from "./lanes.js";
 import { passCards } from "./passes.js";
 import { doScript, drawSimulator, startSimulator } from "./simulate.js";
 import { measured, setHeights } from "./steady.js";
-import { addStory, current, find, freeName, isTyped, now, setDisabled, stories } from "./stories.js";
+import { addStory, current, freeName, isTyped, now, setDisabled, shown, stories } from "./stories.js";
 import { told } from "./told.js";
 
-// How long a step is shown when the story plays by itself, in milliseconds.
-const PACE = 2200;
-
-function drawParts(step) {
-  find("told").replaceChildren(...told(current(), step));
-  find("heap").replaceChildren(...heapCards(current(), step));
-  find("passes").replaceChildren(...passCards(current(), step));
+function drawParts(frame) {
+  find("told").replaceChildren(...told(current(), frame));
+  find("heap").replaceChildren(...heapCards(current(), frame));
+  find("passes").replaceChildren(...passCards(current(), frame));
 }
 
 function draw() {
   const count = current().frames.length;
   const place = `step ${now.step} of ${count}`;
-  drawParts(now.step);
+  drawParts(shown());
   setHeights(document, now.heights);
   Object.assign(find("slider"), { max: count, value: now.step });
   find("slider").setAttribute("aria-valuetext", place);
@@ -30,15 +27,13 @@ function draw() {
   for (const id of ["first", "back"]) setDisabled(id, now.step === 1);
   for (const id of ["next", "last"]) setDisabled(id, now.step === count);
   markStep(find("lanes"), now.step);
-  if (find("facts").open) find("said").replaceChildren(...facts(current(), now.step));
+  if (find("facts").open) find("said").replaceChildren(...facts(current(), shown()));
   drawSimulator();
 }
 
 function measure() {
   find("lanes").style.setProperty("--seen", `${find("lanes").clientWidth}px`);
-  const { frames, passes, starts } = current();
-  const boxes = [...starts.values()].reduce((sum, found) => sum + found.size, passes.length);
-  now.heights = measured(find("stage"), frames.length, boxes, drawParts);
+  now.heights = measured(find("stage"), current().frames, drawParts);
 }
 
 /** Goes to a step of the story, or to the nearest that it has. */
@@ -48,66 +43,31 @@ function go(step) {
   window.history.replaceState(null, "", `#${encodeURIComponent(now.name)}/${now.step}`);
 }
 
-function goToBeat(direction) {
-  const { frames } = current();
-  const steps = frames.flatMap((frame, at) => (frame.story ? [at + 1] : []));
-  const after = steps.find((step) => step > now.step) ?? frames.length;
-  const before = steps.findLast((step) => step < now.step) ?? 1;
-  go(direction > 0 ? after : before);
-}
-
-function stop() {
-  window.clearInterval(now.timer);
-  now.timer = null;
-  find("play").textContent = "Play";
-}
-
-function playOn() {
-  if (now.step < current().frames.length) go(now.step + 1);
-  if (now.step === current().frames.length) stop();
-}
-
-function togglePlay() {
-  if (now.timer !== null) {
-    stop();
-    return;
-  }
-  if (now.step === current().frames.length) go(1);
-  now.timer = window.setInterval(playOn, PACE);
-  find("play").textContent = "Pause";
-}
-
 function show(name, step) {
-  stop();
   now.name = name;
-  const story = current();
+  const { title, header, section } = current();
   find("which").value = name;
-  find("title").textContent = story.title;
-  find("header").textContent = story.header.join("; ");
-  // (the section of docs/HOW-IT-WORKS.md that explains it)
-  const section = document.querySelector(`#sections a[data-number="${story.section}"]`);
-  find("section").replaceChildren(...(section ? ["Explained in ", section.cloneNode(true)] : []));
-  find("lanes").replaceChildren(lanesTable(story, pick));
+  find("title").textContent = title;
+  find("header").textContent = header.join("; ");
+  find("section").replaceChildren(...(section ? ["Explained in ", sectionLink(section)] : []));
+  find("lanes").replaceChildren(lanesTable(current(), go));
   measure();
-  go(step);
-}
-
-function pick(step) {
-  stop();
   go(step);
 }
 
 async function openFile(event) {
   const [file] = event.target.files;
   if (!file) return;
-  find("fault").textContent = "";
+  const name = freeName(file.name.replace(/\.(trace|script)$/, ""));
   const text = await file.text();
+  find("fault").textContent = "";
+  if (/^heap /m.test(text)) {
+    doScript(name, text);
+    return;
+  }
   try {
-    const name = freeName(file.name.replace(/\.(trace|script)$/, ""));
-    if (/^> heap /m.test(text) || !/^heap /m.test(text)) {
-      addStory(name, text);
-      show(name, 1);
-    } else doScript(name, text);
+    addStory(name, text);
+    show(name, 1);
   } catch (error) {
     find("fault").textContent = `${file.name} is no trace of script_trace: ${error.message}`;
   }
@@ -117,9 +77,7 @@ function onKey(event) {
   const direction = { ArrowRight: 1, ArrowLeft: -1 }[event.key];
   if (isTyped(event, "input, select, textarea") || !direction) return;
   event.preventDefault();
-  stop();
-  if (event.shiftKey) goToBeat(direction);
-  else go(now.step + direction);
+  go(now.step + direction);
 }
 
 function goToHash() {
@@ -130,11 +88,11 @@ function goToHash() {
 
 function listen() {
   const acts = {
-    first: () => pick(1), back: () => pick(now.step - 1), next: () => pick(now.step + 1),
-    last: () => pick(current().frames.length), play: togglePlay,
+    first: () => go(1), back: () => go(now.step - 1), next: () => go(now.step + 1),
+    last: () => go(current().frames.length),
   };
   for (const [id, act] of Object.entries(acts)) find(id).addEventListener("click", act);
-  find("slider").addEventListener("input", (event) => pick(Number(event.target.value)));
+  find("slider").addEventListener("input", (event) => go(Number(event.target.value)));
   find("which").addEventListener("change", (event) => show(event.target.value, stories.get(event.target.value).start));
   find("file").addEventListener("change", openFile);
   find("facts").addEventListener("toggle", draw);
@@ -142,6 +100,7 @@ function listen() {
   window.addEventListener("hashchange", goToHash);
 }
 
+/** Measures anew when the window has another width, once that stays for a moment. */
 function watchWidth() {
   let width = window.innerWidth;
   let timer = null;
@@ -149,16 +108,13 @@ function watchWidth() {
     if (window.innerWidth === width) return;
     width = window.innerWidth;
     window.clearTimeout(timer);
-    timer = window.setTimeout(() => {
-      measure();
-      draw();
-    }, 150);
+    timer = window.setTimeout(() => show(now.name, now.step), 150);
   });
 }
 
 for (const element of document.querySelectorAll("pre[data-trace]")) {
   const { trace, start, section } = element.dataset;
-  addStory(trace, element.textContent, { start: Number(start ?? 1), section });
+  addStory(trace, element.textContent, { start: Number(start), section });
 }
 find("tied").append(arrow("tied"));
 find("owed").append(arrow("owed", "pass 1 owes"));

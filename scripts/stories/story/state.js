@@ -1,88 +1,71 @@
-// What a trace has said of the heap up to a step, and what the step changed of it. Steps are counted from 1. Nothing is
-// worked out that the trace does not say: a part that a step did not touch is as the trace last showed it.
+// What a trace says of the heap at a frame, and what its event changed. Nothing is worked out that the trace does not
+// say: a part that an event did not touch is as the trace last showed it.
 
-/** Each page and shard that was shown up to this step, by its name, with the step that showed it last. */
-export function shownAt(frames, step) {
-  const shown = new Map();
-  frames.slice(0, step).forEach((frame, at) => {
-    for (const part of frame.parts) shown.set(part.name, { part, step: at + 1 });
-  });
-  return shown;
+/** The words of a row. A word that this frame changed has what it was before; the others have null. */
+export function wordsAt(frame, part, row) {
+  const before = part.step === frame.number ? frame.before?.parts.get(part.name)?.rows.get(row) : null;
+  return part.rows.get(row).map((now, at) => ({ now, was: (before?.[at] ?? now) === now ? null : before[at] }));
+}
+
+/** The items of a list, each with whether its link is still owed: `1 -> 0 ~> end`. */
+export function itemsOf(part, list) {
+  const text = part.rows.get(list)?.[0] ?? "";
+  return [...text.matchAll(/(\d+) ([-~])> /g)].map(([, item, link]) => ({ item, owed: link === "~" }));
+}
+
+/** Which of the six states a slot is in: its kind, and for an empty one who has it. */
+export function stateOf(kind, rest) {
+  return kind === "Empty" ? { own: "own", in: "hand", queued: "queued" }[rest.split(/[ ,]/)[0]] : kind.toLowerCase();
+}
+
+/** The slots of a page, each with its name in the heap. */
+export function slotsOf(part) {
+  return [...part.rows].filter(([row]) => row.startsWith("slot ")).map(([row, [kind, generation, count, rest]]) => ({
+    at: `${part.number}.${row.slice("slot ".length)}`, kind, rest,
+    generation: generation.slice("generation ".length), count: Number(count.slice("count ".length)),
+  }));
+}
+
+export function partsOf(frame, kind) {
+  return [...frame.parts.values()].filter((part) => part.kind === kind);
+}
+
+/** The passes whose hand begins like this. */
+export function handsThatBegin(frame, start) {
+  return [...frame.passes.values()].filter(({ hand }) => hand.startsWith(start)).map(({ pass }) => pass);
+}
+
+/** The replies up to a frame: the frames whose answer is an entry of the log. */
+export function repliesUpTo(story, frame) {
+  return story.frames.slice(0, frame.number).filter(({ answer }) => /^[A-Z]/.test(answer));
 }
 
 export function partNames(frames) {
-  const names = new Set(frames.flatMap((frame) => frame.parts.map((part) => part.name)));
-  return [...names].sort(new Intl.Collator("en", { numeric: true }).compare);
+  return [...frames.at(-1).parts.keys()].sort(new Intl.Collator("en", { numeric: true }).compare);
 }
 
 export function passNames(frames) {
-  const named = frames.flatMap((frame) => [frame.pass, ...frame.passes.map((pass) => pass.pass)]);
+  const named = frames.flatMap((frame) => [frame.pass, ...frame.passes.keys()]);
   return [...new Set(named)].sort((a, b) => a - b);
 }
 
-/** What a frame says of a pass. A pass that has begun, owns and holds nothing has no line. */
-export function passIn(frame, number) {
-  return frame?.passes.find((pass) => pass.pass === number) ?? null;
-}
+const classed = (part) => `${part.name} ${part.rows.get("")[0]}`;
 
-export function handsThatBegin(passes, start) {
-  return passes.filter(({ hand }) => hand.startsWith(start)).map(({ pass }) => pass);
-}
-
-/** The replies up to a step: the frames whose answer is an entry of the log. */
-export function repliesUpTo(frames, step) {
-  return frames.slice(0, step).filter((frame) => /^[A-Z]/.test(frame.answer));
-}
-
-/** The single slots of runs that are alike, each with its number and its name in the heap. */
-export function slotsOf(part) {
-  return part.slots.flatMap((run) => Array.from({ length: run.last - run.first + 1 }, (_, at) => (
-    { ...run, number: run.first + at, at: `${part.number}.${run.first + at}` }
-  )));
-}
-
-const classed = (part) => `${part.name} ${part.about[0]}`;
-
-/** The first slots of the runs of slots that are alike in all frames, for each page and class. */
-export function runStarts(frames) {
-  const starts = new Map();
-  for (const part of frames.flatMap((frame) => frame.parts)) {
-    const found = starts.get(classed(part)) ?? new Set();
-    for (const slot of part.slots) found.add(slot.first);
-    starts.set(classed(part), found);
+/** The slots at which a line of the trace begins in any frame, for each page and class. */
+export function firstSlots(frames) {
+  const found = new Map();
+  for (const part of frames.flatMap((frame) => partsOf(frame, "page"))) {
+    found.set(classed(part), new Set([...(found.get(classed(part)) ?? []), ...part.firsts]));
   }
-  return starts;
+  return found;
 }
 
-/** The slots of a page, cut where a run begins in any frame: so they have the same places in all frames. */
-export function cutSlots(part, starts) {
-  const cuts = [...(starts.get(classed(part)) ?? [])].sort((a, b) => a - b);
-  return part.slots.flatMap((slot) => {
-    const firsts = cuts.filter((cut) => cut >= slot.first && cut <= slot.last);
-    return firsts.map((first, at) => ({ ...slot, first, last: (firsts[at + 1] ?? slot.last + 1) - 1 }));
+/** The slots of a page in boxes, each with its first row and its name. They have the same places in all frames. */
+export function boxesOf(story, part) {
+  const firsts = [...(story.firsts.get(classed(part)) ?? [])].sort((a, b) => a - b);
+  const all = slotsOf(part).length;
+  return firsts.map((first, at) => {
+    const last = (firsts[at + 1] ?? all) - 1;
+    return { row: `slot ${first}`, name: first === last ? `slot ${first}` : `slots ${first} to ${last}` };
   });
-}
-
-export function slotAt(part, number) {
-  return part?.slots.find((slot) => slot.first <= number && number <= slot.last);
-}
-
-const FIELDS = ["kind", "generation", "count", "rest"];
-
-export function slotChanges(slot, before) {
-  const old = slotAt(before, slot.first);
-  const changed = old ? FIELDS.filter((field) => old[field] !== slot[field]) : [];
-  return new Map(changed.map((field) => [field, old[field]]));
-}
-
-/** The words on a page or a shard that changed, by their place, each with what it was. */
-export function aboutChanges(part, before) {
-  if (!before) return new Map();
-  if (before.about.length !== part.about.length) return new Map([[0, before.about.join("; ")]]);
-  return new Map([...before.about.entries()].filter(([at, was]) => was !== part.about[at]));
-}
-
-export function linksBefore(links, before) {
-  const old = before?.links.find((other) => other.name === links.name);
-  return old && old.text !== links.text ? old.text : null;
 }

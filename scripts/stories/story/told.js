@@ -1,12 +1,12 @@
 // Draws what happened in a step: the comment of the script, the event with its answer, a sentence, and what it changed.
 
-import { aboutChanges, cutSlots, linksBefore, passIn, shownAt, slotChanges } from "./state.js";
 import { el, gloss } from "./dom.js";
-import { sentence, slotChangeText, slotName } from "./words.js";
+import { boxesOf, wordsAt } from "./state.js";
+import { sentence } from "./words.js";
 
-function beatLine(frames, step) {
-  const at = frames.slice(0, step).findLastIndex((frame) => frame.story);
-  return el("p", `beat${at === step - 1 ? " new" : ""}`, at < 0 ? "" : frames[at].story);
+function commentLine(story, frame) {
+  const last = story.frames.slice(0, frame.number).findLast(({ comment }) => comment);
+  return el("p", `beat${last === frame ? " new" : ""}`, last?.comment ?? "");
 }
 
 function eventLine(frame) {
@@ -17,23 +17,21 @@ function eventLine(frame) {
     answer);
 }
 
-function changesOf(part, before, starts) {
-  if (!before) return [`${part.name} is shown for the first time`];
-  const about = [...aboutChanges(part, before)].map(([at, was]) => `${was} → ${part.about[at]}`);
-  const slots = cutSlots(part, starts).map((slot) => [slot, slotChanges(slot, before)])
-    .filter(([, changes]) => changes.size)
-    .map(([slot, changes]) => `${slotName(slot)}: ${slotChangeText(slot, changes)}`);
-  const lists = part.links.filter((links) => linksBefore(links, before) !== null)
-    .map((links) => `${links.name}: was ${linksBefore(links, before)}, now ${links.text}`);
-  return [...about, ...slots, ...lists].map((text) => `${part.name}, ${text}`);
+/** What the event changed of a part, in a line for each row of it. */
+function changesOf(story, frame, part) {
+  if (!frame.before?.parts.has(part.name)) return [`${part.name} is shown for the first time`];
+  const lists = part.lists.map((name) => ({ row: name, name }));
+  return [{ row: "", name: "" }, ...boxesOf(story, part), ...lists].flatMap(({ row, name }) => {
+    const changed = wordsAt(frame, part, row).filter(({ was }) => was !== null);
+    const texts = changed.map(({ now, was }) => `${was || "nothing"} → ${now || "nothing"}`);
+    return texts.length ? [`${part.name}${name && `, ${name}`}: ${texts.join("; ")}`] : [];
+  });
 }
 
-export function told(story, step) {
-  const frame = story.frames[step - 1];
-  const before = shownAt(story.frames, step - 1);
-  const said = el("p", "sentence", sentence(frame, passIn(story.frames[step - 2], frame.pass)));
-  const texts = frame.parts.flatMap((part) => changesOf(part, before.get(part.name)?.part, story.starts));
-  const items = texts.length ? texts : ["no page and no shard changed"];
-  const changes = el("ul", "changes", ...items.map((text) => el("li", "", text)));
-  return [beatLine(story.frames, step), eventLine(frame), said, changes];
+export function told(story, frame) {
+  const touched = [...frame.parts.values()].filter((part) => part.step === frame.number);
+  const changes = touched.flatMap((part) => changesOf(story, frame, part));
+  const items = changes.length ? changes : ["no page and no shard changed"];
+  const list = el("ul", "changes", ...items.map((text) => el("li", "", text)));
+  return [commentLine(story, frame), eventLine(frame), el("p", "sentence", sentence(frame)), list];
 }

@@ -1,5 +1,5 @@
-// One sentence on an event, and what it changed of a slot. Each action has its words; all else is of the trace: the
-// words of the event, its answer, and what the pass had in its hand before it.
+// One sentence on an event. Each action has its words; all else is of the trace: the words of the event, its answer,
+// and what the pass had in its hand before it.
 
 // Each action as a verb and what it is done to. Where an action goes on with what was begun, `hand` says what that was.
 const ACTIONS = {
@@ -58,7 +58,8 @@ function doneBy(verb) {
 }
 
 /** The verb of the event and what it is done to. The hand counts only if the event is the one that goes on with it. */
-function actionOf(frame, before) {
+function actionOf(frame) {
+  const before = frame.before?.passes.get(frame.pass);
   const [kind, ...words] = frame.event;
   const action = ACTIONS[kind === "Enter" ? words.shift() : kind];
   if (!action) return ["do", frame.event.join(" ")];
@@ -67,8 +68,8 @@ function actionOf(frame, before) {
   return [verb, otherwise && !isNext ? otherwise : object(isNext ? before.hand : "", ...words)];
 }
 
-export function sentence(frame, before) {
-  const [verb, object] = actionOf(frame, before);
+export function sentence(frame) {
+  const [verb, object] = actionOf(frame);
   const [word, ...rest] = frame.answer.split(" ");
   const who = `Pass ${frame.pass}`;
   const reason = rest.join(" ");
@@ -76,16 +77,4 @@ export function sentence(frame, before) {
   if (word === "moved:") return `${who} tries to ${verb} ${object}: ${reason}.`;
   const entry = ENTRIES[word]?.(...rest);
   return `${who} ${doneBy(verb)} ${object}${entry ? `: ${entry}` : ""}.`;
-}
-
-export function slotName(slot) {
-  return slot.first === slot.last ? `slot ${slot.first}` : `slots ${slot.first} to ${slot.last}`;
-}
-
-export function slotChangeText(slot, changes) {
-  const named = { generation: "generation ", count: "count " };
-  const texts = [...changes].map(([field, was]) => (
-    `${named[field] ?? ""}${was || "nothing"} → ${slot[field] || "nothing"}`
-  ));
-  return texts.join("; ");
 }
