@@ -1,6 +1,5 @@
 """A page in a headless Chromium, spoken to over pipes by the DevTools protocol. It needs Python's own modules alone."""
 
-import fcntl
 import json
 import os
 import select
@@ -23,30 +22,17 @@ def found():
     return next((path for name in NAMES if (path := shutil.which(name))), None)
 
 
-def pipe():
-    """Both ends of a pipe, numbered from 10 on, so that none is in the way of 3 and 4."""
-    ends = os.pipe()
-    moved = tuple(fcntl.fcntl(end, fcntl.F_DUPFD_CLOEXEC, 10) for end in ends)
-    for end in ends:
-        os.close(end)
-    return moved
-
-
 class Browser:
     """One page of a Chromium of its own. `errors` has what the page reported."""
 
     def __init__(self):
         self.errors, self.count, self.rest, self.session = [], 0, b"", None
         self.folder = tempfile.TemporaryDirectory(prefix="story-browser-", ignore_cleanup_errors=True)
-        theirs_in, self.to = pipe()
-        self.come, theirs_out = pipe()
         # Chromium reads what is asked on descriptor 3, and answers on 4.
-        words = [found(), *FLAGS, f"--user-data-dir={self.folder.name}"]
-        shell = f'exec "$@" 3<&{theirs_in} 4>&{theirs_out} {theirs_in}<&- {theirs_out}>&-'
-        self.process = subprocess.Popen(["bash", "-c", shell, "bash", *words, "about:blank"], start_new_session=True,
-                                        pass_fds=(theirs_in, theirs_out), stderr=subprocess.DEVNULL)
-        os.close(theirs_in)
-        os.close(theirs_out)
+        shell = 'exec "$@" 3<&0 4>&1 0< /dev/null 1> /dev/null'
+        words = [found(), *FLAGS, f"--user-data-dir={self.folder.name}", "about:blank"]
+        self.process = subprocess.Popen(["bash", "-c", shell, "bash", *words], stdin=subprocess.PIPE, bufsize=0,
+                                        stdout=subprocess.PIPE, stderr=subprocess.DEVNULL, start_new_session=True)
         target = next(it for it in self.call("Target.getTargets")["targetInfos"] if it["type"] == "page")
         self.session = self.call("Target.attachToTarget", targetId=target["targetId"], flatten=True)["sessionId"]
         for domain in ("Page", "Runtime", "Log"):
@@ -57,16 +43,14 @@ class Browser:
 
     def __exit__(self, *_):
         os.killpg(self.process.pid, signal.SIGKILL)
-        self.process.wait()
-        os.close(self.to)
-        os.close(self.come)
+        self.process.communicate()
         self.folder.cleanup()
 
     def call(self, method, **words):
         self.count += 1
         session = {"sessionId": self.session} if self.session else {}
         sent = {"id": self.count, "method": method, "params": words, **session}
-        os.write(self.to, json.dumps(sent).encode() + b"\0")
+        self.process.stdin.write(json.dumps(sent).encode() + b"\0")
         while True:
             got = self.message()
             self.note(got)
@@ -77,9 +61,9 @@ class Browser:
 
     def message(self):
         while b"\0" not in self.rest:
-            if not select.select([self.come], [], [], SECONDS)[0]:
+            if not select.select([self.process.stdout], [], [], SECONDS)[0]:
                 raise TimeoutError(f"the browser said nothing for {SECONDS} seconds")
-            read = os.read(self.come, 1 << 16)
+            read = self.process.stdout.read(1 << 16)
             if not read:
                 raise RuntimeError("the browser ended")
             self.rest += read

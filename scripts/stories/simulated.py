@@ -9,11 +9,8 @@ from stories.compared import compare_step, same
 from tree import program
 
 PROGRAM = program("shardheap")
-# The story that is done by clicks on a new heap, which begins as the story does.
-STORY = "two_removers"
-BEGUN = 6
-# Two passes are on the slot here, and the reader lets the other one mark first.
-FORK = 8
+# Two passes are on the slot at this step of the story, and the reader lets the other one mark first.
+STORY, FORK = "two_removers", 8
 STEPS, SEED = 25, 7
 
 READY = """new Promise((done, fail) => {
@@ -57,10 +54,6 @@ class Choices:
             .find((one) => one.querySelector(".event").textContent === {event!r})?.click()""")
         return self.line()
 
-    def give_value(self, words):
-        self.page.of("value", f"value = {' '.join(words)!r}")
-        self.act('document.getElementById("value").dispatchEvent(new Event("change"))')
-
     def line(self):
         text = self.page.run('document.querySelector("#told .line").textContent')
         return " ".join(text.removeprefix("pass ").split())
@@ -84,18 +77,6 @@ class Choices:
             yield from same("replies of shardheap steps", shown, said)
 
 
-def check_story_by_clicks(page, path, text):
-    choices = Choices(page, path)
-    choices.press("fresh")
-    for step in trace.read(text).steps[BEGUN:]:
-        if step.name() == "Fill" and step.action() != "Fill":
-            choices.give_value(step.event.split()[3:])
-        yield from same(f"step {step.number} by a click", choices.choose(step.by(), step.action()),
-                        f"{step.event} {step.answer}")
-    yield from same("the page's script", choices.script(), [it[2:] for it in text.splitlines() if it.startswith("> ")])
-    yield from choices.check_replies()
-
-
 def check_fork(page, path):
     """Another pass than the one of the story, a step back, and the way back to the story."""
     choices = Choices(page, path, f"#{STORY}/{FORK}")
@@ -114,10 +95,14 @@ def check_fork(page, path):
 
 
 def check_walk(page, path):
-    """Steps by chance: each is done as it was said, and the clauses hold."""
+    """A new heap, with values of two words and steps by chance: each is done as it was said, and the clauses hold."""
     chance, choices = random.Random(SEED), Choices(page, path)
     page.of("facts", "open = true")
     choices.press("fresh")
+    page.of("value", 'value = "7 8"')
+    choices.act('document.getElementById("value").dispatchEvent(new Event("change"))')
+    fills = [event for event in choices.all()["0"] if event.endswith(" 7 8")]
+    yield from same("fills", fills, ["Fill 0.0.1 7 8", "Fill 0.0.2 7 8"])
     for _ in range(STEPS):
         number, events = chance.choice([(one, found) for one, found in choices.all().items() if found])
         event, reply = chance.choice(list(events.items()))
@@ -149,7 +134,6 @@ def check_refused(page, path):
 def check_simulator(page, path, texts, seen):
     """What is wrong with the simulator. A page that does not go on is wrong too."""
     try:
-        yield from check_story_by_clicks(page, path, texts[STORY])
         yield from check_fork(page, path)
         yield from check_walk(page, path)
         yield from check_scripts(page, path, texts, seen)

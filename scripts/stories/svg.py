@@ -92,19 +92,17 @@ def drawn(text):
     head = re.match(r'<svg .* width="(\d+)" height="(\d+)" .*>\n<title>(.*)</title>\n<desc>(.*)</desc>', text)
     picture = Picture(int(head[1]), int(head[2]), unescape(head[3]), unescape(head[4]))
     picture.items = re.split(r'<rect class="page".*\n|</svg>\n', text)[1].splitlines()
-    middle, width = -1, 0
+    box = None
     for item in picture.items:
-        box = re.match(r'<rect x="(.*?)" y=".*?" width="(.*?)"', item)
         said = TEXT.match(item)
-        if box:
-            middle, width = float(box[1]) + float(box[2]) / 2, float(box[2])
-        elif said:
-            x, y, size, words = float(said[1]), float(said[2]), int(said[3]), unescape(said[5])
-            picture.claim(x, y, words, size, said[4])
-            if said[4] == "middle" and abs(x - middle) < 0.1 and len(words) * LETTER[size] > width:
-                raise ValueError(f"a text leaves its box: {words}")
-        else:
-            middle = -1
+        if not said:
+            box = re.match(r'<rect x="(.*?)" y=".*?" width="(.*?)"', item)
+            continue
+        x, y, size, words = float(said[1]), float(said[2]), int(said[3]), unescape(said[5])
+        picture.claim(x, y, words, size, said[4])
+        is_inside = box and said[4] == "middle" and abs(x - float(box[1]) - float(box[2]) / 2) < 0.1
+        if is_inside and len(words) * LETTER[size] > float(box[2]):
+            raise ValueError(f"a text leaves its box: {words}")
     return picture
 
 
