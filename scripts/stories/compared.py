@@ -9,16 +9,6 @@ def same(what, seen, expected):
         yield f"{what}: the page says {seen!r}, the trace {expected!r}"
 
 
-def numbered(name):
-    """The names of single slots that a name stands for, as `slots 0 to 2`."""
-    found = re.fullmatch(r"slots (\d+) to (\d+)", name)
-    return [f"slot {number}" for number in range(int(found[1]), int(found[2]) + 1)] if found else [name]
-
-
-def by_name(rows):
-    return {name: words for names, words in rows for name in numbered(names)}
-
-
 def changes_of(step, part):
     """The rows of a part that a step changed: their words that are others, each with what it was."""
     before = step.before.parts.get(part.name) if step.before and part.step == step.number else None
@@ -35,11 +25,10 @@ def compare_part(seen, step):
         return
     changes = changes_of(step, part)
     for what, shown, expected in (
-        ("words", by_name(seen["rows"]), part.rows),
+        ("words", dict(seen["rows"]), part.rows),
         ("age", seen["age"], "" if part.step == step.number else f"as step {part.step} showed it"),
-        ("new words", by_name(seen["lit"]), {row: [now for _, now in words] for row, words in changes.items()}),
-        ("outlined slots", [one for names in seen["outlined"] for one in numbered(names)],
-         [row for row in changes if row.startswith("slot ")]),
+        ("new words", dict(seen["lit"]), {row: [now for _, now in words] for row, words in changes.items()}),
+        ("outlined slots", seen["outlined"], [row for row in changes if row.startswith("slot ")]),
         ("arrows", seen["owing"], [f"pass {step.owing(part, item)} owes" for links in part.links().values()
                                    for item, is_owed in links if is_owed]),
     ):
@@ -67,19 +56,13 @@ def compare_sentence(sentence, step):
 
 
 def lines_of(step):
-    """The list of changes, with a line for each slot."""
+    """The list of changes, with a line for each row."""
     for part in step.touched():
         if not step.before or part.name not in step.before.parts:
             yield f"{part.name} is shown for the first time"
         for row, words in changes_of(step, part).items():
             changes = "; ".join(f"{was or 'nothing'} → {now or 'nothing'}" for was, now in words)
             yield f"{part.name}{row and ', '}{row}: {changes}"
-
-
-def single(line):
-    """A line of the list of changes as one for each slot."""
-    found = re.match(r"(page \S+, )(slots \d+ to \d+)(: .*)", line)
-    return [f"{found[1]}{name}{found[3]}" for name in numbered(found[2])] if found else [line]
 
 
 def compare_row(row, step):
@@ -96,8 +79,7 @@ def compare_step(seen, step, count):
         ("odd word", seen["odd"], ""), ("too wide", seen["wide"], []), ("clauses that do not hold", seen["broken"], []),
         ("parts", sorted(set(step.parts) - {part["name"] for part in seen["parts"]}), []),
         ("passes", sorted(set(step.passes) - {one["name"] for one in seen["passes"]}), []),
-        ("list of changes", [one for line in seen["changes"] for one in single(line)],
-         [*lines_of(step)] or ["no page and no shard changed"]),
+        ("list of changes", seen["changes"], [*lines_of(step)] or ["no page and no shard changed"]),
     ):
         yield from same(what, shown, expected)
     yield from compare_sentence(seen["sentence"], step)

@@ -1,7 +1,7 @@
 // Draws the shards and pages as the trace last showed them: slots as boxes, stacks, chains and bells as arrows.
 
 import { arrow, el, gloss, heard, lit, steady } from "./dom.js";
-import { boxesOf, handsThatBegin, itemsOf, stateOf, wordsAt } from "./state.js";
+import { handsThatBegin, itemsOf, stateOf, wordsAt } from "./state.js";
 
 const FIELDS = ["kind", "generation", "count", "rest"];
 
@@ -11,10 +11,10 @@ function inBoxes(text) {
   return first === "value" ? [first, ...words.flatMap((word) => [" ", el("span", "word", word)])] : [text];
 }
 
-function slotBox(frame, part, { row, name }) {
+function slotBox(frame, part, row) {
   const words = wordsAt(frame, part, row);
   const [kind, ...fields] = words.map(({ now, was }, at) => lit(el("span", FIELDS[at], ...inBoxes(now)), was));
-  const top = el("span", "top", el("span", "number", name), " ", kind);
+  const top = el("span", "top", el("span", "number", row), " ", kind);
   const box = el("li", `slot ${stateOf(words[0].now, words[3].now)}`, top, ...fields.flatMap((field) => [" ", field]));
   if (words.some(({ was }) => was !== null)) {
     box.classList.add("changed");
@@ -45,7 +45,7 @@ function listRow(frame, part, name) {
   return steady(el("div", "links", el("span", "name", name), " ", row), `${part.name} ${name}`);
 }
 
-function partCard(story, frame, name) {
+function partCard(frame, name) {
   const part = frame.parts.get(name);
   const card = steady(el("article", `card part${part ? "" : " unseen"}`), name);
   card.setAttribute("aria-label", name);
@@ -57,7 +57,7 @@ function partCard(story, frame, name) {
   // (when the trace showed the part, unless it was in this step)
   const age = el("span", "age gloss", part.step === frame.number ? "" : `as step ${part.step} showed it`);
   const said = el("p", "said", el("strong", "name", name), " ", ...words);
-  const boxes = boxesOf(story, part).map((box) => slotBox(frame, part, box));
+  const boxes = [...part.rows.keys()].filter((row) => row.startsWith("slot ")).map((row) => slotBox(frame, part, row));
   card.append(steady(el("div", "about-row", said, age), `${name} about`));
   if (boxes.length) card.append(el("ul", "slots", ...boxes));
   card.append(el("div", `lists of-${part.kind}`, ...part.lists.map((list) => listRow(frame, part, list))));
@@ -65,5 +65,5 @@ function partCard(story, frame, name) {
 }
 
 export function heapCards(story, frame) {
-  return story.parts.map((name) => partCard(story, frame, name));
+  return story.parts.map((name) => partCard(frame, name));
 }

@@ -18,7 +18,7 @@
   const texts = (root, selector) => all(root, selector).map(said);
   const text = (id) => document.getElementById(id).textContent;
 
-  /** The words of a part by its rows: its own, those of each box of slots, and its lists. `lit` is "" or ".lit". */
+  /** The words of a part by its rows: its own, those of each slot, and its lists. `lit` is "" or ".lit". */
   function rows(card, lit) {
     const slots = all(card, ".slot").map((slot) => (
       [texts(slot, ".number")[0], texts(slot, ["kind", "generation", "count", "rest"].map((one) => `.${one}${lit}`))]

@@ -48,24 +48,3 @@ export function passNames(frames) {
   const named = frames.flatMap((frame) => [frame.pass, ...frame.passes.keys()]);
   return [...new Set(named)].sort((a, b) => a - b);
 }
-
-const classed = (part) => `${part.name} ${part.rows.get("")[0]}`;
-
-/** The slots at which a line of the trace begins in any frame, for each page and class. */
-export function firstSlots(frames) {
-  const found = new Map();
-  for (const part of frames.flatMap((frame) => partsOf(frame, "page"))) {
-    found.set(classed(part), new Set([...(found.get(classed(part)) ?? []), ...part.firsts]));
-  }
-  return found;
-}
-
-/** The slots of a page in boxes, each with its first row and its name. They have the same places in all frames. */
-export function boxesOf(story, part) {
-  const firsts = [...(story.firsts.get(classed(part)) ?? [])].sort((a, b) => a - b);
-  const all = slotsOf(part).length;
-  return firsts.map((first, at) => {
-    const last = (firsts[at + 1] ?? all) - 1;
-    return { row: `slot ${first}`, name: first === last ? `slot ${first}` : `slots ${first} to ${last}` };
-  });
-}

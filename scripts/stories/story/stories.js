@@ -1,7 +1,7 @@
 // The stories of the page, and the step that is shown. The reader's own are among them.
 
 import { find } from "./dom.js";
-import { firstSlots, partNames, passNames } from "./state.js";
+import { partNames, passNames } from "./state.js";
 import { readTrace } from "./trace.js";
 
 export const stories = new Map();
@@ -21,7 +21,7 @@ export function addStory(name, text, more = {}) {
   if (!stories.has(name)) find("which").append(new Option(name, name));
   stories.set(name, {
     title: title || name, header, lines, frames, parts: partNames(frames), passes: passNames(frames),
-    firsts: firstSlots(frames), start: 1, ...more,
+    start: 1, ...more,
   });
 }
 

@@ -1,7 +1,7 @@
 // Draws what happened in a step: the comment of the script, the event with its answer, a sentence, and what it changed.
 
 import { el, gloss } from "./dom.js";
-import { boxesOf, wordsAt } from "./state.js";
+import { wordsAt } from "./state.js";
 import { sentence } from "./words.js";
 
 function commentLine(story, frame) {
@@ -18,19 +18,18 @@ function eventLine(frame) {
 }
 
 /** What the event changed of a part, in a line for each row of it. */
-function changesOf(story, frame, part) {
+function changesOf(frame, part) {
   if (!frame.before?.parts.has(part.name)) return [`${part.name} is shown for the first time`];
-  const lists = part.lists.map((name) => ({ row: name, name }));
-  return [{ row: "", name: "" }, ...boxesOf(story, part), ...lists].flatMap(({ row, name }) => {
+  return [...part.rows.keys()].flatMap((row) => {
     const changed = wordsAt(frame, part, row).filter(({ was }) => was !== null);
     const texts = changed.map(({ now, was }) => `${was || "nothing"} → ${now || "nothing"}`);
-    return texts.length ? [`${part.name}${name && `, ${name}`}: ${texts.join("; ")}`] : [];
+    return texts.length ? [`${part.name}${row && `, ${row}`}: ${texts.join("; ")}`] : [];
   });
 }
 
 export function told(story, frame) {
   const touched = [...frame.parts.values()].filter((part) => part.step === frame.number);
-  const changes = touched.flatMap((part) => changesOf(story, frame, part));
+  const changes = touched.flatMap((part) => changesOf(frame, part));
   const items = changes.length ? changes : ["no page and no shard changed"];
   const list = el("ul", "changes", ...items.map((text) => el("li", "", text)));
   return [commentLine(story, frame), eventLine(frame), el("p", "sentence", sentence(frame)), list];

@@ -32,15 +32,13 @@ function readAnswer(trace, pass, kind, answer) {
 function readPart(trace, kind, number, about) {
   const { number: step, parts } = trace.frames.at(-1);
   const rows = new Map([["", about.split("; ")]]);
-  trace.part = { kind, number, name: `${kind} ${number}`, step, rows, firsts: [], lists: [] };
+  trace.part = { kind, number, name: `${kind} ${number}`, step, rows, lists: [] };
   parts.set(trace.part.name, trace.part);
 }
 
 function readSlots(trace, first, last, kind, generation, count, rest) {
-  const { rows, firsts } = trace.part;
-  firsts.push(Number(first));
   for (let at = Number(first); at <= Number(last ?? first); at += 1) {
-    rows.set(`slot ${at}`, [kind, `generation ${generation}`, `count ${count}`, rest ?? ""]);
+    trace.part.rows.set(`slot ${at}`, [kind, `generation ${generation}`, `count ${count}`, rest ?? ""]);
   }
 }
 
