@@ -425,7 +425,7 @@ int main(void) {
     removals();
     chunks();
     beside_threads(false);
-#ifndef ONE_THREAD_GROWS /* see refill_sanitized in scripts/library-checks */
+#ifndef ONE_THREAD_GROWS /* see growing_sanitized in scripts/library-checks */
     beside_threads(true);
 #endif
     printf("walks: %d checks passed\n", checks);
