@@ -18,6 +18,12 @@ columns name a row, and the head of each other column is that of the output. A c
 one whose head ends in `(aim)` keeps the aims. With `NAME, all` the block has all rows of the output's table that has
 the same head. All rows of a block come from one file. A block of which the files have no row stays as it is.
 
+A block that no run has filled is not shown. In its place is a comment with its name and the head of its table, which
+becomes a block with all rows as soon as a file has a table with this head:
+
+    <!-- bench rows to come: NAME
+    | Workload | Threads | ns | -->
+
 Between these two lines are the numbers that are above their aims, most of them ratios, unless no file has one with an
 aim:
 
@@ -37,6 +43,7 @@ import textwrap
 BLOCK = re.compile(
     r"(<!-- bench rows(?:: (?P<name>[\w-]+)(?P<all>, all)?)? -->\n)(?P<body>.*?)(<!-- end of bench rows -->)", re.S
 )
+TO_COME = re.compile(r"<!-- bench rows to come: (?P<name>[\w-]+)\n(?P<head>\|.*\|) -->\n")
 ABOVE = re.compile(r"(<!-- bench missed -->\n).*?(<!-- end of bench missed -->)", re.S)
 # the columns that name a row; of a heap that is opened the number of words is measured
 KEYS = ("Workload", "Threads", "Call", "Map", "Values", "Words")
@@ -117,13 +124,17 @@ def forms(wanted):
     return [next((row[at] for row in wanted.rows if " / " in row[at]), "") for at in range(len(wanted.head))]
 
 
+def has_head(table, head):
+    return list(columns(table.head)) == list(columns(head))
+
+
 def filled(wanted, outputs, name, every):
     """The table of a block with the rows of the last output that has some, and that output."""
     fault = None
     for output in reversed(outputs):
         for table in output.tables:
             if every:
-                if list(columns(table.head)) == list(columns(wanted.head)):
+                if has_head(table, wanted.head):
                     return Table(wanted.head, table.rows), output
                 continue
             rows = found_rows(table, wanted)
@@ -188,6 +199,14 @@ def written(text, document, outputs):
     """The document with its blocks filled, and the names of the blocks that stay as they are."""
     kept = []
 
+    def begun(found):
+        head = cells(found["head"])
+        if not any(has_head(table, head) for output in outputs for table in output.tables):
+            kept.append(found["name"])
+            return found[0]
+        empty = table_text(Table(head, []))
+        return f"<!-- bench rows: {found['name']}, all -->\n\n{empty}\n\n<!-- end of bench rows -->\n"
+
     def block(found):
         name = found["name"] or "rows"
         wanted = tables_of(found["body"].splitlines())
@@ -205,7 +224,7 @@ def written(text, document, outputs):
             return found[0]
         return f"{found[1]}\n{missed_text(outputs, document)}\n\n{found[2]}"
 
-    return ABOVE.sub(above, BLOCK.sub(block, text)), kept
+    return ABOVE.sub(above, BLOCK.sub(block, TO_COME.sub(begun, text))), kept
 
 
 def aimed(outputs):
@@ -261,6 +280,9 @@ DOCUMENT = """Text.
 
 <!-- end of bench rows -->
 """
+COMING = """<!-- bench rows to come: room
+| Removed | Room (aim) | -->
+"""
 
 
 def self_test():
@@ -281,6 +303,13 @@ def self_test():
             wrong.append("a column that is nowhere is not seen")
         if [it.key for it in missed(outputs)] != [("get", "1")] or len(aimed(outputs)) != 2:
             wrong.append("the missed aim is not found alone")
+        if written(COMING, document, outputs) != (COMING, ["room"]):
+            wrong.append("a block begins without a table")
+        text, kept = written(COMING, document, [output_of(other)])
+        if "<!-- bench rows: room, all -->" not in text or "| Room (aim) |\n|---|---|\n| 50 % | 7 |" not in text or kept:
+            wrong.append(text)
+        if written(text, document, [output_of(other)]) != (text, []):
+            wrong.append("a block that began is not the same a second time")
         older = pathlib.Path(room) / "2026-01-01-abc1233.txt"
         older.write_text(PRINTED.replace("0.60-0.67", "0.60-0.97"))
         if missed([output_of(older), *outputs]) != missed(outputs) or len(missed([output_of(older)])) != 2:
