@@ -1,6 +1,7 @@
 //! Measures concurrent maps in whole uses: `uses [--rows WORD] [ROUNDS]` prints a table of times, and `uses latency`,
-//! `uses memory` and `uses room` one each. `uses growing [ROUNDS]` prints those of heaps that grow. `uses picture
-//! RESULTS FILE` draws a kept table of latencies. ../README.md says what they are.
+//! `uses memory` and `uses room` one each. `uses growing [ROUNDS]` prints those of heaps that grow, `uses callers
+//! [ROUNDS]` those of callers that come and go, and `uses walk [ROUNDS]` that of walks. `uses picture RESULTS FILE` draws
+//! a kept table of latencies. ../README.md says what they are.
 #[path = "../../src/gate.rs"]
 mod gate;
 #[path = "../../src/machine.rs"]
@@ -28,6 +29,7 @@ mod scenes;
 mod tables;
 mod together;
 mod turning;
+mod walk;
 
 use maps::Side;
 use probe::CALLS;
@@ -38,7 +40,8 @@ use turning::{row_of, waited_line};
 
 const USAGE: &str = "\
 usage: uses [--rows WORD] [ROUNDS]
-       uses latency | uses memory | uses room | uses growing [ROUNDS]
+       uses latency | uses memory | uses room
+       uses growing [ROUNDS] | uses callers [ROUNDS] | uses walk [ROUNDS]
        uses picture RESULTS FILE";
 const ROUNDS: usize = 3;
 
@@ -79,22 +82,30 @@ fn draw(results: &str, file: &str) -> Result<(), String> {
     fs::write(file, picture).map_err(|why| said(file, why))
 }
 
+// The tables of as many rounds as these words say.
+fn of_rounds(count: &[&str], tables: impl Fn(usize) -> Result<String, String>) -> Result<String, String> {
+    let rounds = match count {
+        [] => ROUNDS,
+        [count] => rounds(count)?,
+        _ => return Err(USAGE.to_string()),
+    };
+    Ok(format!("{}\nrounds: {rounds}\n\n{}\n", machine::text(), tables(rounds)?))
+}
+
 fn printed(words: &[&str]) -> Result<String, String> {
-    let about = |rounds: usize| format!("{}\nrounds: {rounds}\n\n", machine::text());
     match words {
         ["turn", growing::NAME, words @ ..] => growing::report(words).ok_or_else(|| USAGE.to_string()),
+        ["turn", walk::NAME, words @ ..] => walk::report(words).ok_or_else(|| USAGE.to_string()),
         ["turn", side, words @ ..] => report(side, words).ok_or_else(|| USAGE.to_string()),
         ["latency"] => Ok(format!("{}\n\n{}\n", machine::text(), tables::latency()?)),
         ["memory"] => Ok(format!("{}\n", tables::memory()?)),
         ["room"] => Ok(format!("{}\n", tables::room())),
-        ["growing"] => Ok(format!("{}{}\n", about(ROUNDS), growing::tables(ROUNDS)?)),
-        ["growing", count] => Ok(format!("{}{}\n", about(rounds(count)?), growing::tables(rounds(count)?)?)),
         ["picture", results, file] => draw(results, file).map(|()| String::new()),
-        ["--rows", word] => Ok(format!("{}{}\n", about(ROUNDS), tables::uses(ROUNDS, word)?)),
-        ["--rows", word, count] => Ok(format!("{}{}\n", about(rounds(count)?), tables::uses(rounds(count)?, word)?)),
-        [] => Ok(format!("{}{}\n", about(ROUNDS), tables::uses(ROUNDS, "")?)),
-        [count] => Ok(format!("{}{}\n", about(rounds(count)?), tables::uses(rounds(count)?, "")?)),
-        _ => Err(USAGE.to_string()),
+        ["growing", count @ ..] => of_rounds(count, growing::tables),
+        ["callers", count @ ..] => of_rounds(count, growing::of_callers),
+        ["walk", count @ ..] => of_rounds(count, walk::of_walks),
+        ["--rows", word, count @ ..] => of_rounds(count, |rounds| tables::uses(rounds, word)),
+        count => of_rounds(count, |rounds| tables::uses(rounds, "")),
     }
 }
 

@@ -40,6 +40,22 @@ fn run(row: Row, rounds: usize) -> Result<Run, String> {
     Ok(times.map(Times::of))
 }
 
+/// The cell of one run, with this many digits behind the point.
+pub fn told(times: Times, digits: usize) -> String {
+    text(&[times], digits)
+}
+
+/// The same with what was aimed at.
+pub fn aimed(times: Times, digits: usize, aim: &str) -> String {
+    format!("{} ({aim})", told(times, digits))
+}
+
+/// A table with these names above its lines.
+pub fn table(names: &[&str], lines: Vec<String>) -> String {
+    let names: Vec<String> = names.iter().map(|name| name.to_string()).collect();
+    [vec![head(&names)], lines].concat().join("\n")
+}
+
 // One number of each run that has it.
 fn cell(runs: &[Run], digits: usize, of: impl Fn(&Run) -> Option<Times>) -> String {
     let times: Vec<Times> = runs.iter().filter_map(of).collect();

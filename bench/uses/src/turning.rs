@@ -1,9 +1,11 @@
 //! Turns, each in a process of its own: this program is run with the words of one turn.
 use crate::maps::Side;
 use crate::scenes::{self, Row, Scene};
+use crate::times::Times;
 use crate::together::Spent;
 use crate::waiting;
 use std::env;
+use std::ffi::OsStr;
 use std::process::Command;
 
 /// How often a turn is tried in which threads waited for a processor.
@@ -17,6 +19,12 @@ impl Report {
     pub fn numbers(&self, name: &str) -> Option<Vec<f64>> {
         let line = self.0.lines().find_map(|line| line.strip_prefix(name)?.strip_prefix(' '))?;
         line.split_whitespace().map(|word| word.parse().ok()).collect()
+    }
+
+    /// The first number behind a name.
+    pub fn number(&self, name: &str) -> Result<f64, String> {
+        let numbers = self.numbers(name).ok_or_else(|| format!("{name} is not told"))?;
+        numbers.first().copied().ok_or_else(|| format!("{name} has no number"))
     }
 
     // Whether all threads had a processor, or the kernel does not count it.
@@ -50,7 +58,7 @@ pub fn waited_line(side: Side, row: Row, spent: &Spent) -> String {
 }
 
 /// What a turn of this name and these words printed.
-pub fn report_of(name: &str, words: &[String]) -> Result<Report, String> {
+pub fn report_of<W: AsRef<OsStr>>(name: &str, words: &[W]) -> Result<Report, String> {
     let program = env::current_exe().map_err(|why| format!("this program's file: {why}"))?;
     let run = Command::new(program).args(["turn", name]).args(words).output();
     let run = run.map_err(|why| format!("a turn of {name}: {why}"))?;
@@ -71,6 +79,27 @@ pub fn turn(side: Side, words: &[String]) -> Result<Option<Report>, String> {
     Ok(None)
 }
 
+/// What each side returns in each of these rounds. In each round another side is first.
+pub fn of_sides<const N: usize, T>(
+    rounds: usize,
+    mut one: impl FnMut(usize) -> Result<T, String>,
+) -> Result<[Vec<T>; N], String> {
+    let mut all = std::array::from_fn(|_| Vec::new());
+    for round in 0..rounds {
+        for place in 0..N {
+            let at = (round + place) % N;
+            all[at].push(one(at)?);
+        }
+    }
+    Ok(all)
+}
+
+/// The numbers of this name in the rounds, in this unit.
+pub fn times_of(rounds: &[Report], name: &str, unit: f64) -> Result<Times, String> {
+    let numbers: Result<Vec<f64>, String> = rounds.iter().map(|report| Ok(report.number(name)? / unit)).collect();
+    Times::of(numbers?).ok_or_else(|| "there was no round".to_string())
+}
+
 #[cfg(test)]
 mod tests {
     use super::*;
@@ -81,6 +110,7 @@ mod tests {
         assert_eq!(report.numbers("read"), Some(vec![1.0, 2.5]));
         assert_eq!(report.numbers("reads"), Some(vec![7.0]));
         assert_eq!(report.numbers("rea"), None);
+        assert_eq!([report.number("read").ok(), report.number("rea").ok()], [Some(1.0), None]);
         assert!(report.ran_at_once() && Report(String::new()).ran_at_once());
         assert!(!Report("waited 0.5\n".to_string()).ran_at_once());
     }
@@ -103,5 +133,15 @@ mod tests {
             assert_eq!(row_of(&words.iter().map(String::as_str).collect::<Vec<_>>()), Some(row));
         }
         assert_eq!(row_of(&["session-90", "3"]), None);
+    }
+    #[test]
+    fn each_side_is_first_in_turn() {
+        let mut turns = Vec::new();
+        let numbers: [Vec<usize>; 3] = of_sides(2, |at| {
+            turns.push(at);
+            Ok(at)
+        })
+        .expect("no turn fails");
+        assert_eq!((turns, numbers), (vec![0, 1, 2, 1, 2, 0], [vec![0, 0], vec![1, 1], vec![2, 2]]));
     }
 }

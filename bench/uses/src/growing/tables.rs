@@ -1,18 +1,23 @@
-//! The tables: of calls, of fills, of words, and of openings.
+//! The tables: of calls, of fills, of words, and of openings; and of callers and of soaks.
+use super::callers::{self, SHARED_VALUES, THREADS};
 use super::calls::{self, Call, CALLS};
 use super::filling::{self, VALUES};
 use super::opening::{What, ALL};
-use crate::markdown::{head, line};
-use crate::times::{text, Times};
-use crate::turning::{report_of, Report};
+use super::soak::{Order, ORDERS};
+use crate::markdown::line;
+use crate::tables::{aimed, table, told};
+use crate::times::Times;
+use crate::turning::{of_sides, report_of, times_of, Report};
 
 /// What was aimed at. A call in one chunk, one in forty, and the greatest fill are beside those of a plain heap. Words
-/// are beside those of pages that have a class. The others are microseconds and KiB of opening.
+/// are beside those of pages that have a class. A level is beside the first one. The others are microseconds and KiB of
+/// opening.
 const ONE_CHUNK: &str = "1.15";
 const FORTY_CHUNKS: &str = "1.3";
 const FILL: &str = "1.15";
 const AIMED_FILL: u64 = 10_000_000;
 const WORDS: &str = "2";
+const LEVEL: &str = "1.3";
 const MICROSECONDS: &str = "50";
 const KIBIBYTES: &str = "128";
 
@@ -20,47 +25,7 @@ const KIBIBYTES: &str = "128";
 pub const NAME: &str = "growing";
 
 fn turn(words: &[&str]) -> Result<Report, String> {
-    report_of(NAME, &words.iter().map(|word| word.to_string()).collect::<Vec<_>>())
-}
-
-// The first number behind a name.
-fn number(report: &Report, name: &str) -> Result<f64, String> {
-    let numbers = report.numbers(name).ok_or_else(|| format!("{name} is not told"))?;
-    numbers.first().copied().ok_or_else(|| format!("{name} has no number"))
-}
-
-// What each side tells in this number of rounds. In each round another side is first.
-fn of_sides<const N: usize, T>(
-    rounds: usize,
-    mut one: impl FnMut(usize) -> Result<T, String>,
-) -> Result<[Vec<T>; N], String> {
-    let mut all = std::array::from_fn(|_| Vec::new());
-    for round in 0..rounds {
-        for place in 0..N {
-            let at = (round + place) % N;
-            all[at].push(one(at)?);
-        }
-    }
-    Ok(all)
-}
-
-// The times of the rounds, in this unit.
-fn times(rounds: &[Report], name: &str, unit: f64) -> Result<Times, String> {
-    let numbers: Result<Vec<f64>, String> = rounds.iter().map(|report| Ok(number(report, name)? / unit)).collect();
-    Times::of(numbers?).ok_or_else(|| "there was no round".to_string())
-}
-
-fn cell(times: Times, digits: usize) -> String {
-    text(&[times], digits)
-}
-
-fn aimed(times: Times, digits: usize, aim: &str) -> String {
-    format!("{} ({aim})", cell(times, digits))
-}
-
-fn table(names: &[&str], lines: Vec<String>) -> String {
-    let names: Vec<String> = names.iter().map(|name| name.to_string()).collect();
-    [vec![head(&names)], lines].concat().join("\n")
+    report_of(NAME, words)
 }
 
 const OF_CALLS: [&str; 11] = [
@@ -81,15 +46,15 @@ fn call_line(title: &str, [plain, one, forty, of_table, sharded]: [Times; 5]) ->
     line(&[
         title.to_string(),
         "1".to_string(),
-        cell(plain, 1),
-        cell(one, 1),
+        told(plain, 1),
+        told(one, 1),
         aimed(one.over(plain), 2, ONE_CHUNK),
-        cell(forty, 1),
+        told(forty, 1),
         aimed(forty.over(plain), 2, FORTY_CHUNKS),
-        cell(of_table, 1),
-        cell(of_table.over(one), 2),
-        cell(sharded, 1),
-        cell(one.over(sharded), 2),
+        told(of_table, 1),
+        told(of_table.over(one), 2),
+        told(sharded, 1),
+        told(one.over(sharded), 2),
     ])
 }
 
@@ -99,7 +64,7 @@ fn of_calls(rounds: usize) -> Result<String, String> {
         turn(&["calls", calls::SIDES[at].name()])
     })?;
     let of_call = |call: Call| {
-        let of_side = |side: &Vec<Report>| times(side, call.name(), 1.0);
+        let of_side = |side: &Vec<Report>| times_of(side, call.name(), 1.0);
         let [plain, one, forty, of_table, sharded] = sides.each_ref().map(of_side);
         Ok(call_line(call.title(), [plain?, one?, forty?, of_table?, sharded?]))
     };
@@ -129,17 +94,17 @@ fn fill_line(values: u64, rounds: usize) -> Result<String, String> {
         eprintln!("fill with {} values: {}", grouped(values), filling::SIDES[at].name());
         turn(&["fill", filling::SIDES[at].name(), &values.to_string()])
     })?;
-    let of_side = |side: &[Report]| times(side, "nanoseconds", 1.0);
+    let of_side = |side: &[Report]| times_of(side, "nanoseconds", 1.0);
     let [plain, growing, sharded] = [of_side(&plain)?, of_side(&growing)?, of_side(&sharded)?];
     let to_plain = growing.over(plain);
     Ok(line(&[
         format!("open, and fill with {} values, 1 word", grouped(values)),
         "1".to_string(),
-        cell(plain, 1),
-        cell(growing, 1),
-        if values == AIMED_FILL { aimed(to_plain, 2, FILL) } else { cell(to_plain, 2) },
-        cell(sharded, 1),
-        cell(growing.over(sharded), 2),
+        told(plain, 1),
+        told(growing, 1),
+        if values == AIMED_FILL { aimed(to_plain, 2, FILL) } else { told(to_plain, 2) },
+        told(sharded, 1),
+        told(growing.over(sharded), 2),
     ]))
 }
 
@@ -148,11 +113,11 @@ const OF_WORDS: [&str; 4] = ["Workload", "words of all chunks", "of pages with a
 // Nothing of this differs from round to round.
 fn word_line(values: u64) -> Result<String, String> {
     let report = turn(&["words", &values.to_string()])?;
-    let most = number(&report, "most")?;
+    let most = report.number("most")?;
     Ok(line(&[
         format!("words, at {} values", grouped(values)),
-        grouped(number(&report, "chunks")? as u64),
-        grouped(number(&report, "classed")? as u64),
+        grouped(report.number("chunks")? as u64),
+        grouped(report.number("classed")? as u64),
         aimed(Times { least: most, median: most }, 2, WORDS),
     ]))
 }
@@ -162,10 +127,10 @@ const OF_OPENINGS: [&str; 3] = ["Workload", "µs (aim)", "KiB (aim)"];
 fn opening_line(what: What, rounds: usize) -> Result<String, String> {
     let reports: Result<Vec<Report>, String> = (0..rounds).map(|_| turn(&["open", what.name()])).collect();
     let reports = reports?;
-    let (time, bytes) = (times(&reports, "nanoseconds", 1e3)?, times(&reports, "bytes", 1024.0)?);
+    let (time, bytes) = (times_of(&reports, "nanoseconds", 1e3)?, times_of(&reports, "bytes", 1024.0)?);
     let cells = match what {
         What::Growing => [aimed(time, 1, MICROSECONDS), aimed(bytes, 1, KIBIBYTES)],
-        What::Plain | What::Caller => [cell(time, 1), cell(bytes, 1)],
+        What::Plain | What::Caller => [told(time, 1), told(bytes, 1)],
     };
     Ok(line(&[&[what.title().to_string()], &cells[..]].concat()))
 }
@@ -177,6 +142,83 @@ pub fn tables(rounds: usize) -> Result<String, String> {
     let openings: Result<Vec<String>, String> = ALL.into_iter().map(|what| opening_line(what, rounds)).collect();
     let [fills, words] = [table(&OF_FILLS, fills?), table(&OF_WORDS, words?)];
     Ok([of_calls(rounds)?, fills, words, table(&OF_OPENINGS, openings?)].join("\n\n"))
+}
+
+const OF_CALLERS: [&str; 5] = ["Workload", "Threads", "growing heap, µs", "plain heap, µs", "growing to plain"];
+
+fn caller_line(title: String, threads: usize, [growing, plain]: [Times; 2]) -> String {
+    line(&[title, threads.to_string(), told(growing, 2), told(plain, 2), told(growing.over(plain), 2)])
+}
+
+// What both heaps tell of these words, with the name of the heap behind the first one.
+fn of_heaps(rounds: usize, what: &str, rest: &[&str]) -> Result<[Vec<Report>; 2], String> {
+    of_sides(rounds, |at| {
+        let name = callers::SIDES[at].name();
+        eprintln!("{what} {}: {name}", rest.join(" "));
+        turn(&[&[what, name], rest].concat())
+    })
+}
+
+fn microseconds([growing, plain]: &[Vec<Report>; 2], name: &str) -> Result<[Times; 2], String> {
+    Ok([times_of(growing, name, 1e3)?, times_of(plain, name, 1e3)?])
+}
+
+// The lines of a first insert, and of a take and drop.
+fn begun_lines(values: u64, rounds: usize) -> Result<[String; 2], String> {
+    let heaps = of_heaps(rounds, "callers", &[&values.to_string()])?;
+    let title = |what: &str| format!("{what}, beside {} values", grouped(values));
+    Ok([
+        caller_line(title("first insert of a fresh caller"), 1, microseconds(&heaps, "insert")?),
+        caller_line(title("take and drop of a caller"), 1, microseconds(&heaps, "take")?),
+    ])
+}
+
+fn request_line(rounds: usize) -> Result<String, String> {
+    let times = microseconds(&of_heaps(rounds, "requests", &[])?, "nanoseconds")?;
+    Ok(caller_line(format!("a caller a request, beside {} values", grouped(SHARED_VALUES)), THREADS, times))
+}
+
+fn caller_table(rounds: usize) -> Result<String, String> {
+    let begun: Result<Vec<[String; 2]>, String> =
+        callers::VALUES.into_iter().map(|values| begun_lines(values, rounds)).collect();
+    let (inserts, takes): (Vec<String>, Vec<String>) = begun?.into_iter().map(<(String, String)>::from).unzip();
+    Ok(table(&OF_CALLERS, [inserts, takes, vec![request_line(rounds)?]].concat()))
+}
+
+const OF_SOAK: [&str; 4] = ["Workload", "at first, MB", "at most, MB", "ratio (aim)"];
+
+fn level_line(title: &str, first: f64, most: f64) -> String {
+    let ratio = most / first;
+    let megabytes = |bytes: f64| format!("{:.1}", bytes / 1e6);
+    line(&[
+        title.to_string(),
+        megabytes(first),
+        megabytes(most),
+        aimed(Times { least: ratio, median: ratio }, 2, LEVEL),
+    ])
+}
+
+// The lines of the chunks' words and of the process. (The words do not differ from round to round, so there is one.)
+fn soak_lines(order: Order) -> Result<[String; 2], String> {
+    eprintln!("soak {}", order.name());
+    let report = turn(&["soak", order.name()])?;
+    let count = |name: &str| Ok::<String, String>(grouped(report.number(name)? as u64));
+    let title = format!("soak {}, {} inserts, {} values", order.name(), count("inserts")?, count("live")?);
+    let level = |name: &str, what: &str| match report.numbers(name).as_deref() {
+        Some([first, most]) => Ok(level_line(&format!("{title}: {what}"), *first, *most)),
+        _ => Err(format!("{name} has no levels")),
+    };
+    Ok([level("chunks", "words of the chunks")?, level("resident", "the process")?])
+}
+
+fn soak_table() -> Result<String, String> {
+    let lines: Result<Vec<[String; 2]>, String> = ORDERS.into_iter().map(soak_lines).collect();
+    Ok(table(&OF_SOAK, lines?.concat()))
+}
+
+/// The tables of callers that come and go, of this many rounds, and of the soaks.
+pub fn of_callers(rounds: usize) -> Result<String, String> {
+    Ok([caller_table(rounds)?, soak_table()?].join("\n\n"))
 }
 
 #[cfg(test)]
@@ -191,14 +233,9 @@ mod tests {
     }
 
     #[test]
-    fn each_side_is_first_in_turn() {
-        let mut turns = Vec::new();
-        let numbers: [Vec<usize>; 3] = of_sides(2, |at| {
-            turns.push(at);
-            Ok(at)
-        })
-        .expect("no turn fails");
-        assert_eq!((turns, numbers), (vec![0, 1, 2, 1, 2, 0], [vec![0, 0], vec![1, 1], vec![2, 2]]));
+    fn a_level_is_beside_the_first_one() {
+        assert_eq!(level_line("soak", 2e7, 2.5e7), "| soak | 20.0 | 25.0 | 1.25 / 1.25 (1.3) |");
+        assert_eq!(OF_SOAK.len(), 4);
     }
 
     #[test]

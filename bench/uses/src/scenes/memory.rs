@@ -11,8 +11,8 @@ pub const VALUES: usize = 20_000;
 pub const ROUNDS: [usize; 4] = [0, 1, 10, 200];
 const WORDS: usize = 16;
 
-// The bytes of this process that are in memory.
-fn resident() -> usize {
+/// The bytes of this process that are in memory.
+pub fn resident() -> usize {
     let pages = fs::read_to_string("/proc/self/statm").unwrap_or_default();
     pages.split_whitespace().nth(1).and_then(|pages| pages.parse::<usize>().ok()).unwrap_or(0) * 4096
 }

@@ -5,7 +5,7 @@ mod handing;
 mod memory;
 mod session;
 
-pub use memory::{memory, ROUNDS};
+pub use memory::{memory, resident, ROUNDS};
 
 use crate::map::{Map, Room};
 use crate::maps::{Side, Task};
