@@ -4,6 +4,11 @@ use sh_script::{Cause, Fault};
 use std::alloc::Global;
 use std::process::Abort;
 
+fn push_line(text: &mut Vec<u8>, line: &str) {
+    let _ = text.extend_from_slice(line.as_bytes());
+    let _ = text.push(b'\n');
+}
+
 // What a script of these lines writes, and how it ends.
 fn written(alloc: Global, script: &[u8]) -> (Vec<u8>, Result<(), Fault>) {
     let mut input = script;
@@ -12,10 +17,19 @@ fn written(alloc: Global, script: &[u8]) -> (Vec<u8>, Result<(), Fault>) {
     (output, end)
 }
 
-fn writes(rt: &impl Abort, alloc: Global, script: &[u8], wanted: &[u8]) {
-    let (output, end) = written(alloc, script);
+// Each of these lines, after the header, is answered like this.
+fn answers(rt: &impl Abort, alloc: Global, header: &str, turns: &[(&str, &str)]) {
+    let mut script = Vec::new(alloc);
+    let mut wanted = Vec::new(alloc);
+    push_line(&mut script, "version 3");
+    push_line(&mut script, header);
+    for (line, answer) in turns {
+        push_line(&mut script, line);
+        push_line(&mut wanted, answer);
+    }
+    let (output, end) = written(alloc, script.as_slice());
     assert_eq!(rt; end, Ok(()));
-    assert!(rt; output.as_slice() == wanted);
+    assert!(rt; output.as_slice() == wanted.as_slice());
 }
 
 fn ends(rt: &impl Abort, alloc: Global, script: &[u8], wanted: Fault) {
@@ -33,54 +47,66 @@ fn is_fault(rt: &impl Abort, alloc: Global, line: &[u8], cause: Cause) {
 
 #[test]
 fn a_value_is_looked_at_and_taken(rt: HostRuntime) {
-    writes(
-        &rt,
-        rt.alloc(),
-        b"version 3\nheap tiny 1 1 2\n0 adopt 0\n0 insert a 7\n1 look a\n1 take a\n1 look a\n1 take #4096\n",
-        b"0 adopt ok\n0 insert 4096\n1 look 1 7\n1 take 1 7\n1 look refused 2 Gone\n1 take refused 2 Gone\n",
-    );
+    let turns = [
+        ("0 adopt 0", "0 adopt ok"),
+        ("0 insert a 7", "0 insert 4096"),
+        ("1 look a", "1 look 1 7"),
+        ("1 take a", "1 take 1 7"),
+        ("1 look a", "1 look refused 2 Gone"),
+        ("1 take #4096", "1 take refused 2 Gone"),
+    ];
+    answers(&rt, rt.alloc(), "heap tiny 1 1 2", turns.as_slice());
 }
 
 #[test]
 fn a_walk_meets_the_live_keys(rt: HostRuntime) {
-    writes(
-        &rt,
-        rt.alloc(),
-        b"version 3\nheap tiny 1 1 1\n0 adopt 0\n0 insert a 7\n0 insert b 8\n0 walk\n0 next 0\n0 next 2\n0 hold 0\n",
-        b"0 adopt ok\n0 insert 4096\n0 insert 4097\n0 walk 2 4096 4097\n0 next 4096 then 1 1 7\n0 next none\n\
-0 hold 4096 then 1 held\n",
-    );
+    let turns = [
+        ("0 adopt 0", "0 adopt ok"),
+        ("0 insert a 7", "0 insert 4096"),
+        ("0 insert b 8", "0 insert 4097"),
+        ("0 walk", "0 walk 2 4096 4097"),
+        ("0 next 0", "0 next 4096 then 1 1 7"),
+        ("0 next 2", "0 next none"),
+        ("0 hold 0", "0 hold 4096 then 1 held"),
+    ];
+    answers(&rt, rt.alloc(), "heap tiny 1 1 1", turns.as_slice());
 }
 
 #[test]
 fn an_owner_collects_and_prepares(rt: HostRuntime) {
-    writes(
-        &rt,
-        rt.alloc(),
-        b"version 3\nheap tiny 1 1 1\n0 collect\n0 prepare 1\n0 adopt 0\n0 collect\n0 prepare 16\n0 prepare 17\n0 leave\n",
-        b"0 collect refused 10 NoShard\n0 prepare refused 10 NoShard\n0 adopt ok\n0 collect ok\n0 prepare 0\n\
-0 prepare refused 6 TooLong\n0 leave ok\n",
-    );
+    let turns = [
+        ("0 collect", "0 collect refused 10 NoShard"),
+        ("0 prepare 1", "0 prepare refused 10 NoShard"),
+        ("0 adopt 0", "0 adopt ok"),
+        ("0 collect", "0 collect ok"),
+        ("0 prepare 16", "0 prepare 0"),
+        ("0 prepare 17", "0 prepare refused 6 TooLong"),
+        ("0 leave", "0 leave ok"),
+    ];
+    answers(&rt, rt.alloc(), "heap deep 1 1 1", turns.as_slice());
 }
 
 #[test]
 fn a_growing_heap_finds_its_shards(rt: HostRuntime) {
-    writes(
-        &rt,
-        rt.alloc(),
-        b"version 3\ngrowing 1 1 1 2 2\n0 insert a 5\n1 get a\n1 read a\n1 release a\n1 remove a\n1 adopt 0\n0 leave\n",
-        b"0 insert 16777216\n1 get ok\n1 read 1 5\n1 release ok\n1 remove ok\n1 adopt refused 10 NoShard\n0 leave ok\n",
-    );
+    let turns = [
+        ("0 insert a 5", "0 insert 16777216"),
+        ("1 get a", "1 get ok"),
+        ("1 read a", "1 read 1 5"),
+        ("1 release a", "1 release ok"),
+        ("1 remove a", "1 remove ok"),
+        ("1 adopt 0", "1 adopt refused 10 NoShard"),
+        ("0 leave", "0 leave ok"),
+    ];
+    answers(&rt, rt.alloc(), "growing 1 1 1 2 2", turns.as_slice());
 }
 
 #[test]
 fn a_name_whose_insert_was_refused_is_unbound(rt: HostRuntime) {
-    writes(
-        &rt,
-        rt.alloc(),
-        b"version 3\nheap tiny 1 1 1\n0 insert a 1\n0 get a\n",
-        b"0 insert refused 10 NoShard\n0 get unbound\n",
-    );
+    let turns = [
+        ("0 insert a 1", "0 insert refused 10 NoShard"),
+        ("0 get a", "0 get unbound"),
+    ];
+    answers(&rt, rt.alloc(), "heap tiny 1 1 1", turns.as_slice());
 }
 
 #[test]
