@@ -112,6 +112,13 @@
 //! pass has at most 16 holds. An insert into a full shard is refused as `Full`: leave the shard, and adopt another.
 //! `pages_left` and `slots_out` say how full a shard is.
 //!
+//! Any pass or shard walks over the live keys of the heap by `next_live`, `next_live_into` and `next_held`, while others
+//! insert and remove. `remove_if` walks over all, and removes the keys that a predicate chooses:
+//!
+//! ```text
+//! let count = pass.remove_if(|_key, value| value.words().first().is_some_and(|end| *end < now));
+//! ```
+//!
 //! An owner finds the live keys of its shard by `next_own_key`, one after the other, while other passes go on. Each key
 //! was live at a moment of its call. That a key which nobody removes is found is tested, and no contract says it:
 //!

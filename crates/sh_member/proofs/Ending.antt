@@ -1,6 +1,6 @@
 -- What is left after a get, a removal, a read and a release in a row.
 use Rattle.std.proofs.Common.{◌≡◌, ℕ, ◌+◌, true, List, [], ◌∷◌, ◌++◌, map, length, sym, ◌∙◌, ap}
-use Rattle.std.proofs.Common.{subst, arith, append_assoc, inr, Option, None, IsSome}
+use Rattle.std.proofs.Common.{subst, arith, append_assoc, ◌⊎◌, inl, inr, Option, None, IsSome}
 use Rattle.std.specs.Prelude.{◌==◌, Ok, Err, false}
 use Rattle.std.proofs.lemmas.List.{map-append}
 use Rattle.sh_table.specs.Entry.TheVariants as entry
@@ -35,6 +35,18 @@ remains_along layout u v w before last = record {
   stood = before.stood;
   stands = last.stands;
 }
+
+-- what is left after some calls or none, one call, and another one or none
+pub remains_after : (layout : Layout) (u v w x : Caller) → (Remains layout u v) ⊎ (v ≡ u) → Remains layout v w
+    → (Remains layout w x) ⊎ (x ≡ w) → Remains layout u x
+remains_after layout u v w x before call after = last after where
+  first : (Remains layout u v) ⊎ (v ≡ u) → Remains layout u w
+  first (inl some) = remains_along layout u v w some call
+  first (inr none) = subst (λ (c : Caller). Remains layout c w) none call
+
+  last : (Remains layout w x) ⊎ (x ≡ w) → Remains layout u x
+  last (inl some) = remains_along layout u w x (first before) some
+  last (inr none) = subst (λ (c : Caller). Remains layout u c) (sym none) (first before)
 
 -- a get, a removal that was lost or won, a read and a release
 takes : (k : ℕ) (value : List ℕ) (E : ℕ → Entry) (First Mid Last : List Footstep → Type 0) (v a b c d : Caller)

@@ -4,4 +4,5 @@ pub mod Hearing
 pub mod KeyWalks
 pub mod PlaceWalks
 pub mod OnePlace
+pub mod JudgedKeys
 pub mod TakingInto

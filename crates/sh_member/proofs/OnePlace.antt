@@ -126,16 +126,22 @@ module _ (layout : Layout) (place key : ℕ) (v a : Caller) (p : PeekDoes layout
       let none : None ≡ Some p.first.2.says.0 = sym (subst (λ (z : Plan). place_named z key ≡ None) same is)
       ∙ p.first.2.says.1 in cc
 
-  -- a look that did not see the value
+  -- a look that did not see the value, and left the room as it was
   pub look_missed : (before after : List ℕ) (r : Result Glance Refusal) (w : Caller)
-      → GlanceDoes becomes layout key a before r after w → r ≢ Ok glance.Seen → Skips layout 21 place (place + 1) v w
+      → GlanceDoes becomes layout key a before r after w → r ≢ Ok glance.Seen
+      → Skips layout 21 place (place + 1) v w × (after ≡ before)
   look_missed before after (Ok glance.Seen) w g other = absurd (other refl)
-  look_missed before after (Ok glance.Gone) w g other = missed 21 20 (key ∷ []) w
-      (LookDecided (plan_for layout a) key glance.Gone) (gone_by_look (plan_for layout a) v.view key) one_gone g.0.1
-      (omega arith)
-  look_missed before after (Ok glance.Early) w g other = missed 21 1 [] w
-      (LookDecided (plan_for layout a) key glance.Early) (λ ys so. early_by_look (plan_for layout a) v.view key ys
-      (λ heard. g.1 (still_heard v.view a.view [] key p.same p.log heard)) so) tt g.0.1 (omega arith)
+  look_missed before after (Ok glance.Gone) w g other = (
+    missed 21 20 (key ∷ []) w (LookDecided (plan_for layout a) key glance.Gone)
+        (gone_by_look (plan_for layout a) v.view key) one_gone g.0.1 (omega arith),
+    g.1,
+  )
+  look_missed before after (Ok glance.Early) w g other = (
+    missed 21 1 [] w (LookDecided (plan_for layout a) key glance.Early)
+        (λ ys so. early_by_look (plan_for layout a) v.view key ys
+        (λ heard. g.1 (still_heard v.view a.view [] key p.same p.log heard)) so) tt g.0.1 (omega arith),
+    g.2,
+  )
   look_missed before after (Err refusal.BadKey) w g other = absurd (not_bad g.0)
   look_missed before after (Err _) w g other = absurd g
 

@@ -1,6 +1,6 @@
 -- Walks, one place after the other.
 use Rattle.std.proofs.Common.{◌≡◌, ℕ, zero, suc, ◌+◌, ◌-◌, ◌*◌, ◌<◌, ◌≤◌, ◌⊎◌, inl, inr, List, [], ◌∷◌, ◌++◌, length}
-use Rattle.std.proofs.Common.{refl, sym, ◌∙◌, ap, subst, arith, append_assoc, append-nil, Some, None, Ok, Err}
+use Rattle.std.proofs.Common.{refl, sym, ◌∙◌, ap, subst, arith, append_assoc, append-nil, Option, Some, None, Result, Ok, Err}
 use Rattle.std.specs.Prelude.{min}
 use Rattle.std.proofs.Math.Nat.{min-eq_left, min-eq_right, min-le_left, mul-add}
 use Rattle.std.proofs.lemmas.List.{map-append}
@@ -22,10 +22,12 @@ use Rattle.sh_pass.specs.Peeks.{slot_at}
 use Rattle.sh_pass.proofs.DecidedLaws.{stepped_then}
 use Rattle.sh_pass.proofs.SameTales.{later_same, same_now}
 use Rattle.sh_pass.proofs.Zips.{each_append}
+use Rattle.sh_pass.specs.declared.next_key.NextKey.{NextKey}
 use Rattle.sh_member.specs.declared.walking.NextHeld.{NextHeld}
+use Rattle.sh_member.specs.declared.walking.NextLive.{NextLive}
 use Rattle.sh_member.specs.OwnKeys.{gone_entries}
 use Rattle.sh_member.specs.Walks.{IsKeyBetween, Meets, MissesBetween, NextHeldDoes}
-use Rattle.sh_member.specs.Walks.{PeeksIfFull, Skips, holds_with, live_entry}
+use Rattle.sh_member.specs.Walks.{PeeksIfFull, PutsIfLive, PutsLive, Skips, holds_with, live_entry, with_value}
 use Rattle.sh_pass.proofs.MissedLaws.{misses_keys_after, misses_keys_from, misses_keys_on}
 use Rattle.sh_pass.proofs.PeekLaws.{past_the_heap}
 
@@ -245,6 +247,28 @@ module _ (layout : Layout) (each from place before : ℕ) (v w : Caller)
 
   pub skips_all : Skips layout each from place v w → Skips layout each from before v w
   skips_all p = record { gone = p.gone; there = there_all p.gone p.there; adds = adds_all each p.adds }
+
+-- ---- into a room
+
+-- what a walk did with the key that it met, another does
+pub puts_as : (does others : Option NextLive → Type 0) (before after : List ℕ) (found : Option NextKey)
+    → ((met : Option NextLive) → does met → others met) → PutsLive does before found after
+    → PutsLive others before found after
+puts_as does others before after (Some next) also p = also (Some (with_value next after)) p
+puts_as does others before after None also p = (also None p.0, p.1)
+
+pub puts_if_as : (does others : Result (Option NextLive) Refusal → Type 0) (before after : List ℕ)
+    (answer : Result (Option NextKey) Refusal) → ((met : Result (Option NextLive) Refusal) → does met → others met)
+    → PutsIfLive does before answer after → PutsIfLive others before answer after
+puts_if_as does others before after (Ok found) also p =
+    puts_as (λ met. does (Ok met)) (λ met. others (Ok met)) before after found (λ met. also (Ok met)) p
+puts_if_as does others before after (Err why) also p = (also (Err why) p.0, p.1)
+
+-- it did so with some key, or with none
+pub it_met : (does : Option NextLive → Type 0) (before after : List ℕ) (found : Option NextKey)
+    → PutsLive does before found after → (met : Option NextLive) × does met
+it_met does before after (Some next) p = (Some (with_value next after), p)
+it_met does before after None p = (None, p.0)
 
 -- ---- walks with holds
 

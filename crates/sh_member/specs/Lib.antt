@@ -1,6 +1,7 @@
 pub mod Batches
 pub mod OwnKeys
 pub mod Readers
+pub mod Removing
 pub mod SideBounds
 pub mod Sides
 pub mod ToldKeys

@@ -10,6 +10,7 @@ use Rattle.sh_pass.specs.Peeks.{slot_at}
 use Rattle.sh_pass.specs.Plans.{Plan}
 use Rattle.sh_pass.specs.View.{View}
 use Rattle.sh_pass.specs.Views.{Each}
+use Rattle.sh_pass.specs.declared.next_key.NextKey.{NextKey}
 use Rattle.sh_table.specs.Entry.TheVariants as entry
 use Rattle.sh_table.specs.LogEntry.{LogEntry}
 use Rattle.sh_table.specs.LogEntry.TheVariants.{Known, Unread}
@@ -58,6 +59,22 @@ abbrev pub NextLiveDoes : Layout → (from before : ℕ) → Caller → Option N
 NextLiveDoes layout from before v (Some next) w = Meets layout 21 from before next.key next.behind
     (Known (entry.Seen v.view.pass next.key next.value) ∷ []) (holds v) (length next.value + 5) v w
 NextLiveDoes layout from before v None w = Skips layout 21 from before v w
+
+-- the key that was met, with this value
+abbrev pub with_value : NextKey → List ℕ → NextLive
+with_value next value = record { key = next.key; value = value; behind = next.behind }
+
+-- a walk did this with the key that it met and the value that is in the caller's room then; if it met none, the room is
+-- as it was
+abbrev pub PutsLive : (does : Option NextLive → Type 0) → (before : List ℕ) → Option NextKey → (after : List ℕ) → Type 0
+PutsLive does before (Some next) after = does (Some (with_value next after))
+PutsLive does before None after = does None × (after ≡ before)
+
+-- the same of a walk that may be refused: then the room is as it was
+abbrev pub PutsIfLive : (does : Result (Option NextLive) Refusal → Type 0) → (before : List ℕ)
+    → Result (Option NextKey) Refusal → (after : List ℕ) → Type 0
+PutsIfLive does before (Ok met) after = PutsLive (λ found. does (Ok found)) before met after
+PutsIfLive does before (Err why) after = does (Err why) × (after ≡ before)
 
 -- ---- with holds
 

@@ -1,6 +1,6 @@
 //! What passes and shards have in common: the trait `Reader`, and the type `Member`. `Reader` has the calls on keys
-//! that a pass and the owner of a shard do alike: look, get, read, remove, release and receipts. Its other calls
-//! (take, with and batches) end what they begin, so that no hold is left behind. `next_own_key` finds an owner's
+//! that a pass and the owner of a shard do alike: look, get, read, remove, release and receipts. Take, with, batches and
+//! `remove_if` end what they begin, so that no hold is left behind; walks are by `next_live` and `next_held`. `next_own_key` finds an owner's
 //! keys one after the other, and a `ToldKey` goes to another thread with the receipt of its insert. A `Member` is a
 //! pass or the shard that it owns: it adopts and leaves in place, as a handle needs which others hold by its address.
 //! `src/member` has a file for each kind of its calls.
@@ -20,6 +20,7 @@ pub mod member;
 pub mod own_keys;
 mod pass;
 pub mod reader;
+pub mod removing;
 mod shard;
 pub mod taking;
 pub mod taking_into;

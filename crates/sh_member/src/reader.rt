@@ -10,15 +10,17 @@ ghost use Rattle.sh_pass.specs.Receipts.{heeded, receipt_by};
 ghost use Rattle.sh_member.specs.Batches.{GetsEach, FetchesEach, RemainsAfter};
 ghost use Rattle.sh_pass.specs.Remaining.{Remains};
 ghost use Rattle.sh_member.specs.Readers.{WithDoes, TakeDoes, TakeIntoDoes};
-ghost use Rattle.sh_member.specs.Walks.{NextHeldDoes, NextLiveDoes};
+ghost use Rattle.sh_member.specs.Removing.{RemovesIf, SaysOf, walk_end};
+ghost use Rattle.sh_member.specs.Walks.{NextHeldDoes, NextLiveDoes, PutsLive};
 ghost use Rattle.std.specs.Fn.{FnOnceReturnsAt};
 
 use crate::batches::{fetch_each, get_each};
 use crate::fetching::{fetch, with};
+use crate::removing::remove_if;
 use crate::taking::take;
 use crate::taking_into::take_into;
-use crate::walking::{NextHeld, NextLive, next_held, next_live};
-use sh_pass::{Glance, Receipt};
+use crate::walking::{NextHeld, NextLive, next_held, next_live, next_live_into};
+use sh_pass::{Glance, NextKey, Receipt};
 use sh_value::{Hold, Refusal, Value};
 
 /// A caller that may look keys up: a pass, or a shard by its owner's pass.
@@ -187,22 +189,34 @@ pub trait Reader {
         take_into(self, key, most, value)
     }
 
-    /// The first live key at a place from `from` on and before `before`, with its value, or `None`. A heap has
-    /// `heap_places` places, and there is no key behind them.
+    /// The first live key at a place from `from` on and before `before`, or `None`. Its value replaces the caller's,
+    /// which is as it was if there is no key. A heap has `heap_places` places, and there is no key behind them.
     ///
     /// A walk meets the live keys in the order of their places, each place once. A key that is live from its begin to
     /// its end is met. One that is inserted or removed meanwhile is met or not. A key that is met was live at that
     /// moment. A key whose insert the caller did or heard of by a receipt is met, unless it was removed.
     ///
     /// ```text
+    /// let mut value = Value::from(0);
     /// let mut place = 0;
-    /// while let Some(next) = pass.next_live(place, u64::MAX) {
-    ///     place = next.behind;    // next.key was live, with next.value
+    /// while let Some(next) = pass.next_live_into(place, u64::MAX, &mut value) {
+    ///     place = next.behind;    // next.key was live, with this value
     /// }
     /// ```
     ///
     /// It takes at most 21 loads a place, one in a place without a live key, and w + 5 to read a value of w words. It
     /// writes nothing to shared memory, and leaves no hold.
+    final fn next_live_into(&mut self, from: u64, before: u64, value: &mut Value) -> Option<NextKey>
+    where
+        Self: Sized,
+        ensures does { PutsLive (λ met. NextLiveDoes layout from before (caller self.old) met (caller self.new))
+            value.old result value.new }
+        ensures remains { Remains layout (caller self.old) (caller self.new) }
+    {
+        next_live_into(self, from, before, value)
+    }
+
+    /// The same with the value of the key.
     final fn next_live(&mut self, from: u64, before: u64) -> Option<NextLive>
     where
         Self: Sized,
@@ -222,6 +236,27 @@ pub trait Reader {
         ensures remains { Remains layout (caller self.old) (caller self.new) }
     {
         next_held(self, from, before)
+    }
+
+    /// Removes each key of which the predicate is true, as a walk over all places meets them. Returns how many keys this
+    /// call removed: a key that another caller removed meanwhile is not counted.
+    ///
+    /// ```text
+    /// let count = pass.remove_if(|_key, value| value.words().first().is_some_and(|end| *end < now));
+    /// ```
+    ///
+    /// The predicate is asked once of each key that is met, with the value that the key has. There is no hold while it
+    /// runs. Beside the steps of the walk, a removal takes at most 8 steps.
+    final fn remove_if<F: Fn(u64, &Value) -> bool>(&mut self, predicate: F) -> u64
+    where
+        Self: Sized,
+        F: Drop,
+        requires { F.IsAlwaysCallable predicate }
+        ensures does { RemovesIf (SaysOf F.Fn predicate) (λ from. NextLiveDoes layout from walk_end) (RemoveDoes layout)
+            (caller self.old) result (caller self.new) }
+        ensures remains { Remains layout (caller self.old) (caller self.new) }
+    {
+        remove_if(self, predicate)
     }
 
     /// A get of each key, in order; `results[i]` is what the get of `keys[i]` returned. A refused get stops nothing.

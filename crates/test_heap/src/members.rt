@@ -120,6 +120,14 @@ fn a_walk_of_a_member_is_over_all_shards(rt: HostRuntime) {
     let second = inserted(&rt, rt.alloc(), &mut owner, 1);
     finds_two(&rt, &mut owner, (first, second));
     finds_two(&rt, &mut other, (first, second));
+    agree(&rt, owner.remove_if(|key, _value| key == first), 1);
+    finds(&rt, &mut other, 0, second, 385);
+    agree(
+        &rt,
+        other.remove_if(|_key, value| *value == Value::from(7)),
+        1,
+    );
+    agree(&rt, owner.next_live(0, u64::MAX), None);
 }
 
 // Each of two members knows the shape of the heap, and both together are the whole.

@@ -4,6 +4,7 @@ ghost use Rattle.std.specs.Prelude.{◌≡◌};
 
 use super::*;
 use sh_member::{NextHeld, NextLive, Reader};
+use sh_pass::NextKey;
 use sh_shard::Shard;
 use sh_value::Value;
 
@@ -41,6 +42,25 @@ fn finds<R: Reader>(rt: &impl Abort, reader: &mut R, from: u64, key: u64, word: 
     agree(rt, reader.next_live(from, behind), Some(next));
 }
 
+// The same into a value of the caller's.
+fn finds_into<R: Reader>(
+    rt: &impl Abort,
+    reader: &mut R,
+    from: u64,
+    key: u64,
+    word: u64,
+    behind: u64,
+) {
+    let mut value = Value::of([5, 6]);
+    let next = NextKey { key, behind };
+    agree(
+        rt,
+        reader.next_live_into(from, behind, &mut value),
+        Some(next),
+    );
+    agree(rt, value, Value::from(word));
+}
+
 // The same with a hold, which is released, or with none.
 fn finds_held<R: Reader>(
     rt: &impl Abort,
@@ -58,9 +78,12 @@ fn finds_held<R: Reader>(
     }
 }
 
-// From this place on there is no live key.
+// From this place on there is no live key, and the caller's value stays.
 fn finds_none<R: Reader>(rt: &impl Abort, reader: &mut R, from: u64) {
     agree(rt, reader.next_live(from, u64::MAX), None);
+    let mut value = Value::of([5, 6]);
+    agree(rt, reader.next_live_into(from, u64::MAX, &mut value), None);
+    agree(rt, value, Value::of([5, 6]));
     agree(rt, reader.next_held(from, u64::MAX), Ok(None));
 }
 
@@ -70,6 +93,7 @@ fn finds_a_full_page<R: Reader>(rt: &impl Abort, reader: &mut R) {
         let key = slot.wrapping_add(4_096);
         let behind = slot.wrapping_add(1);
         finds(rt, reader, slot, key, slot, behind);
+        finds_into(rt, reader, slot, key, slot, behind);
         finds_held(rt, reader, slot, key, true, behind);
     }
     finds_none(rt, reader, SLOTS);
@@ -116,4 +140,46 @@ fn a_walk_finds_live_keys_alone(rt: HostRuntime) {
     use_slots(&rt, &mut shard, &mut other);
     finds_three(&rt, &mut shard);
     finds_three(&rt, &mut other);
+}
+
+// On a full page whose keys begin at 4096 and have the values 0 to 47: no key, the first half by key, the last key by
+// value, and then the others are removed.
+fn removes_by_parts<R: Reader>(rt: &impl Abort, reader: &mut R) {
+    agree(rt, reader.remove_if(|_key, _value| false), 0);
+    agree(rt, reader.remove_if(|key, _value| key < 4_120), 24);
+    finds(rt, reader, 0, 4_120, 24, 25);
+    let last = Value::from(47);
+    agree(rt, reader.remove_if(|_key, value| *value == last), 1);
+    agree(rt, reader.next_live(47, u64::MAX), None);
+    finds(rt, reader, 46, 4_142, 46, 47);
+    agree(rt, reader.remove_if(|_key, _value| true), 23);
+    finds_none(rt, reader, 0);
+    agree(rt, reader.remove_if(|_key, _value| true), 0);
+}
+
+#[test]
+fn an_owner_removes_the_keys_that_are_chosen(rt: HostRuntime) {
+    let (heap, seats) = opened::<Tiny>(&rt, rt.alloc(), 2);
+    let (mut shard, _other) = owner_and_other(&rt, rt.alloc(), &heap, seats);
+    store(&rt, &mut shard, SLOTS);
+    removes_by_parts(&rt, &mut shard);
+}
+
+#[test]
+fn a_pass_removes_the_keys_that_are_chosen(rt: HostRuntime) {
+    let (heap, seats) = opened::<Tiny>(&rt, rt.alloc(), 2);
+    let (mut shard, mut other) = owner_and_other(&rt, rt.alloc(), &heap, seats);
+    store(&rt, &mut shard, SLOTS);
+    removes_by_parts(&rt, &mut other);
+}
+
+// The second of 48 slots is marked, and the third key has as many holds as it may have: its value stays for them.
+#[test]
+fn a_key_that_is_held_is_removed(rt: HostRuntime) {
+    let (heap, seats) = opened::<Tiny>(&rt, rt.alloc(), 2);
+    let (mut shard, mut other) = owner_and_other(&rt, rt.alloc(), &heap, seats);
+    use_slots(&rt, &mut shard, &mut other);
+    agree(&rt, shard.remove_if(|_key, _value| true), 47);
+    finds_none(&rt, &mut other, 0);
+    agree(&rt, other.read(Hold { key: 4_098 }), Ok(Value::from(2)));
 }

@@ -3,9 +3,9 @@ use Rattle.std.specs.Prelude.{min}
 use Rattle.sh_pass.specs.Places.{all_pages}
 use Rattle.sh_pass.specs.Remaining.{Remains}
 use Rattle.sh_member.specs.Walks.{NextLiveDoes}
-use Rattle.sh_member.proofs.walking.next_live.Given as goal
+use Rattle.sh_member.proofs.walking.next_live_into.Given as goal
 
--- each key of the places so far was missed
+-- each key of the places so far was missed, and the room is as it was
 abbrev pub invariant-loop-place : goal.invariant-loop-place
 invariant-loop-place g l =
     let caller = g.R.Reader.caller in
@@ -14,6 +14,7 @@ invariant-loop-place g l =
       low : l.fn.from ≤ l.place;
       end : l.place-end ≡ min l.fn.before (all_pages (caller l.fn.reader).heap.shape * 48);
       reached : (l.place ≤ l.place-end) ⊎ (l.place ≡ l.fn.from);
+      room : l.value ≡ l.fn.value;
       does : NextLiveDoes layout l.fn.from l.place (caller l.fn.reader) None (caller l.reader);
       remains : Remains layout (caller l.fn.reader) (caller l.reader);
     }
