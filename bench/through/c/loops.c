@@ -37,6 +37,7 @@ LOOP uint64_t loops_get(shardheap_pass *pass, const uint64_t *keys, size_t count
 LOOP uint64_t loops_read(shardheap_pass *pass, const uint64_t *keys, size_t count);
 LOOP uint64_t loops_load(shardheap_pass *pass, const uint64_t *keys, size_t count);
 LOOP uint64_t loops_load_in_eights(shardheap_pass *pass, const uint64_t *keys, size_t count);
+LOOP uint64_t loops_walk(shardheap_pass *pass, size_t walks);
 LOOP uint64_t loops_own_keys(shardheap_pass *owner, size_t count);
 LOOP uint64_t loops_insert(shardheap_pass *owner, const samples *samples, uint64_t *keys, size_t count);
 LOOP void loops_remove(shardheap_pass *owner, const uint64_t *keys, size_t count);
@@ -134,6 +135,19 @@ uint64_t loops_load_in_eights(shardheap_pass *pass, const uint64_t *keys, size_t
             must(batch[n].code);
             sum += sum_of(batch[n].words, batch[n].length);
         }
+    }
+    return sum;
+}
+
+/* Walks over all live keys with their values, this many times. Returns the sum of the words. */
+uint64_t loops_walk(shardheap_pass *pass, size_t walks) {
+    uint64_t sum = 0;
+    for (size_t n = 0; n < walks; n++) {
+        shardheap_live_key met = {0, 0, 0, {0}};
+        uint32_t code;
+        while ((code = shardheap_next_live(pass, met.behind, UINT64_MAX, &met)) == SHARDHEAP_OK)
+            sum += sum_of(met.words, met.length);
+        if (code != SHARDHEAP_NO_KEY) must(code);
     }
     return sum;
 }

@@ -23,6 +23,7 @@ extern "C" {
     fn loops_read(pass: NonNull<Handle>, keys: *const u64, count: usize) -> u64;
     fn loops_load(pass: NonNull<Handle>, keys: *const u64, count: usize) -> u64;
     fn loops_load_in_eights(pass: NonNull<Handle>, keys: *const u64, count: usize) -> u64;
+    fn loops_walk(pass: NonNull<Handle>, walks: usize) -> u64;
     fn loops_own_keys(owner: NonNull<Handle>, count: usize) -> u64;
     fn loops_insert(owner: NonNull<Handle>, samples: *const Samples, keys: *mut u64, count: usize) -> u64;
     fn loops_remove(owner: NonNull<Handle>, keys: *const u64, count: usize);
@@ -77,6 +78,11 @@ impl User for CUser {
     fn load_in_eights(&mut self, keys: &[u64]) -> u64 {
         // SAFETY: as in `get_each`.
         unsafe { loops_load_in_eights(self.pass, keys.as_ptr(), keys.len()) }
+    }
+
+    fn walk_over(&mut self, walks: usize) -> u64 {
+        // SAFETY: its heap is open.
+        unsafe { loops_walk(self.pass, walks) }
     }
 }
 

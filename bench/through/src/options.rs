@@ -18,6 +18,10 @@ pub enum Workload {
     LoadEach,
     /// The owner goes through the keys of its shard, again and again. One operation is a key that it is given.
     OwnKeys,
+    /// Walks over all live keys with their values. The heap has no room for more values, and one operation is a place.
+    Walk,
+    /// The same, and no value was inserted.
+    WalkBlank,
     Insert,
     Remove,
 }
@@ -32,6 +36,8 @@ pub struct Options {
     pub operations: usize,
     /// How many values there are.
     pub live: usize,
+    /// How many in a hundred of them stay. The owner removes the others before the time is taken.
+    pub percent: usize,
     pub words: usize,
     /// How many chunks the heap may have, or 0 for one that does not grow.
     pub chunks: u32,
@@ -42,6 +48,11 @@ impl Workload {
     fn is_of_the_owner(self) -> bool {
         use Workload::*;
         matches!(self, GetOwn | LoadOwn | OwnKeys | Insert | Remove)
+    }
+
+    /// Whether it walks.
+    pub fn is_a_walk(self) -> bool {
+        matches!(self, Workload::Walk | Workload::WalkBlank)
     }
 }
 
@@ -56,6 +67,8 @@ fn workload(name: &str) -> Result<Workload, String> {
         "load-into" => Ok(Workload::LoadInto),
         "load-each" => Ok(Workload::LoadEach),
         "own-keys" => Ok(Workload::OwnKeys),
+        "walk" => Ok(Workload::Walk),
+        "walk-blank" => Ok(Workload::WalkBlank),
         "insert" => Ok(Workload::Insert),
         "remove" => Ok(Workload::Remove),
         _ => Err(format!("no workload {name}")),
@@ -75,12 +88,14 @@ impl Options {
 
     /// The usual ones of a workload.
     pub fn usual(workload: Workload) -> Options {
-        Options { workload, threads: 1, operations: 1000, live: 1, words: 1, chunks: 0 }
+        Options { workload, threads: 1, operations: 1000, live: 1, percent: 100, words: 1, chunks: 0 }
     }
 
     fn checked(self) -> Result<Options, String> {
         match self.workload {
             Workload::OwnKeys if self.chunks > 0 => Err("a heap that grows lists no keys".to_string()),
+            workload if self.threads > 1 && workload.is_a_walk() => Err("a walk has one thread".to_string()),
+            workload if workload != Workload::Walk && self.percent < 100 => Err("all values are used".to_string()),
             workload if self.threads > 1 && workload.is_of_the_owner() => Err("a shard has one owner".to_string()),
             _ => Ok(self),
         }
@@ -92,6 +107,7 @@ impl Options {
             ("--threads", number @ 1..=16) => self.threads = number,
             ("--operations", number) => self.operations = number,
             ("--live", number) if number > 0 => self.live = number,
+            ("--percent", number @ 0..=100) => self.percent = number,
             ("--words", number @ 1..=16) => self.words = number,
             ("--chunks", number @ 1..=256) => self.chunks = number as u32,
             (option, number) => return Err(format!("no option {option} {number}")),
@@ -108,10 +124,11 @@ mod tests {
     fn words_are_options() {
         let words = "load-into --threads 4 --operations 9 --live 3 --words 16 --chunks 2";
         let workload = Workload::LoadInto;
-        let options = Options { workload, threads: 4, operations: 9, live: 3, words: 16, chunks: 2 };
+        let options = Options { threads: 4, operations: 9, live: 3, words: 16, chunks: 2, ..Options::usual(workload) };
         assert_eq!(Options::of(&words.split(' ').collect::<Vec<_>>()), Ok(options));
-        let usual = Options { workload: Workload::Get, threads: 1, operations: 1000, live: 1, words: 1, chunks: 0 };
-        assert_eq!(Options::of(&["get"]), Ok(usual));
+        assert_eq!(Options::of(&["get"]), Ok(Options::usual(Workload::Get)));
+        let some = Options { percent: 10, ..Options::usual(Workload::Walk) };
+        assert_eq!(Options::of(&["walk", "--percent", "10"]), Ok(some));
     }
 
     #[test]
@@ -120,7 +137,9 @@ mod tests {
             assert!(Options::of(words).is_err(), "{words:?}");
         }
         let numbers = [["get", "--chunks", "257"], ["own-keys", "--chunks", "1"], ["get", "--threads", "17"]];
-        for words in numbers.into_iter().chain([["load-own", "--threads", "2"], ["insert", "--threads", "2"]]) {
+        let alone = ["load-own", "insert", "walk-blank"].map(|workload| [workload, "--threads", "2"]);
+        let percents = [["get", "--percent", "99"], ["walk", "--percent", "101"]];
+        for words in numbers.into_iter().chain(alone).chain(percents) {
             assert!(Options::of(&words).is_err(), "{words:?}");
         }
     }

@@ -109,6 +109,12 @@ impl User for Any {
             results.iter().fold(sum, |sum, value| sum.wrapping_add(sum_of(&must(*value))))
         })
     }
+
+    fn walk_over(&mut self, walks: usize) -> u64 {
+        let pass: &Pass = self;
+        let values = (0..walks).flat_map(|_| pass.walk());
+        values.fold(0, |sum, (_, value)| sum.wrapping_add(sum_of(&value)))
+    }
 }
 
 impl Rust {

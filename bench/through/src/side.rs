@@ -59,6 +59,9 @@ pub trait User: Send {
 
     /// The same as `load_each`, by one call for each eight keys. Keys after the last eight are left out.
     fn load_in_eights(&mut self, keys: &[u64]) -> u64;
+
+    /// Walks over all live keys with their values, this many times. Answers the sum of the words.
+    fn walk_over(&mut self, walks: usize) -> u64;
 }
 
 /// A heap with an owner of its shard and passes that own nothing. Its functions are loops as those of a user are.

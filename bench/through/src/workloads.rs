@@ -74,6 +74,21 @@ fn using<S: Side>(side: &mut S, keys: &[u64], options: &Options) -> (Duration, u
     }
 }
 
+// The keys of the values that do not stay, evenly among all.
+fn gone(keys: &[u64], percent: usize) -> Vec<u64> {
+    let stays = |n: usize| n * percent / 100 != (n + 1) * percent / 100;
+    keys.iter().enumerate().filter(|(n, _)| !stays(*n)).map(|(_, key)| *key).collect()
+}
+
+// Walks of as many places as there may be values, after a removal of those that do not stay.
+fn walking<S: Side>(side: &mut S, keys: &[u64], options: &Options) -> (Duration, u64) {
+    side.remove_each(&gone(keys, options.percent));
+    let start = Instant::now();
+    let walks = options.operations / options.live;
+    let sum = side.users().iter_mut().fold(0u64, |sum, user| sum.wrapping_add(user.walk_over(walks)));
+    (start.elapsed(), sum)
+}
+
 // Inserts a batch and removes it; one of the two is measured.
 fn one_batch<S: Side>(side: &mut S, samples: &Samples, keys: &mut [u64], workload: Workload) -> (Duration, u64) {
     let start = Instant::now();
@@ -103,13 +118,15 @@ fn inserting<S: Side>(side: &mut S, samples: &Samples, options: &Options) -> (Du
 /// The time of the operations of the slowest thread, and a sum of what all were answered.
 pub fn measure<S: Side>(options: &Options) -> (Duration, u64) {
     let Options { words, chunks, threads, .. } = *options;
-    let values = (options.live + BATCH) as u64;
+    let more = if options.workload.is_a_walk() { 0 } else { BATCH };
+    let values = (options.live + more) as u64;
     let mut side = S::open(Place { values, words: words as u32, chunks, users: threads as u32 });
     let samples = Samples::new(options.words);
-    let mut keys = vec![0; options.live];
+    let mut keys = vec![0; if options.workload == Workload::WalkBlank { 0 } else { options.live }];
     side.insert_each(&samples, &mut keys);
     match options.workload {
         Workload::Insert | Workload::Remove => inserting(&mut side, &samples, options),
+        Workload::Walk | Workload::WalkBlank => walking(&mut side, &keys, options),
         _ => using(&mut side, &keys, options),
     }
 }
@@ -170,6 +187,18 @@ mod tests {
     fn the_owner_gets_the_same_keys_and_walks_through_them() {
         let of_a_pass = sums(Workload::Get, 8, 1);
         assert_eq!([Workload::GetOwn, Workload::OwnKeys].map(|way| sums(way, 8, 1)), [of_a_pass; 2]);
+    }
+
+    #[test]
+    fn both_sides_walk_over_the_values_that_stay() {
+        let walk = Options { operations: 3 * 160, live: 160, ..Options::usual(Workload::Walk) };
+        for chunks in [0, 2] {
+            let of_percent = |percent: usize| sums_of(Options { percent, chunks, ..walk });
+            // The words 0, 16, .., 240, ten times each in each walk; of each ten values the tenth stays.
+            let tenth = (9..160).step_by(10).map(|n| n % 16 * 16).sum::<u64>();
+            assert_eq!([100, 10, 0].map(of_percent), [3 * 10 * 16 * 120, 3 * tenth, 0]);
+            assert_eq!(sums_of(Options { chunks, ..Options::usual(Workload::WalkBlank) }), 0);
+        }
     }
 
     #[test]
