@@ -8,7 +8,7 @@ use crate::times::{text, Times};
 use crate::turning::{turn, words_of};
 
 /// A row with several threads does not repeat, so it has this many runs, one after all rows had theirs.
-const RUNS: usize = 3;
+pub const RUNS: usize = 3;
 /// What a cell has if in no turn all threads ran at once.
 pub const NOT_AT_ONCE: &str = "not at once";
 /// The sides of the table of latencies, and its numbers of threads.

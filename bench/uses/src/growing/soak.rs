@@ -14,7 +14,7 @@ const LIVE: usize = 4;
 /// The most values that are live if they are removed by chance.
 const VALUES: usize = 200_000;
 /// After the first rounds, in which each length comes.
-const ROUNDS: usize = 64;
+const ROUNDS: usize = 40;
 // A step of the mixed order, prime to the number of values of each length.
 const STRIDE: usize = 7919;
 

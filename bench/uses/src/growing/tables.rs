@@ -5,8 +5,8 @@ use super::filling::{self, VALUES};
 use super::opening::{What, ALL};
 use super::soak::{Order, ORDERS};
 use crate::markdown::line;
-use crate::tables::{aimed, table, told};
-use crate::times::Times;
+use crate::tables::{aimed, table, told, RUNS};
+use crate::times::{text, Times};
 use crate::turning::{of_sides, report_of, times_of, Report};
 
 /// What was aimed at. A call in one chunk, one in forty, and the greatest fill are beside those of a plain heap. Words
@@ -146,8 +146,11 @@ pub fn tables(rounds: usize) -> Result<String, String> {
 
 const OF_CALLERS: [&str; 5] = ["Workload", "Threads", "growing heap, µs", "plain heap, µs", "growing to plain"];
 
-fn caller_line(title: String, threads: usize, [growing, plain]: [Times; 2]) -> String {
-    line(&[title, threads.to_string(), told(growing, 2), told(plain, 2), told(growing.over(plain), 2)])
+// Of some runs, each with the times of both heaps.
+fn caller_line(title: String, threads: usize, runs: &[[Times; 2]]) -> String {
+    let cell = |of: fn(&[Times; 2]) -> Times| text(&runs.iter().map(of).collect::<Vec<_>>(), 2);
+    let ratio = cell(|[growing, plain]| growing.over(*plain));
+    line(&[title, threads.to_string(), cell(|[growing, _]| *growing), cell(|[_, plain]| *plain), ratio])
 }
 
 // What both heaps tell of these words, with the name of the heap behind the first one.
@@ -168,14 +171,15 @@ fn begun_lines(values: u64, rounds: usize) -> Result<[String; 2], String> {
     let heaps = of_heaps(rounds, "callers", &[&values.to_string()])?;
     let title = |what: &str| format!("{what}, beside {} values", grouped(values));
     Ok([
-        caller_line(title("first insert of a fresh caller"), 1, microseconds(&heaps, "insert")?),
-        caller_line(title("take and drop of a caller"), 1, microseconds(&heaps, "take")?),
+        caller_line(title("first insert of a fresh caller"), 1, &[microseconds(&heaps, "insert")?]),
+        caller_line(title("take and drop of a caller"), 1, &[microseconds(&heaps, "take")?]),
     ])
 }
 
 fn request_line(rounds: usize) -> Result<String, String> {
-    let times = microseconds(&of_heaps(rounds, "requests", &[])?, "nanoseconds")?;
-    Ok(caller_line(format!("a caller a request, beside {} values", grouped(SHARED_VALUES)), THREADS, times))
+    let run = |_| microseconds(&of_heaps(rounds, "requests", &[])?, "nanoseconds");
+    let runs: Result<Vec<[Times; 2]>, String> = (0..RUNS).map(run).collect();
+    Ok(caller_line(format!("a caller a request, beside {} values", grouped(SHARED_VALUES)), THREADS, &runs?))
 }
 
 fn caller_table(rounds: usize) -> Result<String, String> {
@@ -236,6 +240,14 @@ mod tests {
     fn a_level_is_beside_the_first_one() {
         assert_eq!(level_line("soak", 2e7, 2.5e7), "| soak | 20.0 | 25.0 | 1.25 / 1.25 (1.3) |");
         assert_eq!(OF_SOAK.len(), 4);
+    }
+
+    #[test]
+    fn a_line_of_callers_has_the_range_of_its_runs() {
+        let run = |least: f64| [least, 2.0].map(|least| Times { least, median: 2.0 * least });
+        let line = caller_line("take".to_string(), 4, &[run(3.0), run(6.0)]);
+        assert_eq!(line, "| take | 4 | 3.00-6.00 / 6.00-12.00 | 2.00-2.00 / 4.00-4.00 | 1.50-3.00 / 1.50-3.00 |");
+        assert_eq!(line.matches(" |").count(), OF_CALLERS.len());
     }
 
     #[test]
