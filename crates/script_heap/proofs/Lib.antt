@@ -14,6 +14,7 @@ pub mod RoomBefore
 pub mod RoomSeen
 pub mod ClassSteps
 pub mod PageSums
+pub mod NoLines
 pub mod FirstInsert
 pub mod SmallScripts
 pub use Rattle.script_calls.proofs.GrowLemmas

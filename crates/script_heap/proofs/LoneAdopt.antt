@@ -111,7 +111,7 @@ ends_as_pass v begins c own stands heeds ends =
     its ∙ (last.2 ∙ mid.2)
 
 -- the trail of a pass that owns no shard in the end
-trail_is : (layout : Layout) (shape : Numbers) (events : List Event) (p : ℕ) (v : PassPart) (c : Caller)
+pub trail_is : (layout : Layout) (shape : Numbers) (events : List Event) (p : ℕ) (v : PassPart) (c : Caller)
     → v.stands ≡ Pass c → EndsInRun (plan_of layout shape) events p v
     → trail_of (plan_of layout shape) events p ≡ c.view.own.trail
 trail_is layout shape events p v c stands ends =

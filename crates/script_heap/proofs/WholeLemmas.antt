@@ -110,9 +110,9 @@ tells_tale layout v w es old new later lw is said =
       record {
         whole = told.0;
         kept = subst (λ (l : List Entry). Each (Before l) v.view.orders) (sym told.1) at_v.tale.orders;
+        events = es;
+        log = sym told.1;
         lines = record {
-          events = es;
-          log = sym told.1;
           is = refl;
           numbers = λ shard below page small.
               let q = page_number n shard page in
@@ -233,11 +233,11 @@ module _ (alone : Bool) (layout : Layout) (heap : Heap) (tag : Option ℕ) (line
         replies = output;
         tale = tale_told (seen_of_caller layout v);
         told = told_by tells.whole tells.kept;
-        events = tells.lines.events;
-        log = tells.lines.log;
-        steps = ended_in tells.lines.events tells.parts;
+        events = tells.events;
+        log = tells.log;
+        steps = ended_in tells.events tells.parts;
         by_line = λ e. runs_by_line layout heap tag lines ran.told.replies.answers ran.told.replies.after
-            tells.lines.events v.view.orders tells.steps (ran.steps e) (ended_in tells.lines.events tells.parts);
+            tells.events v.view.orders tells.steps (ran.steps e) (ended_in tells.events tells.parts);
         accounts = t.0;
         is = t.1;
         are = tells.lines;

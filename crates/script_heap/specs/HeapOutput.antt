@@ -28,15 +28,17 @@ use Rattle.script_calls.specs.Runs.{opening_calls}
 use Rattle.script_heap.specs.ByLine.{RunsByLine}
 use Rattle.script_heap.specs.WholeAccounts.{AreAccountLines}
 
--- account lines by one history of this tale, which keeps these orders, and so do the steps of its events; after them
--- each pass has its own part of these
+-- account lines after events whose log is one history of this tale; it keeps these orders, and so do the steps of the
+-- events, after which each pass has its own part of these
 pub record TellsTale (layout : Layout) (shape : Numbers) (tale : List PassTold) (orders : List Order)
     (carried : List Told) (text : List ℕ) : Type 0 where
   pub whole : HasWholeTale (heap_terms layout shape) tale
   pub kept : Each (Before whole.history) orders
-  pub lines : AreAccountLines layout shape whole.history text
-  pub parts : All (λ t. HasOwn (plan_of layout shape) lines.events t.pass t.own) carried
-  pub steps : Each (StepsBefore (plan_of layout shape) lines.events) orders
+  pub events : List Event
+  pub log : (run (plan_of layout shape) events).log ≡ whole.history
+  pub lines : AreAccountLines layout shape events whole.history text
+  pub parts : All (λ t. HasOwn (plan_of layout shape) events t.pass t.own) carried
+  pub steps : Each (StepsBefore (plan_of layout shape) events) orders
 
 -- After these events the pass has exactly the own part with which it ended. So its steps among these events are those
 -- that it did, in order, and each found the word that the pass found. It may have heeded two receipts before it ended.
@@ -44,15 +46,15 @@ abbrev pub EndsInRun : Plan → List Event → (pass : ℕ) → PassPart → Typ
 EndsInRun plan events pass part = (begins : PassPart) × HeedsTwice part begins × (own : Own)
     × EndsWith begins.stands own × HasOwn plan events pass own
 
--- account lines by this history, if they are asked for; otherwise none
-abbrev pub AccountsAsked : (asked : Bool) → Layout → Numbers → List Entry → List ℕ → Type 0
-AccountsAsked true layout shape history text = AreAccountLines layout shape history text
-AccountsAsked false layout shape history text = text ≡ []
+-- account lines after these events, if they are asked for; otherwise none
+abbrev pub AccountsAsked : (asked : Bool) → Layout → Numbers → List Event → List Entry → List ℕ → Type 0
+AccountsAsked true layout shape events history text = AreAccountLines layout shape events history text
+AccountsAsked false layout shape events history text = text ≡ []
 
--- The replies are those of the tale of all passes of a heap of this shape. After them come the account lines by its
--- history, if they are asked for. The history is the log of a run of the core, whose steps are those that the passes
--- did. If the lines ran one after the other, the history has the entries in the order of the lines. The events are then
--- those of the lines, one line after the other, and after them those of the leaves at the end.
+-- The replies are those of the tale of all passes of a heap of this shape. Its history is the log of a run of the core,
+-- whose steps are those that the passes did. After the replies come the account lines after the events of this run, if
+-- they are asked for. If the lines ran one after the other, the history has the entries in the order of the lines. The
+-- events are then those of the lines, one line after the other, and after them those of the leaves at the end.
 pub record IsHeapOutput (alone : Bool) (layout : Layout) (shape : Numbers) (tag : Option ℕ) (lines : List CallLine)
     (asked : Bool) (output : List ℕ) : Type 0 where
   pub heap : Heap
@@ -67,7 +69,7 @@ pub record IsHeapOutput (alone : Bool) (layout : Layout) (shape : Numbers) (tag 
       (opening_calls (Some heap)) lines told.replies.answers told.replies.after
   pub accounts : List ℕ
   pub is : output ≡ replies ++ accounts
-  pub are : AccountsAsked asked layout shape told.whole.history accounts
+  pub are : AccountsAsked asked layout shape events told.whole.history accounts
 
 -- the text is a script of calls, and this is what its run on the running heap may write
 pub record IsHeap (alone asked : Bool) (text output : List ℕ) : Type 0 where

@@ -1,5 +1,5 @@
 -- What the steps of a run of a script say of its answers.
-use Rattle.std.specs.Prelude.{◌≢◌, ℕ, ◌<◌, Bool, true, List, [], ◌∷◌, Option}
+use Rattle.std.specs.Prelude.{◌≡◌, ◌≢◌, ℕ, ◌<◌, Bool, true, List, [], ◌∷◌, Option}
 use Rattle.sh_key.specs.Layout.{Layout, IsLayout}
 use Rattle.sh_shape.specs.Shape.{Numbers, IsShape, Fits}
 use Rattle.sh_value.specs.declared.refusal.Refusal.TheVariants as refusal
@@ -47,3 +47,9 @@ LeaveIsNotWaiting = (asked : Bool) (layout : Layout) (shape : Numbers) (tag : Op
     (output : List ℕ) → IsLayout layout → IsShape shape → Fits layout shape → pass < shape.passes
     → (h : IsHeapOutput true layout shape tag (adopt_line pass shard ∷ leave_line pass ∷ []) asked output)
     → h.told.replies.answers ≢ answer.Done ∷ answer.Refused refusal.Waiting ∷ []
+
+-- a script without lines writes nothing, also if account lines are asked for: no page got a class
+abbrev pub NoLinesWriteNothing : Type 0
+NoLinesWriteNothing = (alone asked : Bool) (layout : Layout) (shape : Numbers) (tag : Option ℕ) (output : List ℕ)
+    → IsLayout layout → IsShape shape → Fits layout shape → IsHeapOutput alone layout shape tag [] asked output
+    → output ≡ []

@@ -32,11 +32,11 @@ pub record PageSaid (layout : Layout) (c : Caller) (q : ℕ) (a : Accounts) : Ty
   pub numbers : (history : List Entry) → IsHistory layout c.view history
       → HasNumbers (plan_of layout c.view.shape) q a history
 
--- The account lines of a heap: for each page with a class a line with its accounts after events whose log is this
--- history. They are the numbers of the page by the history.
-pub record AreAccountLines (layout : Layout) (shape : Numbers) (history : List Entry) (text : List ℕ) : Type 0 where
-  pub events : List Event
-  pub log : (run (plan_of layout shape) events).log ≡ history
-  pub is : text ≡ accounts_text shape (accounts_after (plan_of layout shape) events)
-  pub numbers : ShardsSaid (λ q a. HasNumbers (plan_of layout shape) q a history) shape
-      (accounts_after (plan_of layout shape) events) shape.shards
+-- The account lines of a heap after these events: for each page with a class a line with its accounts. They are the
+-- numbers of the page by the history.
+pub record AreAccountLines (layout : Layout) (shape : Numbers) (events : List Event) (history : List Entry)
+    (text : List ℕ) : Type 0
+  where
+    pub is : text ≡ accounts_text shape (accounts_after (plan_of layout shape) events)
+    pub numbers : ShardsSaid (λ q a. HasNumbers (plan_of layout shape) q a history) shape
+        (accounts_after (plan_of layout shape) events) shape.shards

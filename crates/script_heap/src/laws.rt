@@ -1,6 +1,6 @@
 //! What follows from the fact that a run has just the steps that its passes did.
 ghost use Rattle.script_heap.specs.OwnSteps.{LoneAdoptIsNotTaken, FirstInsertIsNotFull, TwoAdoptsAreNotDone};
-ghost use Rattle.script_heap.specs.OwnSteps.{LeaveIsNotWaiting};
+ghost use Rattle.script_heap.specs.OwnSteps.{LeaveIsNotWaiting, NoLinesWriteNothing};
 ghost use Rattle.script_heap.specs.Owners.{LinesKeepOwnersApart, NoPassIsStuck};
 ghost use Rattle.script_heap.specs.Rooms.{LinesFindRoom, LinesSeeRoom, RoomExcludes};
 
@@ -54,4 +54,10 @@ pub fn two_adopts_are_not_done()
 /// If a pass adopts a shard and leaves it, the leave is not `Waiting`.
 pub fn leave_is_not_waiting()
     ensures { LeaveIsNotWaiting }
+{}
+
+/// A script without lines writes nothing, in one thread or in many, also if account lines are asked for. The account
+/// lines are of the run in which the passes did their steps, and here no pass did any. So no page has a class.
+pub fn no_lines_write_nothing()
+    ensures { NoLinesWriteNothing }
 {}
