@@ -12,6 +12,8 @@ pub mod RoomLaws
 pub mod LineEntries
 pub mod RoomBefore
 pub mod RoomSeen
+pub mod CrowdedKeys
+pub mod CrowdedLines
 pub mod ClassSteps
 pub mod PageSums
 pub mod NoLines

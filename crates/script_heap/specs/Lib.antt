@@ -4,6 +4,7 @@ pub mod HeapOutput
 pub mod OwnSteps
 pub mod Owners
 pub mod Rooms
+pub mod Crowding
 pub use Rattle.sh_core.specs.KeyRef
 pub use Rattle.sh_pass.specs.Passes
 pub use Rattle.sh_pass.specs.Seats

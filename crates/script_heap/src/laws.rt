@@ -3,6 +3,7 @@ ghost use Rattle.script_heap.specs.OwnSteps.{LoneAdoptIsNotTaken, FirstInsertIsN
 ghost use Rattle.script_heap.specs.OwnSteps.{LeaveIsNotWaiting, NoLinesWriteNothing};
 ghost use Rattle.script_heap.specs.Owners.{LinesKeepOwnersApart, NoPassIsStuck};
 ghost use Rattle.script_heap.specs.Rooms.{LinesFindRoom, LinesSeeRoom, RoomExcludes};
+ghost use Rattle.script_heap.specs.Crowding.{LinesCrowdExactly};
 
 /// If a script consists of one adopt, no other pass does a step. So the adopt finds no owner, and its answer is not
 /// `Taken`.
@@ -38,6 +39,12 @@ pub fn lines_find_room()
 pub fn lines_see_room()
     ensures room { LinesSeeRoom }
     ensures apart { RoomExcludes }
+{}
+
+/// In a run of mode heap a get is `Crowded` only if its key has as many holds as a key of the layout may have. Between
+/// two lines no pass has begun anything, so the count of a slot is the number of holds on its key.
+pub fn lines_crowd_exactly()
+    ensures { LinesCrowdExactly }
 {}
 
 /// If a pass adopts a shard of a fresh heap and inserts, the insert is not `Full`. The adopt took too few steps to give
