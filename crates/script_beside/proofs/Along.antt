@@ -80,9 +80,9 @@ module _ (n : Numbering) where
   key_at (j ∷ ks) zero key h e = subst KeyIs (let same : j ≡ Some key = cc in same) h.0
   key_at (j ∷ ks) (suc i) key h e = key_at ks i key h.1 e
 
-  pub plainly : (run next : Run) (c : Call) (a : Answer) → CallDoes n.layout run c a next
-      → CallAlong n.layout run c a next
-  plainly run next c a h = inl (record { plain = a; does = h; same = same_but a })
+  pub plainly : (owned : ℕ → Option ℕ) (run next : Run) (c : Call) (a : Answer) → CallDoes n.layout run c a next
+      → CallAlong n.layout n.shape owned run c a next
+  plainly owned run next c a h = inl (record { plain = a; does = h; same = same_but a })
 
   -- ---- calls on no key
 
@@ -107,35 +107,36 @@ module _ (n : Numbering) where
   own_unnamed run = ap (λ (ks : List (Option ℕ)). record (own run) { keys = ks }) (map_last run.keys None)
 
   -- what only the running heap refuses
-  pub refused_alone : (run next : Run) (c : Call) (a : Answer) → RefusedAlone n.layout run c a next
-      → RefusedAlone n.layout (own run) c a (own next)
-  refused_alone run next (call.Adopt shard) a h = (h.0, h.1, ap own h.2)
-  refused_alone run next call.Leave a h = (h.0, h.1, ap own h.2)
-  refused_alone run next (call.Insert words) a h = (h.0, h.1, h.2, ap own h.3 ∙ own_unnamed run)
-  refused_alone run next (call.Get r) a h = absurd h
-  refused_alone run next (call.Read r) a h = absurd h
-  refused_alone run next (call.Remove r) a h = absurd h
-  refused_alone run next (call.Release r) a h = absurd h
-  refused_alone run next call.Post a h = absurd h
-  refused_alone run next (call.Wait i) a h = absurd h
+  pub refused_alone : (owned : ℕ → Option ℕ) (run next : Run) (c : Call) (a : Answer)
+      → RefusedAlone n.shape owned run c a next → RefusedAlone n.shape owned (own run) c a (own next)
+  refused_alone owned run next (call.Adopt shard) a h = (h.0, h.1, ap own h.2)
+  refused_alone owned run next (call.Insert words) a h = (h.0, h.1, h.2, ap own h.3 ∙ own_unnamed run)
+  refused_alone owned run next call.Leave a h = absurd h
+  refused_alone owned run next (call.Get r) a h = absurd h
+  refused_alone owned run next (call.Read r) a h = absurd h
+  refused_alone owned run next (call.Remove r) a h = absurd h
+  refused_alone owned run next (call.Release r) a h = absurd h
+  refused_alone owned run next call.Post a h = absurd h
+  refused_alone owned run next (call.Wait i) a h = absurd h
 
-  pub adopt_along : (run next : Run) (shard : ℕ) (a : Answer) → CallDoes n.layout run (call.Adopt shard) a next
-      → CallAlong n.layout (own run) (call.Adopt shard) a (own next)
-  adopt_along run next shard a h = plainly (own run) (own next) (call.Adopt shard) a
-      (h.0, ap own h.1 ∙ own_adopts run shard (has_shard run) (nat_le run.shards shard))
+  module _ (owned : ℕ → Option ℕ) where
+    pub adopt_along : (run next : Run) (shard : ℕ) (a : Answer) → CallDoes n.layout run (call.Adopt shard) a next
+        → CallAlong n.layout n.shape owned (own run) (call.Adopt shard) a (own next)
+    adopt_along run next shard a h = plainly owned (own run) (own next) (call.Adopt shard) a
+        (h.0, ap own h.1 ∙ own_adopts run shard (has_shard run) (nat_le run.shards shard))
 
-  pub leave_along : (run next : Run) (a : Answer) → CallDoes n.layout run call.Leave a next
-      → CallAlong n.layout (own run) call.Leave a (own next)
-  leave_along run next a h = plainly (own run) (own next) call.Leave a
-      (h.0, ap own h.1 ∙ own_leaves run (has_shard run))
+    pub leave_along : (run next : Run) (a : Answer) → CallDoes n.layout run call.Leave a next
+        → CallAlong n.layout n.shape owned (own run) call.Leave a (own next)
+    leave_along run next a h = plainly owned (own run) (own next) call.Leave a
+        (h.0, ap own h.1 ∙ own_leaves run (has_shard run))
 
-  pub post_along : (run next : Run) (a : Answer) → CallDoes n.layout run call.Post a next
-      → CallAlong n.layout (own run) call.Post a (own next)
-  post_along run next a h = plainly (own run) (own next) call.Post a (h.0, ap own h.1 ∙ own_unnamed run)
+    pub post_along : (run next : Run) (a : Answer) → CallDoes n.layout run call.Post a next
+        → CallAlong n.layout n.shape owned (own run) call.Post a (own next)
+    post_along run next a h = plainly owned (own run) (own next) call.Post a (h.0, ap own h.1 ∙ own_unnamed run)
 
-  pub wait_along : (run next : Run) (i : ℕ) (a : Answer) → CallDoes n.layout run (call.Wait i) a next
-      → CallAlong n.layout (own run) (call.Wait i) a (own next)
-  wait_along run next i a h = plainly (own run) (own next) (call.Wait i) a (h.0, ap own h.1)
+    pub wait_along : (run next : Run) (i : ℕ) (a : Answer) → CallDoes n.layout run (call.Wait i) a next
+        → CallAlong n.layout n.shape owned (own run) (call.Wait i) a (own next)
+    wait_along run next i a h = plainly owned (own run) (own next) (call.Wait i) a (h.0, ap own h.1)
 
   -- the same if an entry was added
   pub own_added : (run : Run) (e : Entry) → own (record run { store = with_added run.store (Some e) })
@@ -144,8 +145,8 @@ module _ (n : Numbering) where
       (one_more n.number n.one run.store.entries e)
 
   -- what is found for a call
-  pub record Found (run next : Run) (c : Call) (a : Answer) : Type 0 where
-    pub along : CallAlong n.layout (own run) c a (own next)
+  pub record Found (owned : ℕ → Option ℕ) (run next : Run) (c : Call) (a : Answer) : Type 0 where
+    pub along : CallAlong n.layout n.shape owned (own run) c a (own next)
     pub keys : KeysAre next.keys
 
   pub same_keys : (run next : Run) → next.keys ≡ run.keys → KeysAre run.keys → KeysAre next.keys
@@ -153,14 +154,15 @@ module _ (n : Numbering) where
 
   -- ---- insert
 
-  module _ (run next : Run) (words : List ℕ) (a : Answer) (keys : KeysAre run.keys) where
+  module _ (owned : ℕ → Option ℕ) (run next : Run) (words : List ℕ) (a : Answer) (keys : KeysAre run.keys) where
     refuses_too : (r : Refusal) → Replied (insert_attempt n.layout (own run) words) (own run).store (Err r)
         (own run).store
-        → a ≡ answer.Refused r → next ≡ unnamed run → Found run next (call.Insert words) a
+        → a ≡ answer.Refused r → next ≡ unnamed run → Found owned run next (call.Insert words) a
     refuses_too r replied is same =
         let p : own next ≡ unnamed (own run) = ap own same ∙ own_unnamed run in
         record {
-          along = subst (λ (m : Run). CallAlong n.layout (own run) (call.Insert words) a m) (sym p) (inl (record {
+          along = subst (λ (m : Run). CallAlong n.layout n.shape owned (own run) (call.Insert words) a m) (sym p)
+              (inl (record {
             plain = a;
             does = record { result = Err r; replied = replied; is = is; next_is = refl };
             same = same_but a;
@@ -174,8 +176,9 @@ module _ (n : Numbering) where
     gives_too : nat_lt 16 (length words) ≡ false → has_shard run ≡ true
         → nat_lt (insert_count run.store.entries) (key_count n.layout) ≡ true
         → (g : GivesKey n.layout n.shape run words a next)
-        → n.number g.key ≡ first_key n.layout + insert_count run.store.entries → Found run next (call.Insert words) a
-    gives_too few owned left g number_is =
+        → n.number g.key ≡ first_key n.layout + insert_count run.store.entries
+        → Found owned run next (call.Insert words) a
+    gives_too few has left g number_is =
         let count : ℕ = insert_count (map (renumbered n.number) run.store.entries) in
         let left_own : nat_lt count (key_count n.layout) ≡ true =
         ap (λ m. nat_lt m (key_count n.layout)) count_is ∙ left in
@@ -195,11 +198,12 @@ module _ (n : Numbering) where
         }) in
         let small : insert_count run.store.entries < key_count n.layout = grind (arith, nat_tests) in
         record {
-          along = subst (λ (m : Run). CallAlong n.layout (own run) (call.Insert words) a m) (sym p) (inl (record {
+          along = subst (λ (m : Run). CallAlong n.layout n.shape owned (own run) (call.Insert words) a m) (sym p)
+              (inl (record {
             plain = answer.Key (shown run.tag (n.number g.key));
             does = record {
               result = Ok (n.number g.key);
-              replied = rw (few, owned, left_own) (
+              replied = rw (few, has, left_own) (
                 sym (ap (λ (k : ℕ). Ok k) next_number),
                 ap (λ (k : ℕ). with_added (own run).store (Some (Insert run.store.pass k words))) next_number,
               );
@@ -219,12 +223,14 @@ module _ (n : Numbering) where
 
     pub insert_along : InsertsBeside n.layout n.shape run words (insert_attempt n.layout run words).answer a next
         → ((g : GivesKey n.layout n.shape run words a next)
-        → n.number g.key ≡ first_key n.layout + insert_count run.store.entries) → Found run next (call.Insert words) a
+        → n.number g.key ≡ first_key n.layout + insert_count run.store.entries)
+        → Found owned run next (call.Insert words) a
     insert_along h number = go (nat_lt 16 (length words)) (has_shard run) (nat_lt (insert_count run.store.entries)
         (key_count n.layout)) refl refl refl
       where
         go : (b c d : Bool) → nat_lt 16 (length words) ≡ b → has_shard run ≡ c
-            → nat_lt (insert_count run.store.entries) (key_count n.layout) ≡ d → Found run next (call.Insert words) a
+            → nat_lt (insert_count run.store.entries) (key_count n.layout) ≡ d
+            → Found owned run next (call.Insert words) a
         go true c d e g k =
             let at : InsertsBeside n.layout n.shape run words (Err refusal.TooLong) a next =
             subst (λ (x : Result ℕ Refusal). InsertsBeside n.layout n.shape run words x a next)

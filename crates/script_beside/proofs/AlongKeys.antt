@@ -19,13 +19,13 @@ use Rattle.script_beside.proofs.Renaming.{renumbered, same_value, same_present, 
 use Rattle.script_beside.proofs.Along.{Numbering, KeyIs, KeysAre, Told, Found, own, own_key, own_meant, own_added}
 use Rattle.script_beside.proofs.Along.{key_named, known, plainly, same_keys}
 
-module _ (n : Numbering) (run next : Run) (i : ℕ) (a : Answer) (keys : KeysAre n run.keys) where
+module _ (n : Numbering) (owned : ℕ → Option ℕ) (run next : Run) (i : ℕ) (a : Answer) (keys : KeysAre n run.keys) where
   -- ---- remove
 
   remove_by : (k : Result ℕ Answer) → key_named run i ≡ k
       → HasReply (remove_reply n.layout) (own n run) (own_key n k) a (own n next)
-      → CallAlong n.layout (own n run) (call.Remove (reference.Name i)) a (own n next)
-  remove_by k e h = plainly n (own n run) (own n next) (call.Remove (reference.Name i)) a
+      → CallAlong n.layout n.shape owned (own n run) (call.Remove (reference.Name i)) a (own n next)
+  remove_by k e h = plainly n owned (own n run) (own n next) (call.Remove (reference.Name i)) a
       (subst (λ (x : Result ℕ Answer). HasReply (remove_reply n.layout) (own n run) x a (own n next))
       (sym (own_meant n run i k e)) h)
 
@@ -51,7 +51,7 @@ module _ (n : Numbering) (run next : Run) (i : ℕ) (a : Answer) (keys : KeysAre
 
   pub remove_along : WherePlaced n.layout n.shape (key_named run i)
       (HasReply (remove_reply n.layout) run (key_named run i) a next) run a next
-      → Found n run next (call.Remove (reference.Name i)) a
+      → Found n owned run next (call.Remove (reference.Name i)) a
   remove_along h = go (key_named run i) refl
     where
       at : (k : Result ℕ Answer) → key_named run i ≡ k
@@ -59,7 +59,7 @@ module _ (n : Numbering) (run next : Run) (i : ℕ) (a : Answer) (keys : KeysAre
       at k e = subst (λ (x : Result ℕ Answer). WherePlaced n.layout n.shape x
           (HasReply (remove_reply n.layout) run x a next) run a next) e h
 
-      go : (k : Result ℕ Answer) → key_named run i ≡ k → Found n run next (call.Remove (reference.Name i)) a
+      go : (k : Result ℕ Answer) → key_named run i ≡ k → Found n owned run next (call.Remove (reference.Name i)) a
       go (Err b) e =
           let t = at (Err b) e in
           record {
@@ -98,19 +98,19 @@ module _ (n : Numbering) (run next : Run) (i : ℕ) (a : Answer) (keys : KeysAre
           rw q (t.0, ap (own n) t.1)
 
   pub release_along : HasReply release_reply run (key_named run i) a next
-      → Found n run next (call.Release (reference.Name i)) a
+      → Found n owned run next (call.Release (reference.Name i)) a
   release_along h = go (key_named run i) refl
     where
       by : (k : Result ℕ Answer) → key_named run i ≡ k → HasReply release_reply (own n run) (own_key n k) a (own n next)
-          → CallAlong n.layout (own n run) (call.Release (reference.Name i)) a (own n next)
-      by k e t = plainly n (own n run) (own n next) (call.Release (reference.Name i)) a
+          → CallAlong n.layout n.shape owned (own n run) (call.Release (reference.Name i)) a (own n next)
+      by k e t = plainly n owned (own n run) (own n next) (call.Release (reference.Name i)) a
           (subst (λ (x : Result ℕ Answer). HasReply release_reply (own n run) x a (own n next))
           (sym (own_meant n run i k e)) t)
 
       at : (k : Result ℕ Answer) → key_named run i ≡ k → HasReply release_reply run k a next
       at k e = subst (λ (x : Result ℕ Answer). HasReply release_reply run x a next) e h
 
-      go : (k : Result ℕ Answer) → key_named run i ≡ k → Found n run next (call.Release (reference.Name i)) a
+      go : (k : Result ℕ Answer) → key_named run i ≡ k → Found n owned run next (call.Release (reference.Name i)) a
       go (Err b) e =
           let t = at (Err b) e in
           record {
@@ -130,18 +130,18 @@ module _ (n : Numbering) (run next : Run) (i : ℕ) (a : Answer) (keys : KeysAre
   own_read key = λ j. ok_or (cond (nat_lt 0 (same_holds_by n.number n.one run.store.entries run.store.pass key j))
       (same_value n.number n.one run.store.entries key j) None) refusal.NotHeld
 
-  pub read_along : Reads run (key_named run i) a next → Found n run next (call.Read (reference.Name i)) a
+  pub read_along : Reads run (key_named run i) a next → Found n owned run next (call.Read (reference.Name i)) a
   read_along h = go (key_named run i) refl
     where
       by : (k : Result ℕ Answer) → key_named run i ≡ k → Reads (own n run) (own_key n k) a (own n next)
-          → CallAlong n.layout (own n run) (call.Read (reference.Name i)) a (own n next)
-      by k e t = plainly n (own n run) (own n next) (call.Read (reference.Name i)) a
+          → CallAlong n.layout n.shape owned (own n run) (call.Read (reference.Name i)) a (own n next)
+      by k e t = plainly n owned (own n run) (own n next) (call.Read (reference.Name i)) a
           (subst (λ (x : Result ℕ Answer). Reads (own n run) x a (own n next)) (sym (own_meant n run i k e)) t)
 
       at : (k : Result ℕ Answer) → key_named run i ≡ k → Reads run k a next
       at k e = subst (λ (x : Result ℕ Answer). Reads run x a next) e h
 
-      go : (k : Result ℕ Answer) → key_named run i ≡ k → Found n run next (call.Read (reference.Name i)) a
+      go : (k : Result ℕ Answer) → key_named run i ≡ k → Found n owned run next (call.Read (reference.Name i)) a
       go (Err b) e =
           let t = at (Err b) e in
           record {

@@ -2,7 +2,7 @@
 -- they were given.
 use Rattle.std.proofs.Common.{◌≡◌, ℕ, ◌+◌, Bool, true, false, cond, List, [], ◌∷◌, ◌++◌, refl, ap, sym, ◌∙◌, subst}
 use Rattle.std.proofs.Common.{arith}
-use Rattle.std.proofs.Common.{append_assoc, inl, inr, None, slice_set}
+use Rattle.std.proofs.Common.{append_assoc, inl, inr, Option, None, slice_set}
 use Rattle.std.specs.Prelude.{nat_le}
 use Rattle.script_models.specs.Layout.{Layout, first_key}
 use Rattle.script_models.specs.Shape.{Numbers}
@@ -55,16 +55,16 @@ numbering layout shape history = record {
 
 -- ---- a call
 
-module _ (n : Numbering) (run next : Run) (a : Answer) (keys : KeysAre n run.keys) where
+module _ (n : Numbering) (owned : ℕ → Option ℕ) (run next : Run) (a : Answer) (keys : KeysAre n run.keys) where
   kept : next.keys ≡ run.keys → KeysAre n next.keys
   kept e = same_keys n run next e keys
 
   one_none : next.keys ≡ run.keys ++ None ∷ [] → KeysAre n next.keys
   one_none e = subst (KeysAre n) (sym e) (one_key_more n run.keys None keys tt)
 
-  keys_refused : (c : Call) → RefusedAlone n.layout run c a next → KeysAre n next.keys
+  keys_refused : (c : Call) → RefusedAlone n.shape owned run c a next → KeysAre n next.keys
   keys_refused (call.Adopt shard) h = kept (ap (λ (m : Run). m.keys) h.2)
-  keys_refused call.Leave h = kept (ap (λ (m : Run). m.keys) h.2)
+  keys_refused call.Leave h = absurd h
   keys_refused (call.Insert words) h = one_none (ap (λ (m : Run). m.keys) h.3)
   keys_refused (call.Get r) h = absurd h
   keys_refused (call.Read r) h = absurd h
@@ -86,35 +86,35 @@ module _ (n : Numbering) (run next : Run) (a : Answer) (keys : KeysAre n run.key
   left true = refl
   left false = refl
 
-  pub call_along : (c : Call) → NamesKey c → CallBeside n.layout n.shape run c a next
+  pub call_along : (c : Call) → NamesKey c → CallBeside n.layout n.shape owned run c a next
       → ((words : List ℕ) (g : GivesKey n.layout n.shape run words a next)
-      → n.number g.key ≡ first_key n.layout + insert_count run.store.entries) → Found n run next c a
+      → n.number g.key ≡ first_key n.layout + insert_count run.store.entries) → Found n owned run next c a
   call_along c named (inr h) number =
-      record { along = inr (inr (refused_alone n run next c a h)); keys = keys_refused c h }
+      record { along = inr (refused_alone n owned run next c a h); keys = keys_refused c h }
   call_along (call.Adopt shard) named (inl h) number = record {
-    along = adopt_along n run next shard a h;
-    keys = kept (ap (λ (m : Run). m.keys) h.1 ∙ adopted (has_shard run) (nat_le run.shards shard));
+    along = adopt_along n owned run next shard a h.0;
+    keys = kept (ap (λ (m : Run). m.keys) h.0.1 ∙ adopted (has_shard run) (nat_le run.shards shard));
   }
   call_along call.Leave named (inl h) number = record {
-    along = leave_along n run next a h;
+    along = leave_along n owned run next a h;
     keys = kept (ap (λ (m : Run). m.keys) h.1 ∙ left (has_shard run));
   }
-  call_along (call.Insert words) named (inl h) number = insert_along n run next words a keys h
+  call_along (call.Insert words) named (inl h) number = insert_along n owned run next words a keys h
       (number words)
-  call_along (call.Get (reference.Name i)) named (inl h) number = get_along n run next i a keys h
+  call_along (call.Get (reference.Name i)) named (inl h) number = get_along n owned run next i a keys h
   call_along (call.Get (reference.Key k)) named (inl h) number = absurd named
-  call_along (call.Read (reference.Name i)) named (inl h) number = read_along n run next i a keys h
+  call_along (call.Read (reference.Name i)) named (inl h) number = read_along n owned run next i a keys h
   call_along (call.Read (reference.Key k)) named (inl h) number = absurd named
-  call_along (call.Remove (reference.Name i)) named (inl h) number = remove_along n run next i a keys h
+  call_along (call.Remove (reference.Name i)) named (inl h) number = remove_along n owned run next i a keys h
   call_along (call.Remove (reference.Key k)) named (inl h) number = absurd named
   call_along (call.Release (reference.Name i)) named (inl h) number =
-      release_along n run next i a keys h
+      release_along n owned run next i a keys h
   call_along (call.Release (reference.Key k)) named (inl h) number = absurd named
   call_along call.Post named (inl h) number = record {
-    along = post_along n run next a h;
+    along = post_along n owned run next a h;
     keys = one_none (ap (λ (m : Run). m.keys) h.1);
   }
   call_along (call.Wait i) named (inl h) number = record {
-    along = wait_along n run next i a h;
+    along = wait_along n owned run next i a h;
     keys = kept (ap (λ (m : Run). m.keys) h.1);
   }

@@ -13,7 +13,11 @@ use Rattle.script_models.specs.HeaderMeaning.{layout_of}
 use Rattle.script_models.specs.CallLine.{CallLine}
 use Rattle.script_models.specs.Keys.{HasTagRoom}
 use Rattle.std.specs.List.{All}
+use Rattle.script_heap.specs.Crowding.{CrowdedIsExact}
 use Rattle.script_heap.specs.HeapOutput.{IsHeap}
+use Rattle.script_heap.specs.Owners.{AnswersAreExact, nobody_owns}
+use Rattle.script_heap.proofs.CrowdedLines.{lines_crowd_exactly}
+use Rattle.script_heap.proofs.OwnersTold.{lines_tell_owners}
 use Rattle.script_models.specs.PlainRun.{opening_run}
 use Rattle.script_beside.specs.Law.{HeapIsBesidePlain}
 use Rattle.script_beside.proofs.Logs.{LogIs}
@@ -49,9 +53,9 @@ told_below history parts (suc n) h q below =
 
 -- ---- the start
 
-nobody_owns : (terms : RunTerms) (tag : Option ℕ) (heap : Option Heap)
+none_has_shard : (terms : RunTerms) (tag : Option ℕ) (heap : Option Heap)
     → OwnersAre terms tag (replicate 64 false) (new_part heap)
-nobody_owns terms tag heap = record {
+none_has_shard terms tag heap = record {
   few = length-replicate 64 false;
   each =
       λ q below. get_or-replicate 64 q false false below;
@@ -66,18 +70,19 @@ lines_walked : (heap : Option Heap) (terms : RunTerms) (tag : Option ℕ) (lines
     (tale : List PassTold) → (told : IsTold true heap terms tag lines output tale)
     → IfSome heap (λ h. h.shape ≡ terms.shape) → 1 ≤ terms.shape.passes → terms.shape.passes ≤ 64
     → HasTagRoom terms.layout tag → All (λ (l : CallLine). l.pass < terms.shape.passes) lines
-    → FewAlong terms.layout.guard_max told.whole.history
-    → Walked terms tag told.whole.history (opening_run terms.shape.shards terms.shape.passes tag) lines
+    → FewAlong terms.layout.guard_max told.whole.history → CrowdedIsExact terms.layout.guard_max told.whole.history
+    → AnswersAreExact terms.shape nobody_owns lines told.replies.answers
+    → Walked terms tag told.whole.history nobody_owns (opening_run terms.shape.shards terms.shape.passes tag) lines
     told.replies.answers
-lines_walked heap terms tag lines output tale told shape some few room below holds =
+lines_walked heap terms tag lines output tale told shape some few room below holds crowds exact =
     let history = told.whole.history in
     let logs : LogsAre terms told.replies.after.parts history =
     told_below history told.replies.after.parts terms.shape.passes
     (subst (HasAllLogs history) told.tale_is told.whole.has) in
     walk terms tag room some few history lines told.replies.answers _ told.replies.after [] history 0
-    (replicate 64 false)
-    [] told.replies.ran told.whole.legal logs (told.in_order refl) below (nobody_owns terms tag heap) tt
-    (none_issued terms.layout) (new_pass_knows terms tag heap shape) holds refl
+    (replicate 64 false) nobody_owns
+    [] told.replies.ran told.whole.legal logs (told.in_order refl) below (none_has_shard terms tag heap) tt
+    (none_issued terms.layout) (new_pass_knows terms tag heap shape) holds crowds (λ q. refl) exact refl
 
 -- the layouts of scripts are layouts
 lawful : (l : LayoutName) → IsLayout (layout_of l)
@@ -87,7 +92,8 @@ lawful layout.Tagged = tagged_numbers.lawful
 
 heap_walked : (asked : Bool) (text output : List ℕ) → (heap : IsHeap true asked text output)
     → Walked (heap_terms (layout_of heap.header.layout) heap.header.shape) heap.header.tag
-    heap.is_output.told.whole.history (opening_run heap.header.shape.shards heap.header.shape.passes heap.header.tag)
+    heap.is_output.told.whole.history nobody_owns
+    (opening_run heap.header.shape.shards heap.header.shape.passes heap.header.tag)
     heap.lines heap.is_output.told.replies.answers
 heap_walked asked text output heap =
     let header = heap.header in
@@ -98,6 +104,10 @@ heap_walked asked text output heap =
     out.tale out.told out.of_shape shape.0.some_pass fit.few fit.room fit.below
     (subst (FewAlong (layout_of header.layout).guard_max) out.log
     (few_along (layout_of header.layout) header.shape (lawful header.layout) shape.0 shape.1 out.events))
+    (lines_crowd_exactly asked (layout_of header.layout) header.shape header.tag heap.lines output
+    (lawful header.layout) shape.0 shape.1 fit.below out)
+    (lines_tell_owners asked (layout_of header.layout) header.shape header.tag heap.lines output
+    (lawful header.layout) shape.0 shape.1 fit.below out)
 
 pub heap_is_beside_plain : HeapIsBesidePlain
 heap_is_beside_plain asked text output heap =

@@ -17,6 +17,7 @@ use Rattle.script_models.specs.Lists.{times}
 use Rattle.script_models.specs.Worlds.{World, step, apply, run, run_from, open_world, joined}
 use Rattle.script_models.proofs.Clauses.RunTheorem.{theorem}
 use Rattle.script_models.proofs.Words.Steps.{run_snoc}
+use Rattle.script_heap.proofs.CrowdedKeys.{first_of, rest_of}
 
 -- no key has more holds, and none was released more often than it was got
 abbrev pub FewHolds : (guard_max : ℕ) → List Entry → Type 0
@@ -58,15 +59,9 @@ step_adds plan w e = go (slice_get w.parts e.pass)
 
 -- ---- beginnings of the log
 
-cons_first : (x y : Entry) (xs ys : List Entry) → x ∷ xs ≡ y ∷ ys → x ≡ y
-cons_first x y xs ys e = cc
-
-cons_rest : (x y : Entry) (xs ys : List Entry) → x ∷ xs ≡ y ∷ ys → xs ≡ ys
-cons_rest x y xs ys e = cc
-
 one_alone : (x y : Entry) (ys rest : List Entry) → x ∷ [] ≡ y ∷ (ys ++ rest) → y ∷ ys ≡ x ∷ []
-one_alone x y [] rest e = ap (λ z. z ∷ []) (sym (cons_first x y [] rest e))
-one_alone x y (z ∷ zs) rest e = absurd (let h : [] ≡ z ∷ (zs ++ rest) = cons_rest x y [] (z ∷ (zs ++ rest)) e in cc)
+one_alone x y [] rest e = ap (λ z. z ∷ []) (sym (first_of x y [] rest e))
+one_alone x y (z ∷ zs) rest e = absurd (let h : [] ≡ z ∷ (zs ++ rest) = rest_of x y [] (z ∷ (zs ++ rest)) e in cc)
 
 -- a beginning of a longer list is the whole list, or one of the list without its last
 splits : (xs : List Entry) (x : Entry) (front rest : List Entry) → xs ++ x ∷ [] ≡ front ++ rest
@@ -74,8 +69,8 @@ splits : (xs : List Entry) (x : Entry) (front rest : List Entry) → xs ++ x ∷
 splits xs x [] rest e = inr (xs, refl)
 splits [] x (y ∷ ys) rest e = inl (one_alone x y ys rest e)
 splits (z ∷ zs) x (y ∷ ys) rest e =
-    more (splits zs x ys rest (cons_rest z y (zs ++ x ∷ []) (ys ++ rest) e))
-    (cons_first z y (zs ++ x ∷ []) (ys ++ rest) e)
+    more (splits zs x ys rest (rest_of z y (zs ++ x ∷ []) (ys ++ rest) e))
+    (first_of z y (zs ++ x ∷ []) (ys ++ rest) e)
   where
     more : (ys ≡ zs ++ x ∷ []) ⊎ ((left : List Entry) × (zs ≡ ys ++ left)) → z ≡ y
         → (y ∷ ys ≡ z ∷ zs ++ x ∷ []) ⊎ ((left : List Entry) × (z ∷ zs ≡ y ∷ ys ++ left))
@@ -142,7 +137,3 @@ room_before guard_max before pass key value few more =
     let f = few key in
     let m = (more key).1 in
     omega (arith, got, gone, here, f.0, m)
-
-pub few_before : (guard_max : ℕ) (before : List Entry) (key : ℕ) → FewHolds guard_max before
-    → holds_on before key ≤ guard_max
-few_before guard_max before key few = let f = few key in omega (arith, f.1)

@@ -23,8 +23,8 @@ use Rattle.script_models.specs.PlainRun.{HasReply}
 use Rattle.script_heap.specs.Parts.{PassPart, Becomes, is_placed_key}
 use Rattle.script_heap.specs.Calls.{CallAnswers, AnswerSays, GetAnswers, UnlessRefused, HoldGot}
 use Rattle.script_heap.specs.InOrder.{is_done_gone_or_crowded}
-use Rattle.script_beside.specs.Beside.{IsLimit, WherePlaced, IfPlaced, GetsBeside}
-use Rattle.script_beside.proofs.Fewness.{FewHolds, room_before, few_before}
+use Rattle.script_beside.specs.Beside.{WherePlaced, IfPlaced}
+use Rattle.script_beside.proofs.Fewness.{FewHolds, room_before}
 use Rattle.script_models.proofs.LogHolds.{hold_count_by_log}
 use Rattle.script_models.proofs.HistoryLaws.{some_value}
 use Rattle.script_beside.proofs.Logs.{added_agrees}
@@ -49,7 +49,7 @@ module _ (t : Turn) (r : Reference) (a : Answer) (ready : Ready t (call.Get r) a
   -- the answer of mode plain to this get of this key
   abbrev GetSays : Result ℕ Answer → Type 0
   GetSays k = WherePlaced t.terms.layout t.terms.shape k
-      (GetsBeside t.terms.layout (plain_before t) k a (plain_after t)) (plain_before t) a (plain_after t)
+      (HasReply (get_reply t.terms.layout) (plain_before t) k a (plain_after t)) (plain_before t) a (plain_after t)
 
   abbrev many : ℕ
   many = t.terms.layout.guard_max
@@ -58,37 +58,28 @@ module _ (t : Turn) (r : Reference) (a : Answer) (ready : Ready t (call.Get r) a
       → GetSays k → Stepped t (call.Get r) a
   get_said k e same issued h = stays t (call.Get r) a ready same ready.names issued (inl (subst GetSays (sym e) h))
 
-  within : IsLimit t.terms.layout (plain_before t) many
-  within = let s = ready.some_pass in record { most = omega arith; least = omega (arith, s) }
-
   get_keyless : (b : Answer) → key_here t r ≡ Err b → heap_key t r ≡ Err b → a ≡ b → t.w ≡ t.v
       → Stepped t (call.Get r) a
   get_keyless b e f is same =
       let none = keyless t (call.Get r) a ready r b refl refl f is in
       get_said (Err b) e (ap (λ (p : PassPart). p.shard) same) (issued_kept t (call.Get r) a ready none)
-      (record { limit = many; is_limit = within; tells = (is, run_kept t (call.Get r) a ready none) })
+      (is, run_kept t (call.Get r) a ready none)
 
   module _ (key : ℕ) (e : key_here t r ≡ Ok key) where
+    abbrev GetTells : Type 0
+    GetTells = HasReply (get_reply t.terms.layout) (plain_before t) (Ok key) a (plain_after t)
+
     get_placeless : is_placed_key t.terms.layout t.terms.shape key ≡ false → a ≡ answer.Refused refusal.BadKey
         → Becomes t.v t.w → Stepped t (call.Get r) a
     get_placeless f is same =
         let none = ap is_done_gone_or_crowded is in
         get_said (Ok key) e (shard_kept t.v t.w same) (issued_kept t (call.Get r) a ready none)
-        (placeless t (call.Get r) a ready key
-        (GetsBeside t.terms.layout (plain_before t) (Ok key) a (plain_after t)) f is none)
+        (placeless t (call.Get r) a ready key GetTells f is none)
 
     module _ (f : is_placed_key t.terms.layout t.terms.shape key ≡ true) where
-      -- the answer of mode plain with this limit in the layout
-      abbrev GetTells : ℕ → Type 0
-      GetTells limit = HasReply (get_reply (record t.terms.layout { guard_max = limit })) (plain_before t) (Ok key) a
-          (plain_after t)
-
-      get_placed : t.w.shard ≡ t.v.shard → AreIssued t.terms.layout t.after → (limit : ℕ)
-          → IsLimit t.terms.layout (plain_before t) limit → GetTells limit → Stepped t (call.Get r) a
-      get_placed same issued limit is_limit tells = get_said (Ok key) e same issued
-          (subst (λ (b : Bool). IfPlaced b (GetsBeside t.terms.layout (plain_before t) (Ok key) a (plain_after t))
-          (plain_before t) a (plain_after t)) (sym f)
-          (record { limit = limit; is_limit = is_limit; tells = tells }))
+      get_placed : t.w.shard ≡ t.v.shard → AreIssued t.terms.layout t.after → GetTells → Stepped t (call.Get r) a
+      get_placed same issued tells = get_said (Ok key) e same issued
+          (subst (λ (b : Bool). IfPlaced b GetTells (plain_before t) a (plain_after t)) (sym f) tells)
 
       named_by_layout : is_some (unpacked t.terms.layout key) ≡ true
       named_by_layout = placed_is_key t.terms.layout t.terms.shape key f
@@ -99,7 +90,7 @@ module _ (t : Turn) (r : Reference) (a : Answer) (ready : Ready t (call.Get r) a
           let none = ap is_done_gone_or_crowded is in
           let h : nat_le 16 (hold_count t.before t.pass) ≡ true =
           ap (nat_le 16) (sym (hold_count_by_log t.pass t.v.log t.before ready.log)) ∙ g in
-          get_placed (shard_kept t.v t.w same) (issued_kept t (call.Get r) a ready none) many within
+          get_placed (shard_kept t.v t.w same) (issued_kept t (call.Get r) a ready none)
           (rw (named_by_layout, h) (is, run_kept t (call.Get r) a ready none))
 
       module _ (g : nat_le 16 (logged_hold_count t.v.log t.pass) ≡ false) where
@@ -107,14 +98,12 @@ module _ (t : Turn) (r : Reference) (a : Answer) (ready : Ready t (call.Get r) a
         roomy = ap (nat_le 16) (sym (hold_count_by_log t.pass t.v.log t.before ready.log)) ∙ g
 
         -- its answer if there is room for a hold, by the value that the key has
-        get_by_value : (limit : ℕ) (o : Option (List ℕ)) → present_value t.before key ≡ o
-            → (a ≡ done_answer (got_reply (record t.terms.layout { guard_max = limit }) (plain_before t).store key
-            o).answer)
+        get_by_value : (o : Option (List ℕ)) → present_value t.before key ≡ o
+            → (a ≡ done_answer (got_reply t.terms.layout (plain_before t).store key o).answer)
             × (plain_after t ≡ record (plain_before t) {
-              store = with_added (plain_before t).store
-                  (got_reply (record t.terms.layout { guard_max = limit }) (plain_before t).store key o).adds;
-            }) → GetTells limit
-        get_by_value limit o here h = rw (named_by_layout, roomy, here) h
+              store = with_added (plain_before t).store (got_reply t.terms.layout (plain_before t).store key o).adds;
+            }) → GetTells
+        get_by_value o here h = rw (named_by_layout, roomy, here) h
 
         got : (x : Result Hold Refusal) → a ≡ done_answer x → HoldGot t.pass t.v key x t.w → Stepped t (call.Get r) a
         got (Ok hold) is h =
@@ -127,26 +116,26 @@ module _ (t : Turn) (r : Reference) (a : Answer) (ready : Ready t (call.Get r) a
             let room = room_before many t.before t.pass key it.0 ready.few (subst (FewHolds many) at ready.few_after) in
             let few : nat_le many (holds_on t.before key) ≡ false = grind (arith, nat_tests) in
             get_placed (ap (λ (p : PassPart). p.shard) h.1.2)
-            (issued_after t (call.Get r) a ready (Got t.pass key it.0) refl at) many within
-            (get_by_value many (Some it.0) (present_here t.before key it.0 ok.0 ok.1)
+            (issued_after t (call.Get r) a ready (Got t.pass key it.0) refl at)
+            (get_by_value (Some it.0) (present_here t.before key it.0 ok.0 ok.1)
             (rw few (is, ap (plain_with t) at)))
         got (Err refusal.Gone) is h =
             let at = gained t (call.Get r) a ready (ap is_done_gone_or_crowded is) (Gone t.pass key)
             (ap (λ (p : PassPart). p.log) h) in
             let ok = allowed_last t (call.Get r) a ready (Gone t.pass key) at in
             get_placed (ap (λ (p : PassPart). p.shard) h)
-            (issued_after t (call.Get r) a ready (Gone t.pass key) refl at) many within
-            (get_by_value many None (present_gone t.before key ok) (is, ap (plain_with t) at))
+            (issued_after t (call.Get r) a ready (Gone t.pass key) refl at)
+            (get_by_value None (present_gone t.before key ok) (is, ap (plain_with t) at))
         got (Err refusal.Crowded) is h =
             let at = gained t (call.Get r) a ready (ap is_done_gone_or_crowded is) (Crowded t.pass key)
             (ap (λ (p : PassPart). p.log) h) in
             let ok = allowed_last t (call.Get r) a ready (Crowded t.pass key) at in
             let has = some_value (value_of t.before key) ok.0 in
-            let full : nat_le (holds_on t.before key) (holds_on t.before key) ≡ true = grind (arith, nat_tests) in
+            let all : holds_on t.before key ≡ many = ready.crowds t.before [] t.pass key at in
+            let full : nat_le many (holds_on t.before key) ≡ true = grind (arith, nat_tests) in
             get_placed (ap (λ (p : PassPart). p.shard) h)
-            (issued_after t (call.Get r) a ready (Crowded t.pass key) refl at) (holds_on t.before key)
-            (record { most = few_before many t.before key ready.few; least = ok.2 })
-            (get_by_value (holds_on t.before key) (Some has.0) (present_here t.before key has.0 has.1 ok.1)
+            (issued_after t (call.Get r) a ready (Crowded t.pass key) refl at)
+            (get_by_value (Some has.0) (present_here t.before key has.0 has.1 ok.1)
             (rw full (is, ap (plain_with t) at)))
         got (Err _) is h = absurd h
 

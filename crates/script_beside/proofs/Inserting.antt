@@ -50,7 +50,7 @@ module _ (t : Turn) (words : List ℕ) (a : Answer) (room : HasTagRoom t.terms.l
 
   -- what was refused
   insert_refused : (r : Refusal) → a ≡ answer.Refused r → t.w.shard ≡ t.v.shard → ((is : t.after ≡ t.before)
-      → CallBeside t.terms.layout t.terms.shape (plain_before t) (call.Insert words) a (plain_named None))
+      → CallBeside t.terms.layout t.terms.shape t.owned (plain_before t) (call.Insert words) a (plain_named None))
       → Stepped t (call.Insert words) a
   insert_refused r is same beside =
       let none = ap is_key is in

@@ -1,8 +1,8 @@
 -- A call of the running heap that touches no key, beside mode plain.
-use Rattle.std.proofs.Common.{◌≡◌, ℕ, inl, inr, Bool, true, false, cond, List, [], ◌∷◌, ◌++◌}
+use Rattle.std.proofs.Common.{◌≡◌, ℕ, inl, inr, ⊎_elim, Bool, true, false, cond, List, [], ◌∷◌, ◌++◌}
 use Rattle.std.proofs.Common.{refl, ap, sym, ◌∙◌, subst, slice_index_or, slice_set}
 use Rattle.std.proofs.Common.{Option, Some, None, Result, Ok, Err}
-use Rattle.std.specs.Prelude.{is_some, nat_le}
+use Rattle.std.specs.Prelude.{is_some, nat_le, IsSome}
 use Rattle.std.proofs.lemmas.List.{get_or-set_same, get_or-set_other, length-set}
 use Rattle.script_models.specs.Refusal.{Refusal}
 use Rattle.script_models.specs.Refusal.TheVariants as refusal
@@ -14,6 +14,7 @@ use Rattle.script_models.specs.Results.{done_answer}
 use Rattle.script_models.specs.PlainRun.{adopt_answer, adopts, leave_answer, leaves}
 use Rattle.script_heap.specs.Parts.{PassPart, Becomes}
 use Rattle.script_heap.specs.Calls.{CallAnswers, UnlessRefused, PartAdopted, PartLeft, adopt_refusal, needs_shard}
+use Rattle.script_heap.specs.Owners.{AdoptIsExact, LeaveIsExact, IsFree, IsOwned}
 use Rattle.script_heap.specs.Runs.{with_number}
 use Rattle.script_beside.proofs.Names.{AreNames, one_more_name}
 use Rattle.script_beside.proofs.Issued.{AreIssued, issued_same}
@@ -40,6 +41,20 @@ module _ (t : Turn) where
     adopt_issued : AreIssued t.terms.layout t.after
     adopt_issued = issued_same t.terms.layout t.before t.after ready.grown ready.issued
 
+    -- the shard is free, if the adopt is ok
+    free_then : a ≡ answer.Done → IsFree t.terms.shape t.owned shard
+    free_then done = (subst (AdoptIsExact t.terms.shape t.owned t.pass shard) done ready.exact).1
+
+    -- another pass owns it, if the adopt of a pass without a shard is Taken
+    owned_then_taken : slice_index_or t.owners t.pass false ≡ false → a ≡ answer.Refused refusal.Taken
+        → IsOwned t.terms.shape t.owned t.pass shard
+    owned_then_taken none taken = ⊎_elim
+        (λ (own : IsSome (t.owned t.pass)).
+        let has : is_some (t.owned t.pass) ≡ true = own in
+        absurd (let z : false ≡ true = sym none ∙ (ready.owner ∙ (ap is_some (sym ready.owns) ∙ has)) in cc))
+        (λ other. other)
+        (subst (AdoptIsExact t.terms.shape t.owned t.pass shard) taken ready.exact)
+
     adopt_refused : (r : Refusal) (b c : Bool) → slice_index_or t.owners t.pass false ≡ b
         → nat_le t.terms.shape.shards shard ≡ c
         → cond b (answer.Refused refusal.Taken) (cond c (answer.Refused refusal.NoShard) answer.Done) ≡ answer.Refused r
@@ -49,8 +64,11 @@ module _ (t : Turn) where
     adopt_refused r b c e f said done is same =
         stays t (call.Adopt shard) a ready (shard_kept t.v t.w same) ready.names adopt_issued
         (inl (
-          is ∙ sym (adopt_said b c shard e f ∙ said),
-          same_run ready.grown t.owners ∙ sym (adopt_done b c shard e f ∙ done),
+          (
+            is ∙ sym (adopt_said b c shard e f ∙ said),
+            same_run ready.grown t.owners ∙ sym (adopt_done b c shard e f ∙ done),
+          ),
+          free_then,
         ))
 
     adopt_tried : slice_index_or t.owners t.pass false ≡ false → nat_le t.terms.shape.shards shard ≡ false
@@ -60,8 +78,11 @@ module _ (t : Turn) where
       owners_after = slice_set t.owners t.pass true;
       keys_after = t.keys;
       beside = inl (
-        is ∙ sym (adopt_said false false shard e f),
-        same_run ready.grown (slice_set t.owners t.pass true) ∙ sym (adopt_done false false shard e f),
+        (
+          is ∙ sym (adopt_said false false shard e f),
+          same_run ready.grown (slice_set t.owners t.pass true) ∙ sym (adopt_done false false shard e f),
+        ),
+        free_then,
       );
       few = length-set t.owners t.pass true;
       own = get_or-set_same t.owners t.pass true false ready.inside ∙ sym (ap (λ (p : PassPart). is_some p.shard) h);
@@ -71,7 +92,7 @@ module _ (t : Turn) where
     }
     adopt_tried e f (Err refusal.Taken) is h =
         stays t (call.Adopt shard) a ready (shard_kept t.v t.w h) ready.names adopt_issued
-        (inr (adopt_said false false shard e f, inl is, same_run ready.grown t.owners))
+        (inr (adopt_said false false shard e f, inl (is, owned_then_taken e is), same_run ready.grown t.owners))
     adopt_tried e f (Err refusal.Memory) is h =
         stays t (call.Adopt shard) a ready (shard_kept t.v t.w h) ready.names adopt_issued
         (inr (adopt_said false false shard e f, inr is, same_run ready.grown t.owners))
@@ -129,9 +150,7 @@ module _ (t : Turn) where
       names = ready.names;
       issued = leave_issued;
     }
-    leave_tried e (Err refusal.Waiting) is h =
-        stays t call.Leave a ready (shard_kept t.v t.w h) ready.names leave_issued
-        (inr (leave_said true e, is, same_run ready.grown t.owners))
+    leave_tried e (Err refusal.Waiting) is h = absurd (subst (LeaveIsExact t.owned t.pass) is ready.exact)
     leave_tried e (Err _) is h = absurd h
 
     pub leave_step : (bound : Option ℕ) → CallAnswers t.terms t.tag t.pass t.v call.Leave bound a t.w

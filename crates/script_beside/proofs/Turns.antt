@@ -10,7 +10,9 @@ use Rattle.script_models.specs.Call.{Call}
 use Rattle.script_models.specs.Answer.{Answer}
 use Rattle.script_models.specs.PlainRun.{Run, run_of}
 use Rattle.script_heap.specs.Parts.{RunTerms, PassPart, Becomes}
+use Rattle.script_heap.specs.Crowding.{CrowdedIsExact}
 use Rattle.script_heap.specs.InOrder.{adds_entry}
+use Rattle.script_heap.specs.Owners.{CallIsExact}
 use Rattle.script_heap.specs.Runs.{with_number}
 use Rattle.script_beside.specs.Beside.{CallBeside}
 use Rattle.script_beside.proofs.Logs.{Grown, LogIs, added_agrees}
@@ -24,8 +26,8 @@ abbrev pub state : RunTerms → Option ℕ → List Entry → ℕ → List Bool 
 state terms tag entries pass owners keys = run_of terms.shape.shards tag
     (record { entries = entries; pass = pass; passes = terms.shape.passes }) owners keys
 
--- The part of the pass and the history, before the call and after it. The owners, the keys of names and the numbers as
--- which these are written, before it.
+-- The part of the pass and the history, before the call and after it. The owners, the shard that each pass owns, the
+-- keys of names and the numbers as which these are written, before it.
 pub record Turn : Type 0 where
   pub terms : RunTerms
   pub tag : Option ℕ
@@ -35,6 +37,7 @@ pub record Turn : Type 0 where
   pub before : List Entry
   pub after : List Entry
   pub owners : List Bool
+  pub owned : ℕ → Option ℕ
   pub keys : List (Option ℕ)
   pub numbers : List (Option ℕ)
 
@@ -55,6 +58,8 @@ pub record Ready (t : Turn) (c : Call) (a : Answer) : Type 0 where
   pub log_after : LogIs t.pass t.w.log t.after
   pub legal : Legal t.terms.shape.passes t.terms.layout.guard_max t.after
   pub owner : slice_index_or t.owners t.pass false ≡ is_some t.v.shard
+  pub owns : t.owned t.pass ≡ t.v.shard
+  pub exact : CallIsExact t.terms.shape t.owned t.pass c a
   pub inside : t.pass < length t.owners
   pub names : AreNames t.tag t.keys t.numbers
   pub issued : AreIssued t.terms.layout t.before
@@ -62,12 +67,13 @@ pub record Ready (t : Turn) (c : Call) (a : Answer) : Type 0 where
   pub some_pass : 1 ≤ t.terms.shape.passes
   pub few : FewHolds t.terms.layout.guard_max t.before
   pub few_after : FewHolds t.terms.layout.guard_max t.after
+  pub crowds : CrowdedIsExact t.terms.layout.guard_max t.after
 
 -- the answer to the call is beside mode plain, and what is known of owners and names after it
 pub record Stepped (t : Turn) (c : Call) (a : Answer) : Type 0 where
   pub owners_after : List Bool
   pub keys_after : List (Option ℕ)
-  pub beside : CallBeside t.terms.layout t.terms.shape (plain_before t) c a
+  pub beside : CallBeside t.terms.layout t.terms.shape t.owned (plain_before t) c a
       (state t.terms t.tag t.after t.pass owners_after keys_after)
   pub few : length owners_after ≡ length t.owners
   pub own : slice_index_or owners_after t.pass false ≡ is_some t.w.shard
@@ -82,7 +88,7 @@ module _ (t : Turn) (c : Call) (a : Answer) (ready : Ready t c a) where
   -- a call that changes neither owners nor names
   pub stays : t.w.shard ≡ t.v.shard → AreNames t.tag t.keys (with_number t.numbers c a)
       → AreIssued t.terms.layout t.after
-      → CallBeside t.terms.layout t.terms.shape (plain_before t) c a (plain_after t) → Stepped t c a
+      → CallBeside t.terms.layout t.terms.shape t.owned (plain_before t) c a (plain_after t) → Stepped t c a
   stays same names issued beside = record {
     owners_after = t.owners;
     keys_after = t.keys;

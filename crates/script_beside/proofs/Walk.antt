@@ -6,6 +6,7 @@ use Rattle.std.specs.Prelude.{is_some}
 use Rattle.std.proofs.lemmas.Bool.{eqb-false}
 use Rattle.std.specs.List.{All}
 use Rattle.script_models.specs.Entry.{Entry}
+use Rattle.script_models.specs.Entry.TheVariants.{Crowded}
 use Rattle.script_models.specs.History.{Legal}
 use Rattle.script_models.specs.Log.{pass_of}
 use Rattle.script_models.proofs.HistoryLaws.{legal_after_parts}
@@ -18,10 +19,13 @@ use Rattle.script_models.specs.PlainRun.{Run}
 use Rattle.script_heap.specs.Parts.{RunTerms, PassPart}
 use Rattle.script_heap.specs.Receipts.{MayHeed}
 use Rattle.script_heap.specs.Calls.{CallAnswers}
+use Rattle.script_heap.specs.Crowding.{CrowdedIsExact}
 use Rattle.script_heap.specs.InOrder.{adds_entry, adding_passes}
+use Rattle.script_heap.specs.Owners.{AnswersAreExact, owned_after, owned_then}
 use Rattle.script_heap.specs.Runs.{CallsRun, LineAnswered, LinesAnswered, number_meant}
 use Rattle.script_heap.proofs.LineLemmas.{part_here, part_there}
 use Rattle.script_heap.proofs.NameLemmas.{may_log}
+use Rattle.script_heap.proofs.OwnersTold.{shard_then}
 use Rattle.script_beside.specs.Beside.{CallBeside, RanBeside}
 use Rattle.script_beside.specs.Along.{RanAlong, NamesKey}
 use Rattle.script_beside.proofs.Along.{own, KeysAre}
@@ -180,6 +184,23 @@ module _ (terms : RunTerms) (tag : Option ℕ) where
               let ne : q ≢ l.pass = eqb-false q l.pass e in
               others q ne ∙ (owns.each q below ∙ sym (ap (λ (p : PassPart). is_some p.shard) (there r next l a h q ne)))
 
+  -- the shards that passes own are those by the answers
+  shards_next : (r next : CallsRun) (l : CallLine) (a : Answer) → LineAnswered terms tag r l a next
+      → (owned : ℕ → Option ℕ) → ((q : ℕ) → owned q ≡ (r.parts q).shard)
+      → (q : ℕ) → owned_after owned l a q ≡ (next.parts q).shard
+  shards_next r next l a h owned shards q = go (q == l.pass) refl
+    where
+      go : (b : Bool) → (q == l.pass) ≡ b
+          → cond b (owned_then (owned l.pass) l.call a) (owned q) ≡ (next.parts q).shard
+      go true e =
+          let begun : owned l.pass ≡ h.begins.shard =
+          shards l.pass ∙ sym (shard_heeded (r.parts l.pass) h.begins h.heeds) in
+          ap (λ (o : Option ℕ). owned_then o l.call a) begun
+          ∙ (sym (shard_then terms tag l.pass h.begins h.part l.call (number_meant r.numbers l.call) a h.does)
+          ∙ sym (ap (λ (p : PassPart). p.shard) (here r next l a h q (eqb-true q l.pass e))))
+      go false e = shards q
+          ∙ sym (ap (λ (p : PassPart). p.shard) (there r next l a h q (eqb-false q l.pass e)))
+
   -- mode plain's own run, in which the keys of this history have the numbers in which they were given
   abbrev pub own_of : List Entry → Run → Run
   own_of history run = own (numbering terms.layout terms.shape history) run
@@ -188,31 +209,33 @@ module _ (terms : RunTerms) (tag : Option ℕ) where
   KeysOf history keys = KeysAre (numbering terms.layout terms.shape history) keys
 
   -- the lines beside mode plain, and along with its own run
-  pub record Walked (history : List Entry) (run : Run) (lines : List CallLine) (answers : List Answer) : Type 0 where
-    pub after : Run
-    pub beside : RanBeside terms.layout terms.shape run lines answers after
-    pub along : All (λ (l : CallLine). NamesKey l.call) lines → KeysOf history run.keys
-        → RanAlong terms.layout (own_of history run) lines answers (own_of history after)
+  pub record Walked (history : List Entry) (owned : ℕ → Option ℕ) (run : Run) (lines : List CallLine)
+      (answers : List Answer) : Type 0
+    where
+      pub after : Run
+      pub beside : RanBeside terms.layout terms.shape owned run lines answers after
+      pub along : All (λ (l : CallLine). NamesKey l.call) lines → KeysOf history run.keys
+          → RanAlong terms.layout terms.shape owned (own_of history run) lines answers (own_of history after)
 
   -- a line, and the lines after it
-  one_line : (history before after later : List Entry) (pass last : ℕ) (owners now : List Bool)
+  one_line : (history before after later : List Entry) (pass last : ℕ) (owners now : List Bool) (owned : ℕ → Option ℕ)
       (keys more : List (Option ℕ)) (l : CallLine) (a : Answer) (lines : List CallLine) (answers : List Answer)
       → l.pass ≡ pass → after ++ later ≡ history
-      → CallBeside terms.layout terms.shape (state terms tag before pass owners keys) l.call a
+      → CallBeside terms.layout terms.shape owned (state terms tag before pass owners keys) l.call a
       (state terms tag after pass now more)
-      → Walked history (state terms tag after pass now more) lines answers
-      → Walked history (state terms tag before last owners keys) (l ∷ lines) (a ∷ answers)
-  one_line history before after later pass last owners now keys more l a lines answers same whole beside rest =
+      → Walked history (owned_after owned l a) (state terms tag after pass now more) lines answers
+      → Walked history owned (state terms tag before last owners keys) (l ∷ lines) (a ∷ answers)
+  one_line history before after later pass last owners now owned keys more l a lines answers same whole beside rest =
       let run = state terms tag before pass owners keys in
       let next = state terms tag after pass now more in
-      let at : CallBeside terms.layout terms.shape (state terms tag before l.pass owners keys) l.call a next =
-      subst (λ (p : ℕ). CallBeside terms.layout terms.shape (state terms tag before p owners keys) l.call a next)
+      let at : CallBeside terms.layout terms.shape owned (state terms tag before l.pass owners keys) l.call a next =
+      subst (λ (p : ℕ). CallBeside terms.layout terms.shape owned (state terms tag before p owners keys) l.call a next)
       (sym same) beside in
       record {
         after = rest.after;
         beside = (next, at, rest.beside);
         along = λ named known.
-            let found = call_along (numbering terms.layout terms.shape history)
+            let found = call_along (numbering terms.layout terms.shape history) owned
             (state terms tag before l.pass owners keys) next a known l.call (named 0 l (omega arith)) at
             (λ words given. number_now terms.layout before after later history l.pass given.key words
             (ap (λ (m : Run). m.store.entries) given.next_is) whole given.new.not_issued) in (
@@ -226,21 +249,25 @@ module _ (terms : RunTerms) (tag : Option ℕ) where
   module _ (room : HasTagRoom terms.layout tag) (some : 1 ≤ terms.shape.passes) (few : terms.shape.passes ≤ 64)
       (history : List Entry) where
     pub walk : (lines : List CallLine) (answers : List Answer) (r end : CallsRun) (before todo : List Entry) (last : ℕ)
-        (owners : List Bool) (keys : List (Option ℕ)) → LinesAnswered terms tag r lines answers end
+        (owners : List Bool) (owned : ℕ → Option ℕ) (keys : List (Option ℕ))
+        → LinesAnswered terms tag r lines answers end
         → Legal terms.shape.passes terms.layout.guard_max (before ++ todo) → LogsAre terms end.parts (before ++ todo)
         → map pass_of todo ≡ adding_passes lines answers
         → All (λ (l : CallLine). l.pass < terms.shape.passes) lines → OwnersAre owners r.parts
         → AreNames tag keys r.numbers → AreIssued terms.layout before → KnowsEach r.parts
-        → FewAlong terms.layout.guard_max (before ++ todo) → before ++ todo ≡ history
-        → Walked history (state terms tag before last owners keys) lines answers
-    walk [] [] r end before todo last owners keys ran legal logs passes below owns names issued knows holds whole =
+        → FewAlong terms.layout.guard_max (before ++ todo) → CrowdedIsExact terms.layout.guard_max (before ++ todo)
+        → ((q : ℕ) → owned q ≡ (r.parts q).shard) → AnswersAreExact terms.shape owned lines answers
+        → before ++ todo ≡ history
+        → Walked history owned (state terms tag before last owners keys) lines answers
+    walk [] [] r end before todo last owners owned keys ran legal logs passes below owns names issued knows holds crowds
+        shards exact whole =
         record { after = state terms tag before last owners keys; beside = refl; along = λ named known. refl }
-    walk [] (a ∷ answers) r end before todo last owners keys ran legal logs passes below owns names issued knows holds
-        whole = absurd ran
-    walk (l ∷ lines) [] r end before todo last owners keys ran legal logs passes below owns names issued knows holds
-        whole = absurd ran
-    walk (l ∷ lines) (a ∷ answers) r end before todo last owners keys ran legal logs passes below owns names issued
-        knows holds whole =
+    walk [] (a ∷ answers) r end before todo last owners owned keys ran legal logs passes below owns names issued knows
+        holds crowds shards exact whole = absurd ran
+    walk (l ∷ lines) [] r end before todo last owners owned keys ran legal logs passes below owns names issued knows
+        holds crowds shards exact whole = absurd ran
+    walk (l ∷ lines) (a ∷ answers) r end before todo last owners owned keys ran legal logs passes below owns names
+        issued knows holds crowds shards exact whole =
         let g = goes (adds_entry l.call a) l.pass before todo (adding_passes lines answers) passes in
         let h = ran.1 in
         let logs_end : LogsAre terms end.parts (g.after ++ g.later) = subst (LogsAre terms end.parts) g.same logs in
@@ -260,6 +287,7 @@ module _ (terms : RunTerms) (tag : Option ℕ) where
           before = before;
           after = g.after;
           owners = owners;
+          owned = owned;
           keys = keys;
           numbers = r.numbers;
         } in
@@ -271,6 +299,8 @@ module _ (terms : RunTerms) (tag : Option ℕ) where
               (logs_next l.pass inside);
           legal = (legal_after_parts terms.shape.passes terms.layout.guard_max [] g.after g.later legal_end).0;
           owner = owns.each l.pass small ∙ sym (ap is_some (shard_heeded (r.parts l.pass) h.begins h.heeds));
+          owns = shards l.pass ∙ sym (shard_heeded (r.parts l.pass) h.begins h.heeds);
+          exact = exact.0;
           inside = let f = owns.few in omega (arith, small, f);
           names = names;
           issued = issued;
@@ -278,14 +308,18 @@ module _ (terms : RunTerms) (tag : Option ℕ) where
           some_pass = some;
           few = holds before todo refl;
           few_after = holds g.after g.later g.same;
+          crowds = λ front rest p key is. crowds front (rest ++ g.later) p key (g.same
+              ∙ (ap (λ (es : List Entry). es ++ g.later) is ∙ append_assoc front (Crowded p key ∷ rest) g.later));
         } in
         let s = call_step t room l.call a ready h.does in
-        let rest = walk lines answers ran.0 end g.after g.later l.pass s.owners_after s.keys_after ran.2 legal_end
+        let rest = walk lines answers ran.0 end g.after g.later l.pass s.owners_after (owned_after owned l a)
+        s.keys_after ran.2 legal_end
         logs_end g.passes (λ k d inside. below (suc k) d (omega (arith, inside)))
         (owners_next r ran.0 l a h owners s.owners_after owns s.few s.own s.others)
         (subst (λ (n : CallsRun). AreNames tag s.keys_after n.numbers) (sym h.next_is) s.names) s.issued
         (knows_next r ran.0 l a h knows) (subst (FewAlong terms.layout.guard_max) g.same holds)
+        (subst (CrowdedIsExact terms.layout.guard_max) g.same crowds) (shards_next r ran.0 l a h owned shards) exact.1
         (sym g.same ∙ whole) in
-        one_line history before g.after g.later l.pass last owners s.owners_after keys s.keys_after l a lines answers
-        refl
+        one_line history before g.after g.later l.pass last owners s.owners_after owned keys s.keys_after l a lines
+        answers refl
         (sym g.same ∙ whole) s.beside rest

@@ -1,12 +1,8 @@
 -- Mode plain's own run along with mode heap, for scripts in which no line has a key as a number. The numbers of keys
 -- then occur only in the answers to inserts.
-use Rattle.std.specs.Prelude.{◌≡◌, ℕ, ◌+◌, ◌<◌, List, [], ◌∷◌, ◌⊎◌, Option, Some, Ok, IsSome}
-use Rattle.script_models.specs.Refusal.TheVariants as refusal
+use Rattle.std.specs.Prelude.{◌≡◌, ℕ, List, [], ◌∷◌, ◌⊎◌, Option}
 use Rattle.script_models.specs.Layout.{Layout}
 use Rattle.script_models.specs.Shape.{Numbers}
-use Rattle.script_models.specs.Entry.TheVariants.{Crowded}
-use Rattle.script_models.specs.History.{present_value, holds_on}
-use Rattle.script_models.specs.Plain.{with_added}
 use Rattle.script_models.specs.Reference.{Reference}
 use Rattle.script_models.specs.Reference.TheVariants as reference
 use Rattle.script_models.specs.Call.{Call}
@@ -14,7 +10,8 @@ use Rattle.script_models.specs.Call.TheVariants as call
 use Rattle.script_models.specs.CallLine.{CallLine}
 use Rattle.script_models.specs.Answer.{Answer}
 use Rattle.script_models.specs.Answer.TheVariants as answer
-use Rattle.script_models.specs.PlainRun.{Run, CallDoes, at_turn, key_of, opening_run}
+use Rattle.script_models.specs.PlainRun.{Run, CallDoes, at_turn, opening_run}
+use Rattle.script_heap.specs.Owners.{owned_after, nobody_owns}
 use Rattle.script_beside.specs.Beside.{RefusedAlone}
 
 -- the key is referred to by its name
@@ -34,21 +31,6 @@ abbrev pub SameButKey : (told plain : Answer) → Type 0
 SameButKey (answer.Key m) (answer.Key n) = Unit {0}
 SameButKey told plain = told ≡ plain
 
--- a get of a key that is there is Crowded with fewer holds than in mode plain, but with more than the layout allows if
--- all passes are counted too
-pub record IsCrowdedEarly (layout : Layout) (run : Run) (r : Reference) (told : Answer) (next : Run) : Type 0 where
-  pub key : ℕ
-  pub names : key_of run r ≡ Ok key
-  pub there : IsSome (present_value run.store.entries key)
-  pub early : holds_on run.store.entries key < layout.guard_max
-  pub many : layout.guard_max < holds_on run.store.entries key + run.store.passes
-  pub is : told ≡ answer.Refused refusal.Crowded
-  pub next_is : next ≡ record run { store = with_added run.store (Some (Crowded run.store.pass key)) }
-
-abbrev pub CrowdedEarly : Layout → Run → Call → Answer → Run → Type 0
-CrowdedEarly layout run (call.Get r) told next = IsCrowdedEarly layout run r told next
-CrowdedEarly layout run _ told next = ⊥
-
 -- mode plain gives the same answer, except for the number of a key
 pub record IsPlainAnswer (layout : Layout) (run : Run) (c : Call) (told : Answer) (next : Run) : Type 0 where
   pub plain : Answer
@@ -56,19 +38,20 @@ pub record IsPlainAnswer (layout : Layout) (run : Run) (c : Call) (told : Answer
   pub same : SameButKey told plain
 
 -- or it is refused as only the running heap refuses
-abbrev pub CallAlong : Layout → Run → Call → Answer → Run → Type 0
-CallAlong layout run c told next = IsPlainAnswer layout run c told next
-    ⊎ (CrowdedEarly layout run c told next ⊎ RefusedAlone layout run c told next)
+abbrev pub CallAlong : Layout → Numbers → (owned : ℕ → Option ℕ) → Run → Call → Answer → Run → Type 0
+CallAlong layout shape owned run c told next =
+    IsPlainAnswer layout run c told next ⊎ RefusedAlone shape owned run c told next
 
--- these lines have these answers along with mode plain, one after the other
-abbrev pub RanAlong : Layout → Run → List CallLine → List Answer → Run → Type 0
-RanAlong layout run [] [] after = after ≡ run
-RanAlong layout run [] (a ∷ answers) after = ⊥
-RanAlong layout run (l ∷ lines) [] after = ⊥
-RanAlong layout run (l ∷ lines) (a ∷ answers) after = (next : Run)
-    × CallAlong layout (at_turn run l.pass) l.call a next × RanAlong layout next lines answers after
+-- these lines have these answers along with mode plain, one after the other, if passes own these shards before
+abbrev pub RanAlong : Layout → Numbers → (owned : ℕ → Option ℕ) → Run → List CallLine → List Answer → Run → Type 0
+RanAlong layout shape owned run [] [] after = after ≡ run
+RanAlong layout shape owned run [] (a ∷ answers) after = ⊥
+RanAlong layout shape owned run (l ∷ lines) [] after = ⊥
+RanAlong layout shape owned run (l ∷ lines) (a ∷ answers) after = (next : Run)
+    × CallAlong layout shape owned (at_turn run l.pass) l.call a next
+    × RanAlong layout shape (owned_after owned l a) next lines answers after
 
 -- the same, from the start
 abbrev pub AreAlongPlain : Layout → Numbers → Option ℕ → List CallLine → List Answer → Type 0
 AreAlongPlain layout shape tag lines answers = (after : Run)
-    × RanAlong layout (opening_run shape.shards shape.passes tag) lines answers after
+    × RanAlong layout shape nobody_owns (opening_run shape.shards shape.passes tag) lines answers after

@@ -1,22 +1,23 @@
 -- Mode heap beside mode plain. The plain map walks the lines along with the running heap, in the keys that the heap
--- gives. Each answer is what mode plain's own definitions say of its line, with three exceptions, stated here. They are
--- the number of a key, the number of holds at which it is crowded, and some refusals of an adopt, a leave or an insert.
-use Rattle.std.specs.Prelude.{◌≡◌, ℕ, ◌+◌, ◌<◌, ◌≤◌, Bool, true, false, List, [], ◌∷◌, ◌++◌, ◌⊎◌, length}
+-- gives. Each answer is what mode plain's own definitions say of its line, with two exceptions, stated here. They are
+-- the number of a key, and some refusals of an adopt or an insert.
+use Rattle.std.specs.Prelude.{◌≡◌, ℕ, ◌≤◌, Bool, true, false, List, [], ◌∷◌, ◌++◌, ◌⊎◌, length}
 use Rattle.std.specs.Prelude.{Option, Some, None, Result, Ok, Err}
 use Rattle.script_models.specs.Refusal.{Refusal}
 use Rattle.script_models.specs.Refusal.TheVariants as refusal
 use Rattle.script_models.specs.Layout.{Layout}
 use Rattle.script_models.specs.Shape.{Numbers}
 use Rattle.script_models.specs.Entry.TheVariants.{Insert}
-use Rattle.script_models.specs.Plain.{IsNewKey, with_added, get_reply}
+use Rattle.script_models.specs.Plain.{IsNewKey, with_added}
 use Rattle.script_models.specs.Call.{Call}
 use Rattle.script_models.specs.Call.TheVariants as call
 use Rattle.script_models.specs.CallLine.{CallLine}
 use Rattle.script_models.specs.Answer.{Answer}
 use Rattle.script_models.specs.Answer.TheVariants as answer
 use Rattle.script_models.specs.Keys.{shown}
-use Rattle.script_models.specs.PlainRun.{Run, CallDoes, HasReply, at_turn, has_shard, key_of, opening_run, adopt_answer}
-use Rattle.script_models.specs.PlainRun.{leave_answer, insert_attempt}
+use Rattle.script_models.specs.PlainRun.{Run, CallDoes, at_turn, has_shard, key_of, opening_run, adopt_answer}
+use Rattle.script_models.specs.PlainRun.{insert_attempt}
+use Rattle.script_heap.specs.Owners.{IsFree, IsOwned, owned_after, nobody_owns}
 use Rattle.script_heap.specs.Parts.{is_placed_key}
 
 -- ---- the numbers of keys
@@ -52,60 +53,48 @@ abbrev pub WherePlaced : Layout → Numbers → Result ℕ Answer → (Does : Ty
 WherePlaced layout shape (Ok key) Does run told next = IfPlaced (is_placed_key layout shape key) Does run told next
 WherePlaced layout shape (Err a) Does run told next = Does
 
--- ---- Crowded
-
--- A key with `limit` holds is crowded for this get. In mode plain that is the number of holds that the layout allows.
--- The running heap also counts the passes that are on their way to the slot, which are at most all but one.
-pub record IsLimit (layout : Layout) (run : Run) (limit : ℕ) : Type 0 where
-  pub most : limit ≤ layout.guard_max
-  pub least : layout.guard_max < limit + run.store.passes
-
--- the answer to a get is that of mode plain with this limit in the layout
-pub record GetsBeside (layout : Layout) (run : Run) (key : Result ℕ Answer) (told : Answer) (next : Run) : Type 0 where
-  pub limit : ℕ
-  pub is_limit : IsLimit layout run limit
-  pub tells : HasReply (get_reply (record layout { guard_max = limit })) run key told next
-
 -- ---- a line
 
--- the answer to the call is that of mode plain
-abbrev pub AsPlain : Layout → Numbers → Run → Call → Answer → Run → Type 0
-AsPlain layout shape run (call.Insert words) told next =
+-- The answer to the call is that of mode plain, which does not look at what other passes own. An adopt is ok only if no
+-- pass owns the shard.
+abbrev pub AsPlain : Layout → Numbers → (owned : ℕ → Option ℕ) → Run → Call → Answer → Run → Type 0
+AsPlain layout shape owned run (call.Adopt shard) told next = CallDoes layout run (call.Adopt shard) told next
+    × (told ≡ answer.Done → IsFree shape owned shard)
+AsPlain layout shape owned run (call.Insert words) told next =
     InsertsBeside layout shape run words (insert_attempt layout run words).answer told next
-AsPlain layout shape run (call.Get r) told next =
-    WherePlaced layout shape (key_of run r) (GetsBeside layout run (key_of run r) told next) run told next
-AsPlain layout shape run (call.Remove r) told next =
+AsPlain layout shape owned run (call.Get r) told next =
+    WherePlaced layout shape (key_of run r) (CallDoes layout run (call.Get r) told next) run told next
+AsPlain layout shape owned run (call.Remove r) told next =
     WherePlaced layout shape (key_of run r) (CallDoes layout run (call.Remove r) told next) run told next
-AsPlain layout shape run c told next = CallDoes layout run c told next
+AsPlain layout shape owned run c told next = CallDoes layout run c told next
 
--- A refusal by the running heap alone of what mode plain would do; the line then changes nothing. When it may come is
--- stated by the contracts of passes and shards, which the answers of mode heap keep. Taken: a step met an owner of the
--- shard (no entry records owners, so it is not said that a pass owns it by the lines before). Memory: room for what is
--- kept of pages was refused. Waiting: others have begun to free slots of the shard. Full: its pages have no slot for a
--- value of this size.
-abbrev pub RefusedAlone : Layout → Run → Call → Answer → Run → Type 0
-RefusedAlone layout run (call.Adopt shard) told next = (adopt_answer run shard ≡ answer.Done)
-    × ((told ≡ answer.Refused refusal.Taken) ⊎ (told ≡ answer.Refused refusal.Memory)) × (next ≡ run)
-RefusedAlone layout run call.Leave told next = (leave_answer run ≡ answer.Done)
-    × (told ≡ answer.Refused refusal.Waiting) × (next ≡ run)
-RefusedAlone layout run (call.Insert words) told next = (length words ≤ 16) × (has_shard run ≡ true)
+-- A refusal by the running heap alone of what mode plain would do; the line then changes nothing. Taken: another pass
+-- owns the shard. Memory: room for what is kept of pages was refused. Full: the pass's shard has no room for a value of
+-- this size, by the words before the line (`lines_see_room` of script_heap).
+abbrev pub RefusedAlone : Numbers → (owned : ℕ → Option ℕ) → Run → Call → Answer → Run → Type 0
+RefusedAlone shape owned run (call.Adopt shard) told next = (adopt_answer run shard ≡ answer.Done)
+    × (((told ≡ answer.Refused refusal.Taken) × IsOwned shape owned run.store.pass shard)
+    ⊎ (told ≡ answer.Refused refusal.Memory)) × (next ≡ run)
+RefusedAlone shape owned run (call.Insert words) told next = (length words ≤ 16) × (has_shard run ≡ true)
     × ((told ≡ answer.Refused refusal.Full) ⊎ (told ≡ answer.Refused refusal.Memory)) × (next ≡ unnamed run)
-RefusedAlone layout run _ told next = ⊥
+RefusedAlone shape owned run _ told next = ⊥
 
-abbrev pub CallBeside : Layout → Numbers → Run → Call → Answer → Run → Type 0
-CallBeside layout shape run c told next = AsPlain layout shape run c told next ⊎ RefusedAlone layout run c told next
+abbrev pub CallBeside : Layout → Numbers → (owned : ℕ → Option ℕ) → Run → Call → Answer → Run → Type 0
+CallBeside layout shape owned run c told next =
+    AsPlain layout shape owned run c told next ⊎ RefusedAlone shape owned run c told next
 
 -- ---- lines
 
--- these lines have these answers beside mode plain, one after the other
-abbrev pub RanBeside : Layout → Numbers → Run → List CallLine → List Answer → Run → Type 0
-RanBeside layout shape run [] [] after = after ≡ run
-RanBeside layout shape run [] (a ∷ answers) after = ⊥
-RanBeside layout shape run (l ∷ lines) [] after = ⊥
-RanBeside layout shape run (l ∷ lines) (a ∷ answers) after = (next : Run)
-    × CallBeside layout shape (at_turn run l.pass) l.call a next × RanBeside layout shape next lines answers after
+-- these lines have these answers beside mode plain, one after the other, if passes own these shards before
+abbrev pub RanBeside : Layout → Numbers → (owned : ℕ → Option ℕ) → Run → List CallLine → List Answer → Run → Type 0
+RanBeside layout shape owned run [] [] after = after ≡ run
+RanBeside layout shape owned run [] (a ∷ answers) after = ⊥
+RanBeside layout shape owned run (l ∷ lines) [] after = ⊥
+RanBeside layout shape owned run (l ∷ lines) (a ∷ answers) after = (next : Run)
+    × CallBeside layout shape owned (at_turn run l.pass) l.call a next
+    × RanBeside layout shape (owned_after owned l a) next lines answers after
 
 -- the same from the start, when the map is empty and no pass has a shard
 abbrev pub AreBesidePlain : Layout → Numbers → Option ℕ → List CallLine → List Answer → Type 0
 AreBesidePlain layout shape tag lines answers = (after : Run)
-    × RanBeside layout shape (opening_run shape.shards shape.passes tag) lines answers after
+    × RanBeside layout shape nobody_owns (opening_run shape.shards shape.passes tag) lines answers after

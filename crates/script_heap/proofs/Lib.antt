@@ -7,6 +7,7 @@ pub mod FirstSteps
 pub mod LoneAdopt
 pub mod FoundWords
 pub mod OwnerLaws
+pub mod OwnersTold
 pub mod PageNumbers
 pub mod RoomLaws
 pub mod LineEntries

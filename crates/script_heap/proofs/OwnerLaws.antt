@@ -89,7 +89,8 @@ module _ (layout : Layout) (shape : Numbers) (la : IsLayout layout) (ls : IsShap
   all_parts : (es : List Event) → length (run core_plan es).parts ≡ core_plan.passes
   all_parts es = (refined es).passes
 
-  apart : (es : List Event) (parts : ℕ → PassPart) → HaveParts core_plan es parts → OwnApart shape.passes parts
+  apart : (es : List Event) (parts : ℕ → PassPart) → HaveParts core_plan es parts
+      → OwnApart shape.passes (owned_by parts)
   apart es parts have p q k lp lq ep eq =
       let a = have p lp in
       let b = have q lq in
@@ -215,7 +216,8 @@ module _ (layout : Layout) (shape : Numbers) (la : IsLayout layout) (ls : IsShap
           (o.0, lt, (λ e. none-some k (sym none ∙ (ap (owned_by before.parts) (sym e) ∙ owned))), owned)
 
     refused : (k : ℕ) (v w : Caller) → first_side ≡ Pass v → ends ≡ Pass w → (why : Refusal)
-        → AdoptRefused k v w why → AdoptIsExact core_terms before.parts l.pass k (done_answer {A = Unit {0}} (Err why))
+        → AdoptRefused k v w why
+        → AdoptIsExact shape (owned_by before.parts) l.pass k (done_answer {A = Unit {0}} (Err why))
     refused k v w was is refusal.NoShard h =
         (owns (Pass v) was, subst (λ (n : ℕ). n ≤ k) (knows (Pass v) was) h.0)
     refused k v w was is refusal.Taken h = inr (
@@ -229,7 +231,7 @@ module _ (layout : Layout) (shape : Numbers) (la : IsLayout layout) (ls : IsShap
     refused k v w was is _ h = absurd h
 
     adopts : (k : ℕ) (s t : SeenSide) → first_side ≡ s → ends ≡ t → (r : Result (Unit {0}) Refusal) → SideAdopts k s r t
-        → AdoptIsExact core_terms before.parts l.pass k (done_answer r)
+        → AdoptIsExact shape (owned_by before.parts) l.pass k (done_answer r)
     adopts k (Pass v) (Shard n) was is (Ok x) h =
         let none : owned_by before.parts l.pass ≡ None = owns (Pass v) was in
         let now : shard_owned ends ≡ Some k = ap shard_owned is ∙ ap (λ (j : ℕ). Some j) h.1.shard in
@@ -240,7 +242,7 @@ module _ (layout : Layout) (shape : Numbers) (la : IsLayout layout) (ls : IsShap
     adopts k (Pass v) (Shard n) was is (Err why) h = absurd h
     adopts k (Pass v) Moving was is (Err why) h = absurd h
     adopts k (Shard o) t was is r h =
-        subst (λ (z : Result (Unit {0}) Refusal). AdoptIsExact core_terms before.parts l.pass k (done_answer z))
+        subst (λ (z : Result (Unit {0}) Refusal). AdoptIsExact shape (owned_by before.parts) l.pass k (done_answer z))
         (sym h.0)
         (inl (subst (λ (z : Option ℕ). IsSome z) (sym (owns (Shard o) was)) refl))
     adopts k Moving t was is r h = absurd h
@@ -295,7 +297,7 @@ module _ (layout : Layout) (shape : Numbers) (la : IsLayout layout) (ls : IsShap
           (subst (λ (s : SeenSide). (own_part s).body.hand ≡ Idle) ends_is (there l.pass inside).idle) waits
 
     leaves : (s t : SeenSide) → first_side ≡ s → ends ≡ t → (r : Result (Unit {0}) Refusal) → SideLeaves s r t
-        → LeaveIsExact before.parts l.pass (done_answer r)
+        → LeaveIsExact (owned_by before.parts) l.pass (done_answer r)
     leaves (Shard o) (Pass w) was is (Ok x) h = subst (λ (z : Option ℕ). IsSome z) (sym (owns (Shard o) was)) refl
     leaves (Shard o) (Shard n) was is (Ok x) h = absurd h
     leaves (Shard o) Moving was is (Ok x) h = absurd h
@@ -303,21 +305,21 @@ module _ (layout : Layout) (shape : Numbers) (la : IsLayout layout) (ls : IsShap
     leaves (Shard o) (Pass w) was is (Err why) h = absurd h
     leaves (Shard o) Moving was is (Err why) h = absurd h
     leaves (Pass v) t was is r h =
-        subst (λ (z : Result (Unit {0}) Refusal). LeaveIsExact before.parts l.pass (done_answer z)) (sym h.0)
+        subst (λ (z : Result (Unit {0}) Refusal). LeaveIsExact (owned_by before.parts) l.pass (done_answer z)) (sym h.0)
         (owns (Pass v) was)
     leaves Moving t was is r h = absurd h
 
     -- ---- a call
 
     call_is : (c : Call) (bound : Option ℕ) → CallAnswers core_terms tag l.pass line.begins c bound a line.part
-        → CallIsExact core_terms before.parts l.pass c a
-    call_is (call.Adopt k) bound h = subst (λ (z : Answer). AdoptIsExact core_terms before.parts l.pass k z) (sym h.is)
+        → CallIsExact shape (owned_by before.parts) l.pass c a
+    call_is (call.Adopt k) bound h = subst (AdoptIsExact shape (owned_by before.parts) l.pass k) (sym h.is)
         (adopts k first_side ends refl refl h.result h.does.1)
-    call_is call.Leave bound h = subst (λ (z : Answer). LeaveIsExact before.parts l.pass z) (sym h.is)
+    call_is call.Leave bound h = subst (λ (z : Answer). LeaveIsExact (owned_by before.parts) l.pass z) (sym h.is)
         (leaves first_side ends refl refl h.result h.does.1)
     call_is _ bound h = tt
 
-    line_is : CallIsExact core_terms before.parts l.pass l.call a
+    line_is : CallIsExact shape (owned_by before.parts) l.pass l.call a
     line_is = call_is l.call (number_meant before.numbers l.call) line.does
 
   -- ---- all lines

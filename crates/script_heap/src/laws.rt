@@ -1,7 +1,7 @@
 //! What follows from the fact that a run has just the steps that its passes did.
 ghost use Rattle.script_heap.specs.OwnSteps.{LoneAdoptIsNotTaken, FirstInsertIsNotFull, TwoAdoptsAreNotDone};
 ghost use Rattle.script_heap.specs.OwnSteps.{LeaveIsNotWaiting, NoLinesWriteNothing};
-ghost use Rattle.script_heap.specs.Owners.{LinesKeepOwnersApart, NoPassIsStuck};
+ghost use Rattle.script_heap.specs.Owners.{LinesKeepOwnersApart, LinesTellOwners, NoPassIsStuck};
 ghost use Rattle.script_heap.specs.Rooms.{LinesFindRoom, LinesSeeRoom, RoomExcludes};
 ghost use Rattle.script_heap.specs.Crowding.{LinesCrowdExactly};
 
@@ -14,9 +14,10 @@ pub fn lone_adopt_is_not_taken()
 /// In a run of mode heap no two passes own one shard between two lines. An adopt is `Taken` only if the pass owns a
 /// shard by the lines before, or another pass owns this one. It is `NoShard` only if there is no such shard and the
 /// pass owns none, and ok only if no pass owns this one. `Memory` may come in place of ok. A leave is ok if the pass
-/// owns a shard, and never `Waiting`.
+/// owns a shard, and never `Waiting`. Which shard each pass owns follows from the answers to the lines before.
 pub fn lines_keep_owners_apart()
-    ensures { LinesKeepOwnersApart }
+    ensures apart { LinesKeepOwnersApart }
+    ensures told { LinesTellOwners }
 {}
 
 /// No pass is refused when it leaves its shard at the end of a run, in one thread or in many. Each pass leaves after it
