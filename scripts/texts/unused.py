@@ -15,7 +15,7 @@ import re
 from checks import told
 from tree import CRATES
 
-MOST = 52
+MOST = 54
 OTHERS = ("test_", "tool_", "example_")
 QUOTED = r"""\"(?:\\.|[^"\\])*\"|'(?:\\.|[^'\\])'"""
 COMMENT = re.compile(rf"({QUOTED})|//[^\n]*")
