@@ -18,14 +18,14 @@ use Rattle.script_calls.specs.Calls.{UnlessRefused, AdoptAnswers, PartAdopted, a
 use Rattle.script_calls.specs.Calls.{ValueInserted, IsOwnKey}
 use Rattle.script_calls.specs.Running.{part_of_caller, seen_of_caller, seen_of_shard}
 use Rattle.script_calls.proofs.PlacedKeys.{unpacks, of_shard}
-use Rattle.script_calls.proofs.RunningLaws.{same_tale, same_of}
+use Rattle.script_calls.proofs.RunningLaws.{same_of, same_unchanged}
 
 module _ (layout : Layout) (v : Caller) where
   abbrev seen_caller : SeenPass
   seen_caller = seen_of_caller layout v
 
   kept : (w : Caller) → w ≡ v → SamePass seen_caller (seen_of_caller layout w)
-  kept w e = same_of layout v w (Pass v) (Pass w) (ap (λ (c : Caller). c.heap) e) (same_tale v w e)
+  kept w e = same_unchanged layout v w (Pass v) (Pass w) e
 
   there_is : (k : ℕ) → k < v.view.shape.shards → adopt_refusal seen_caller.terms None k ≡ None
   there_is k l = let few : nat_le v.view.shape.shards k ≡ false = grind (arith, nat_tests) in rw few refl

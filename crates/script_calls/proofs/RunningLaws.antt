@@ -29,9 +29,6 @@ use Rattle.script_calls.specs.Calls.{RemoveAnswers, KeyRemoved, remove_refusal, 
 use Rattle.script_calls.specs.Running.{part_of_caller, seen_standing, log_told}
 use Rattle.script_calls.proofs.PlacedKeys.{placed, not_placed}
 
-pub same_tale : (v w : Caller) → w ≡ v → SameTale v.view w.view
-same_tale v w e = subst (λ (c : Caller). SameTale v.view c.view) (sym e) (same_now v.view)
-
 -- what is seen of the pass stays the same except for its part
 pub same_of : (layout : Layout) (v w : Caller) (s t : SeenSide) → w.heap ≡ v.heap → SameTale v.view w.view
     → SamePass (seen_standing layout v s) (seen_standing layout w t)
@@ -43,6 +40,13 @@ same_of layout v w s t heap same = λ i. record {
   told = map log_told (same.told i);
   orders = same.orders i;
 }
+
+-- so it does if the pass is as it was
+pub same_unchanged : (layout : Layout) (v w : Caller) (s t : SeenSide) → w ≡ v
+    → SamePass (seen_standing layout v s) (seen_standing layout w t)
+same_unchanged layout v w s t e =
+    same_of layout v w s t (ap (λ (c : Caller). c.heap) e)
+    (subst (λ (c : Caller). SameTale v.view c.view) (sym e) (same_now v.view))
 
 module _ (layout : Layout) (v w : Caller) (stands : ViewIsValid layout v.view) (shape_is : v.view.shape ≡ v.heap.shape)
     (s t : SeenSide) (owned : shard_owned t ≡ shard_owned s) where
@@ -63,7 +67,7 @@ module _ (layout : Layout) (v w : Caller) (stands : ViewIsValid layout v.view) (
   nothing e = λ i. record { log = (e i).view.own.log; shard = owned i; stands = t }
 
   unseen : w ≡ v → SamePass seen_before seen_after
-  unseen e = same_seen (ap (λ (c : Caller). c.heap) e) (same_tale v w e)
+  unseen e = same_unchanged layout v w s t e
 
   a_key : (key : ℕ) → IsKeyOfHeap layout v key → is_placed_key layout v.view.shape key ≡ true
   a_key key k = placed layout v.view.shape key (subst (λ (s : Numbers). IsSome (place_named (plan_of layout s) key))
