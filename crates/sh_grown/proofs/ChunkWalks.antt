@@ -36,7 +36,7 @@ both_fit each from before key behind es kept last v w fits few m =
     )
 
 -- so does what a member does, whichever kind it is
-side_gives : {A : Type 0} (does : Caller → A → Caller → Type 0) (P : Type 0) (a b : SeenSide) (answer : A)
+pub side_gives : {A : Type 0} (does : Caller → A → Caller → Type 0) (P : Type 0) (a b : SeenSide) (answer : A)
     → ((v w : Caller) → does v answer w → P) → SideDoes chunked does a answer b → P
 side_gives does P (Pass v) (Pass w) answer gives h = gives v w h.0
 side_gives does P (Pass v) (Shard n) answer gives h = absurd h

@@ -3,6 +3,7 @@ pub mod ChunkWalks
 pub mod Claims
 pub mod Full
 pub mod Heeding
+pub mod JudgedChunks
 pub mod Keeping
 pub mod LeftChunks
 pub mod OfChunks

@@ -7,6 +7,7 @@ pub mod Leaving
 pub mod OfChunks
 pub mod Receipts
 pub mod Refusals
+pub mod Removing
 pub mod Shares
 pub mod Sizes
 pub mod Steps

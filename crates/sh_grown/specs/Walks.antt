@@ -12,7 +12,8 @@ use Rattle.sh_member.specs.declared.walking.NextHeld.{NextHeld}
 use Rattle.sh_member.specs.declared.walking.NextLive.{NextLive}
 use Rattle.sh_grown.specs.declared.growing.Growing.{Growing}
 use Rattle.sh_grown.specs.declared.chunk_member.ChunkMember.{ChunkMember}
-use Rattle.sh_grown.specs.Callers.{ChunkDoes}
+use Rattle.sh_grown.specs.declared.caller.Caller.{Caller as SeenCaller}
+use Rattle.sh_grown.specs.Callers.{ChunkDoes, Stays}
 
 -- ---- in one chunk
 
@@ -91,3 +92,9 @@ Walks does growing number chunk below old (Err why) new = EndsIn does growing nu
 -- how many chunks the heap may have up to that of this place
 abbrev pub chunks_up_to : Growing → (place : ℕ) → ℕ
 chunks_up_to growing place = min (chunk_of place + 1) (length growing.cells.items)
+
+-- a caller walks over the chunks of its heap from the first place on, before the second, and does this in each
+abbrev pub CallerWalks : {X : Type 0} → (does : (chunk : ℕ) → Caller → Result (Option X) Refusal → Caller → Type 0)
+    → (from before : ℕ) → SeenCaller → Result (Option X) Refusal → SeenCaller → Type 0
+CallerWalks does from before c answer d = Walks does c.growing c.number (chunk_of from)
+    (chunks_up_to c.growing before) c.met.items answer d.met.items × Stays c d

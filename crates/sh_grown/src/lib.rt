@@ -24,6 +24,7 @@ pub mod guard;
 mod inserting;
 mod leaving;
 pub mod receipts;
+mod removing;
 pub mod share;
 pub mod sizes;
 pub mod totals;

@@ -2,6 +2,7 @@
 ghost use Rattle.std.specs.Prelude.{◌≡◌, ◌^◌, ◌<◌, ◌≤◌, IsSome, Ok};
 ghost use Rattle.sh_chunk.specs.Chunks.{chunk_of, chunked};
 ghost use Rattle.sh_member.specs.Sides.{SideDoes};
+ghost use Rattle.sh_member.specs.Walks.{PutsIfLive, PutsLive};
 ghost use Rattle.sh_grown.specs.Callers.{MemberDoes, Stays};
 ghost use Rattle.sh_grown.specs.Walks.{HeldIn, LiveIn, LooksIn, Walks, chunks_up_to, place_in};
 
@@ -10,7 +11,8 @@ use crate::calls::chunk_of;
 use crate::chunk_member::ChunkMember;
 use sh_chunk::{Chunked, chunked_keys_fit};
 use sh_member::{NextHeld, NextLive};
-use sh_value::{Hold, Refusal};
+use sh_pass::NextKey;
+use sh_value::{Hold, Refusal, Value};
 
 // The greatest number of a place within a chunk. A chunk has far fewer places.
 const LAST_PLACE: u64 = (1 << 56) - 1;
@@ -30,18 +32,19 @@ fn next_live_at(
     from: u64,
     before: u64,
     chunk: u8,
-) -> Option<NextLive>
+    value: &mut Value,
+) -> Option<NextKey>
     requires { IsSome place.old }
-    ensures { MemberDoes (SideDoes chunked (LiveIn from before chunk)) place.old (Ok result) place.new }
+    ensures { PutsLive (λ met. MemberDoes (SideDoes chunked (LiveIn from before chunk)) place.old (Ok met) place.new)
+        value.old result value.new }
 {
     match place {
         Some(met) => {
             let (from, before) = (place_in(from, chunk), place_in(before, chunk));
-            let NextLive { key, value, behind } = met.member.next_live(from, before)?;
+            let NextKey { key, behind } = met.member.next_live_into(from, before, value)?;
             chunked_keys_fit();
-            Some(NextLive {
+            Some(NextKey {
                 key: Chunked::chunk_key(chunk, key),
-                value,
                 behind: Chunked::chunk_key(chunk, behind),
             })
         }
@@ -77,9 +80,10 @@ fn next_held_at(
 }
 
 impl Caller {
-    /// The first live key at a place from `from` on and before `before`, with its value, or `None`. The place of a slot
-    /// in its chunk has the number of the chunk in bits 56 to 63, as a key has. So a walk goes over the chunks in the
-    /// order of their numbers. It begins at 0, and there is no key from `u64::MAX` on.
+    /// The first live key at a place from `from` on and before `before`, or `None`. Its value replaces the caller's,
+    /// which is as it was if there is no key. The place of a slot in its chunk has the number of the chunk in bits 56 to
+    /// 63, as a key has. So a walk goes over the chunks in the order of their numbers. It begins at 0, and there is no
+    /// key from `u64::MAX` on.
     ///
     /// A walk finds the live keys in the order of their places, each place once. A key that is live from its begin to
     /// its end is found. One that is inserted or removed meanwhile is found or not, and so is one of a chunk that opens
@@ -87,26 +91,46 @@ impl Caller {
     /// receipt is found, unless it was removed.
     ///
     /// ```text
+    /// let mut value = Value::from(0);
     /// let mut place = 0;
-    /// while let Some(next) = caller.next_live(place, u64::MAX)? {
-    ///     place = next.behind;    // next.key was live, with next.value
+    /// while let Some(next) = caller.next_live_into(place, u64::MAX, &mut value)? {
+    ///     place = next.behind;    // next.key was live, with this value
     /// }
     /// ```
     ///
     /// It meets each chunk that it finds open, as a call on a key does, and takes no memory. In a chunk it takes the
-    /// loads of the `next_live` of a reader, and leaves no hold. Refused as `Taken` if it has not met a chunk and its
-    /// pass is not in the pool there, since that was given back while it owned a shard.
+    /// loads of the `next_live_into` of a reader, and leaves no hold. Refused as `Taken` if it has not met a chunk and
+    /// its pass is not in the pool there, since that was given back while it owned a shard.
+    pub fn next_live_into(
+        &mut self,
+        from: u64,
+        before: u64,
+        value: &mut Value,
+    ) -> Result<Option<NextKey>, Refusal>
+        ensures does { PutsIfLive (λ met. Walks (LiveIn from before) self.old.growing self.old.number (chunk_of from)
+            (chunks_up_to self.old.growing before) self.old.met.items met self.new.met.items) value.old result
+            value.new }
+        ensures stays { Stays self.old self.new }
+    {
+        for chunk in chunk_of(from)..self.chunks_up_to(before) {
+            if let Some(next) = self.next_live_in(from, before, chunk as u8, value)? {
+                return Ok(Some(next));
+            }
+        }
+        Ok(None)
+    }
+
+    /// The same with the value of the key.
     pub fn next_live(&mut self, from: u64, before: u64) -> Result<Option<NextLive>, Refusal>
         ensures does { Walks (LiveIn from before) self.old.growing self.old.number (chunk_of from)
             (chunks_up_to self.old.growing before) self.old.met.items result self.new.met.items }
         ensures stays { Stays self.old self.new }
     {
-        for chunk in chunk_of(from)..self.chunks_up_to(before) {
-            if let Some(next) = self.next_live_in(from, before, chunk as u8)? {
-                return Ok(Some(next));
-            }
-        }
-        Ok(None)
+        let mut value = Value::from(0);
+        let Some(NextKey { key, behind }) = self.next_live_into(from, before, &mut value)? else {
+            return Ok(None);
+        };
+        Ok(Some(NextLive { key, value, behind }))
     }
 
     /// The same with a hold on the key, in place of its value. There is no hold if the key has as many as it may have.
@@ -140,14 +164,15 @@ impl Caller {
         from: u64,
         before: u64,
         chunk: u8,
-    ) -> Result<Option<NextLive>, Refusal>
-        ensures looks { LooksIn (LiveIn from before) self.old.growing self.old.number chunk self.old.met.items result
-            self.new.met.items }
+        value: &mut Value,
+    ) -> Result<Option<NextKey>, Refusal>
+        ensures looks { PutsIfLive (λ met. LooksIn (LiveIn from before) self.old.growing self.old.number chunk
+            self.old.met.items met self.new.met.items) value.old result value.new }
         ensures stays { Stays self.old self.new }
     {
         let number = chunk as usize;
         match self.meet(number) {
-            Ok(()) => Ok(next_live_at(&mut self.met[number], from, before, chunk)),
+            Ok(()) => Ok(next_live_at(&mut self.met[number], from, before, chunk, value)),
             Err(Refusal::BadKey) => Ok(None),
             Err(why) => Err(why),
         }

@@ -89,6 +89,32 @@ fn a_janitor_removes_each_key(rt: HostRuntime) {
     agree(&rt, walked(&rt, &mut caller, 0, u64::MAX), (0, 0));
 }
 
+// Of 1,200 values in three chunks, those of chunk 1 are removed by their keys, then those below 100 by their values, and
+// then the others.
+#[test]
+fn a_caller_removes_the_keys_that_are_chosen(rt: HostRuntime) {
+    let growing = GrowingShare::open(rt.alloc(), 2, 3).expect(&rt, "a heap");
+    let mut caller = growing.claim(rt.alloc()).expect(&rt, "a caller");
+    let mut janitor = growing.claim(rt.alloc()).expect(&rt, "a janitor");
+    let last = stored(&rt, rt.alloc(), &mut caller, 1200);
+    agree(&rt, janitor.remove_if(|_key, _value| false), Ok(0));
+    agree(
+        &rt,
+        janitor.remove_if(|key, _value| key >> 56 == 1),
+        Ok(384),
+    );
+    agree(&rt, walked(&rt, &mut caller, 1 << 56, 2 << 56), (0, 0));
+    agree(
+        &rt,
+        janitor.remove_if(|_key, value| value.words().first().copied().unwrap_or(0) < 100),
+        Ok(100),
+    );
+    agree(&rt, walked(&rt, &mut caller, 0, u64::MAX).0, 716);
+    agree(&rt, caller.remove(last), Ok(()));
+    agree(&rt, janitor.remove_if(|_key, _value| true), Ok(715));
+    agree(&rt, walked(&rt, &mut caller, 0, u64::MAX), (0, 0));
+}
+
 // Chunk 1 is opened while the walk is in chunk 0.
 #[test]
 fn a_walk_finds_keys_of_a_chunk_that_opens_meanwhile(rt: HostRuntime) {
