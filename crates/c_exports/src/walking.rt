@@ -1,12 +1,14 @@
 //! Walks over the live keys of a heap, by any of its passes.
+ghost use Rattle.sh_member.specs.Walks.{with_value};
 ghost use Rattle.c_handles.specs.HeldPasses.{HeldNextHeld, HeldNextLive};
 ghost use Rattle.c_exports.specs.Walks.{HeldWritten, LiveWritten, WalkTold, WalkWritten};
 
 use crate::codes::{EMPTY, NO_KEY, OK};
 use crate::values::write_words;
 use c_handles::PassHandle;
-use sh_member::{NextHeld, NextLive};
-use sh_value::WORDS_MAX;
+use sh_member::NextHeld;
+use sh_pass::NextKey;
+use sh_value::{Value, WORDS_MAX};
 use std::alloc::Global;
 
 /// A live key with its value, as C has them.
@@ -36,15 +38,15 @@ pub struct HeldKey {
 }
 
 // Writes the key that was met, the place behind it and its value.
-fn write_live(met: Option<NextLive>, next: &mut LiveKey) -> u32
-    ensures { WalkWritten LiveWritten met result next.old next.new }
+fn write_live(met: Option<NextKey>, value: &Value, next: &mut LiveKey) -> u32
+    ensures { WalkWritten (λ key. LiveWritten (with_value key value.now)) met result next.old next.new }
 {
     let Some(met) = met else {
         return NO_KEY;
     };
     next.key = met.key;
     next.behind = met.behind;
-    write_words(met.value.words(), &mut next.words, &mut next.length)
+    write_words(value.words(), &mut next.words, &mut next.length)
 }
 
 // Writes the key that was met, the place behind it and whether it is held.
@@ -76,8 +78,10 @@ pub extern "C" fn shardheap_raw_next_live(
     if !pass.is_full() {
         return EMPTY;
     }
-    match pass.held().next_live(from, before) {
-        Ok(met) => write_live(met, next),
+    // (It has one word, as most values have: reading a value of one word into it is one store.)
+    let mut value = Value::from(0);
+    match pass.held().next_live_into(from, before, &mut value) {
+        Ok(met) => write_live(met, &value, next),
         Err(refusal) => refusal.number(),
     }
 }

@@ -19,7 +19,7 @@ use Rattle.sh_grown.specs.Inserts.{Inserts, OwnsNone}
 use Rattle.sh_grown.specs.Keeping.{KeepsMembers}
 use Rattle.sh_grown.specs.Leaving.{LeavesIdle}
 use Rattle.sh_grown.specs.Receipts.{AreReceiptsIn, CoversEach, Heeds}
-use Rattle.sh_grown.specs.Walks.{HeldIn, LiveIn, Walks, chunks_up_to}
+use Rattle.sh_grown.specs.Walks.{CallerWalks, HeldIn, LiveIn}
 use Rattle.sh_grown.specs.declared.receipts.GrownReceipt.{GrownReceipt}
 use Rattle.c_handles.specs.declared.held_pass.HeldPass.{HeldPass}
 use Rattle.c_handles.specs.declared.held_pass.HeldPass.TheVariants as held
@@ -132,12 +132,6 @@ HeldLeavesIdle = EitherDoes (AnyDoes (λ l. SideLeaves)) CallerLeavesIdle
 abbrev pub Unrefused : {A : Type 0} → (Caller → A → Caller → Type 0) → Caller → Result A Refusal → Caller → Type 0
 Unrefused does v (Ok answer) w = does v answer w
 Unrefused does v (Err why) w = ⊥
-
--- a caller walks over the chunks of its heap, and does this in each
-abbrev pub CallerWalks : {X : Type 0} → (does : (chunk : ℕ) → Caller → Result (Option X) Refusal → Caller → Type 0)
-    → (from before : ℕ) → SeenCaller → Result (Option X) Refusal → SeenCaller → Type 0
-CallerWalks does from before c answer d = Walks does c.growing c.number (chunk_of from)
-    (chunks_up_to c.growing before) c.met.items answer d.met.items × Stays c d
 
 abbrev pub HeldNextLive : (from before : ℕ) → HeldPass → Result (Option NextLive) Refusal → HeldPass → Type 0
 HeldNextLive from before = EitherDoes (AnyDoes (λ l. SideDoes l (Unrefused (NextLiveDoes l from before))))

@@ -1,23 +1,31 @@
 // Walks of what a pass's handle holds over the live keys of its heap.
+ghost use Rattle.sh_member.specs.Walks.{PutsIfLive};
 ghost use Rattle.c_handles.specs.HeldPasses.{HeldNextHeld, HeldNextLive};
 
 use crate::held_pass::HeldPass;
-use sh_member::{NextHeld, NextLive};
-use sh_value::Refusal;
+use sh_member::NextHeld;
+use sh_pass::NextKey;
+use sh_value::{Refusal, Value};
 
 impl HeldPass {
-    /// The first live key of the heap at a place from `from` on and before `before`, with its value, and the place at
-    /// which to continue. `None` if none is met. The holds stay as they were. A pass is never refused. A caller goes
-    /// over the chunks, and is refused as `Taken` if its pass is not in the pool of one that it has not met.
-    pub fn next_live(&mut self, from: u64, before: u64) -> Result<Option<NextLive>, Refusal>
-        ensures { HeldNextLive from before self.old result self.new }
+    /// The first live key of the heap at a place from `from` on and before `before`, and the place at which to continue.
+    /// Its value replaces the caller's. `None` if no key is met: then the caller's value is as it was. The holds stay as
+    /// they were. A pass is never refused. A caller goes over the chunks, and is refused as `Taken` if its pass is not
+    /// in the pool of one that it has not met.
+    pub fn next_live_into(
+        &mut self,
+        from: u64,
+        before: u64,
+        value: &mut Value,
+    ) -> Result<Option<NextKey>, Refusal>
+        ensures { PutsIfLive (λ met. HeldNextLive from before self.old met self.new) value.old result value.new }
     {
         match self {
-            HeldPass::Wide(member, _) => Ok(member.next_live(from, before)),
-            HeldPass::Tagged(member, _) => Ok(member.next_live(from, before)),
-            HeldPass::Deep(member, _) => Ok(member.next_live(from, before)),
-            HeldPass::Tiny(member, _) => Ok(member.next_live(from, before)),
-            HeldPass::Growing(caller) => caller.next_live(from, before),
+            HeldPass::Wide(member, _) => Ok(member.next_live_into(from, before, value)),
+            HeldPass::Tagged(member, _) => Ok(member.next_live_into(from, before, value)),
+            HeldPass::Deep(member, _) => Ok(member.next_live_into(from, before, value)),
+            HeldPass::Tiny(member, _) => Ok(member.next_live_into(from, before, value)),
+            HeldPass::Growing(caller) => caller.next_live_into(from, before, value),
         }
     }
 
