@@ -379,8 +379,8 @@ pub(crate) fn leave_at(place: &mut Option<ChunkMember>) -> Result<(), Refusal>
 
 // Gives all passes back, from the last chunk to the first.
 pub(crate) fn return_each_to_pool(mut places: Vec<Option<ChunkMember>>) {
-    while let Some(place) = places.pop() {
-        if let Some(met) = place {
+    for chunk in (0..places.len()).rev() {
+        if let Some(met) = places[chunk].take() {
             met.return_to_pool();
         }
     }
