@@ -163,10 +163,10 @@ module _ (n : Numbering) where
         record {
           along = subst (λ (m : Run). CallAlong n.layout n.shape owned (own run) (call.Insert words) a m) (sym p)
               (inl (record {
-            plain = a;
-            does = record { result = Err r; replied = replied; is = is; next_is = refl };
-            same = same_but a;
-          }));
+                plain = a;
+                does = record { result = Err r; replied = replied; is = is; next_is = refl };
+                same = same_but a;
+              }));
           keys = subst (λ (m : Run). KeysAre m.keys) (sym same) (one_key_more run.keys None keys tt);
         }
 
@@ -200,18 +200,18 @@ module _ (n : Numbering) where
         record {
           along = subst (λ (m : Run). CallAlong n.layout n.shape owned (own run) (call.Insert words) a m) (sym p)
               (inl (record {
-            plain = answer.Key (shown run.tag (n.number g.key));
-            does = record {
-              result = Ok (n.number g.key);
-              replied = rw (few, has, left_own) (
-                sym (ap (λ (k : ℕ). Ok k) next_number),
-                ap (λ (k : ℕ). with_added (own run).store (Some (Insert run.store.pass k words))) next_number,
-              );
-              is = refl;
-              next_is = refl;
-            };
-            same = subst (λ (x : Answer). SameButKey x (answer.Key (shown run.tag (n.number g.key)))) (sym g.is) tt;
-          }));
+                plain = answer.Key (shown run.tag (n.number g.key));
+                does = record {
+                  result = Ok (n.number g.key);
+                  replied = rw (few, has, left_own) (
+                    sym (ap (λ (k : ℕ). Ok k) next_number),
+                    ap (λ (k : ℕ). with_added (own run).store (Some (Insert run.store.pass k words))) next_number,
+                  );
+                  is = refl;
+                  next_is = refl;
+                };
+                same = subst (λ (x : Answer). SameButKey x (answer.Key (shown run.tag (n.number g.key)))) (sym g.is) tt;
+              }));
           keys = subst (λ (m : Run). KeysAre m.keys) (sym g.next_is) (one_key_more run.keys (Some g.key) keys (
             g.placed,
             (keys_are_consecutive n.layout (n.number g.key)).1 (
