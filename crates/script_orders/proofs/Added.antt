@@ -32,10 +32,10 @@ all_set P xs i y less here all k d within = elim (cases_eq k i) [
 pub all_push : {A : Type 0} (P : A → Type 0) (xs : List A) (y : A) → P y → All P xs → All P (xs ++ y ∷ [])
 all_push P xs y here all = All-append P xs (y ∷ []) all (All-cons P y [] here (All-nil P))
 
-lanes_same : (s u : State) → u.lanes ≡ s.lanes → lanes_of u ≡ lanes_of s
+pub lanes_same : (s u : State) → u.lanes ≡ s.lanes → lanes_of u ≡ lanes_of s
 lanes_same s u is = λ i. map (λ lane. did (rc_value lane)) (is i).items
 
-with_orders : (layout : Layout) (p : Program) (s t u : State) → WithOrders s t u → IsReached layout p s
+pub with_orders : (layout : Layout) (p : Program) (s t u : State) → WithOrders s t u → IsReached layout p s
     → IsReached layout p u
 with_orders layout p s t u with' reached =
     subst (λ (os : List ℕ). LeadsTo layout p os u.changes.items (lanes_of u)) (sym (ap vec_items with'.order))
@@ -56,7 +56,7 @@ added_reached layout p old new s (pushed none is) all reached =
 
 -- ---- which states a level has
 
-with_alike : (s t u x : State) → WithOrders s t u → AreAlike s x → AreAlike u x
+pub with_alike : (s t u x : State) → WithOrders s t u → AreAlike s x → AreAlike u x
 with_alike s t u x with' alike = record {
   lanes = lanes_same s u with'.lanes ∙ alike.lanes;
   changes = ap vec_items with'.changes ∙ alike.changes;

@@ -16,7 +16,7 @@ pub record IsFirst (f : ℕ → Bool) (from to n : ℕ) : Type 0 where
   pub none : (m : ℕ) → from ≤ m → m < n → f m ≡ false
 
 -- those of k numbers from one on that pass the test
-abbrev kept : (f : ℕ → Bool) (from k : ℕ) → List ℕ
+abbrev pub kept : (f : ℕ → Bool) (from k : ℕ) → List ℕ
 kept f from k = filter f (range_with_len from k)
 
 first_kept : (f : ℕ → Bool) (from k n : ℕ) (xs : List ℕ) → kept f from k ≡ n ∷ xs → IsFirst f from (from + k) n
@@ -56,7 +56,7 @@ none_kept f from (suc k) h m low high = go (f from) refl h (λ e. none_kept f (f
     | inr ne ↦ more e (omega arith) (omega arith)
   ]
 
-none_is : (f : ℕ → Bool) (from k : ℕ) → ((m : ℕ) → from ≤ m → m < from + k → f m ≡ false) → kept f from k ≡ []
+pub none_is : (f : ℕ → Bool) (from k : ℕ) → ((m : ℕ) → from ≤ m → m < from + k → f m ≡ false) → kept f from k ≡ []
 none_is f from zero h = refl
 none_is f from (suc k) h =
     ap (λ (b : Bool). cond b (from ∷ kept f (from + 1) k) (kept f (from + 1) k)) (h from (omega arith) (omega arith))

@@ -20,6 +20,13 @@ mod FirstLines
 mod Coming
 mod SamePages
 mod Complete
+mod Weighing
+mod Pairing
+mod StepsOn
+mod Followed
+mod Numbered
+mod Counted
+mod Cutting
 mod FoundLists
 mod FoundTests
 mod Seeing

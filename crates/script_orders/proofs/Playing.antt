@@ -1,9 +1,8 @@
 -- The world after some lines, one line more, and the state in which the lines begin.
-use Rattle.std.proofs.Common.{◌≡◌, ℕ, zero, suc, ◌+◌, ◌<◌, List, [], ◌∷◌, ◌++◌, length, take, get_or, refl, sym, ap}
+use Rattle.std.proofs.Common.{◌≡◌, ℕ, zero, suc, ◌+◌, List, [], ◌∷◌, ◌++◌, length, refl, sym, ap}
 use Rattle.std.proofs.Common.{◌∙◌, subst, arith, Some, None, slice_get, append_assoc, append-nil}
 use Rattle.std.specs.Prelude.{Ok, replicate}
 use Rattle.std.specs.List.{flat_map, range_with_len}
-use Rattle.std.proofs.lemmas.List.{take_more}
 use Rattle.std.proofs.lemmas.List.Concat.{flat_map-append}
 use Rattle.std.proofs.lemmas.List.Elements.{All-nil}
 use Rattle.sh_key.specs.Layout.{Layout}
@@ -11,7 +10,7 @@ use Rattle.sh_shape.specs.Shape.{Numbers}
 use Rattle.sh_step.specs.declared.action.Event.{Event}
 use Rattle.sh_step.specs.Plans.{Plan, plan_of}
 use Rattle.sh_core.specs.declared.outcome.Outcome.{Outcome}
-use Rattle.sh_core.specs.Kept.{KeptWorld, Represents, HoldsWords, StepsWorld, RunsWorld}
+use Rattle.sh_core.specs.Kept.{KeptWorld, Represents, StepsWorld, RunsWorld}
 use Rattle.sh_core.specs.Words.{read}
 use Rattle.sh_core.specs.Worlds.{World, step, run, open_world}
 use Rattle.sh_core.proofs.Words.Steps.{run_snoc}

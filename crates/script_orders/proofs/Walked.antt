@@ -9,9 +9,9 @@ use Rattle.sh_step.specs.declared.action.Event.{Event}
 use Rattle.sh_step.specs.declared.body.Body.{Body}
 use Rattle.sh_step.specs.Plans.{Plan, plan_of}
 use Rattle.sh_core.specs.declared.outcome.Outcome.{Outcome}
-use Rattle.sh_core.specs.Kept.{KeptWorld, Represents, StepsWorld, RunsWorld}
+use Rattle.sh_core.specs.Kept.{KeptWorld, StepsWorld, RunsWorld}
 use Rattle.sh_core.specs.Outcomes.{outcome_of}
-use Rattle.sh_core.specs.Worlds.{World, step}
+use Rattle.sh_core.specs.Worlds.{step}
 use Rattle.script_orders.specs.declared.changes.Change.{Change}
 use Rattle.script_orders.specs.declared.found.Program.{Program}
 use Rattle.script_orders.specs.declared.lane.Lane.{Lane}

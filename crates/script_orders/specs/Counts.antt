@@ -1,6 +1,6 @@
 -- What is counted in an exploration.
 use Rattle.std.specs.Prelude.{◌≡◌, ◌+◌, ◌-◌, ◌^◌, min}
-use Rattle.script_orders.specs.declared.found.Orders.{Orders}
+use Rattle.script_orders.specs.declared.orders.Orders.{Orders}
 use Rattle.script_orders.specs.declared.found.Whole.{Whole}
 
 -- one more end, to which these orders lead; a count stops at the greatest number of its bits

@@ -8,6 +8,9 @@ pub mod Marks
 pub mod Filed
 pub mod Bytes
 pub mod Counts
+pub mod Weights
+pub mod Steps
+pub mod Cuts
 pub mod Walks
 pub mod Printed
 pub mod Texts

@@ -7,7 +7,7 @@ use Rattle.script_orders.specs.declared.found.Cut.{Cut}
 use Rattle.script_orders.specs.declared.found.Found.{Found}
 use Rattle.script_orders.specs.declared.found.Limit.{Limit}
 use Rattle.script_orders.specs.declared.found.Limit.TheVariants as limit
-use Rattle.script_orders.specs.declared.found.Orders.{Orders}
+use Rattle.script_orders.specs.declared.orders.Orders.{Orders}
 use Rattle.script_orders.specs.declared.found.Program.{Program}
 use Rattle.script_orders.specs.declared.found.Whole.{Whole}
 

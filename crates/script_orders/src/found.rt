@@ -1,7 +1,8 @@
 //! What an exploration is asked, and what it finds.
-ghost use Rattle.std.specs.Prelude.{◌≡◌, ◌+◌, ◌-◌, ◌^◌, min};
+ghost use Rattle.std.specs.Prelude.{◌≡◌};
 ghost use Rattle.script_orders.specs.Bytes.{counted, found_bytes};
 
+use crate::orders::Orders;
 use sh_shape::Shape;
 use sh_step::Event;
 
@@ -20,13 +21,6 @@ pub struct Program<'s> {
     pub limit: u64,
     /// How many bytes the states after two numbers of steps, one after the other, and the outcomes may take.
     pub bytes: u64,
-}
-
-/// A number of orders. It stops at 2^128 - 1, the greatest number of 128 bits.
-#[derive(Clone, Copy, Debug, PartialEq, Eq)]
-pub struct Orders {
-    /// The number.
-    pub count: u128,
 }
 
 /// An outcome.
@@ -105,22 +99,5 @@ impl Found {
             bytes = bytes.saturating_add(lines.len() as u64).saturating_add(40);
         }
         bytes
-    }
-}
-
-impl Orders {
-    /// One order.
-    pub const ONE: Orders = Orders { count: 1 };
-
-    /// None.
-    pub const NONE: Orders = Orders { count: 0 };
-
-    /// These and those: their sum, or 2^128 - 1 if it is greater.
-    pub fn plus(self, other: Orders) -> Orders
-        ensures { result.count ≡ min (self.count + other.count) (2 ^ 128 - 1) }
-    {
-        Orders {
-            count: self.count.saturating_add(other.count),
-        }
     }
 }

@@ -16,6 +16,7 @@ mod heap;
 mod lane;
 mod level;
 mod next;
+pub mod orders;
 mod play;
 pub mod report;
 mod room;
@@ -24,5 +25,6 @@ mod state;
 pub mod text;
 pub mod walk;
 
-pub use found::{Cut, Explored, Found, Limit, Orders, Program, Whole};
+pub use found::{Cut, Explored, Found, Limit, Program, Whole};
+pub use orders::Orders;
 pub use walk::explore;

@@ -4,7 +4,8 @@ ghost use Rattle.std.specs.List.{flat_map, filter_map};
 ghost use Rattle.script_orders.specs.Printed.{orders_text, passes_text, end_text, found_text, counts_text};
 ghost use Rattle.script_orders.specs.Printed.{limit_text, cut_text, line_text, witness_text};
 
-use crate::found::{Cut, Found, Limit, Orders, Program, Whole};
+use crate::found::{Cut, Found, Limit, Program, Whole};
+use crate::orders::Orders;
 use crate::text::{EXPLORE, Lines};
 use itoa::Buffer;
 use script_output::numbers::push_number;

@@ -1,16 +1,17 @@
 //! States, each by one order that leads to it.
 ghost use Rattle.std.specs.Prelude.{◌≡◌, ◌++◌, ◌<◌, [], Some, None, MatchOption, OnOk, IfOk, length, map, slice_get};
-ghost use Rattle.std.specs.Prelude.{vec_items};
+ghost use Rattle.std.specs.Prelude.{replicate, vec_items};
 ghost use Rattle.sh_key.specs.Layout.{Layout};
 ghost use Rattle.script_orders.specs.Bytes.{counted, state_bytes};
-ghost use Rattle.script_orders.specs.Lanes.{did};
+ghost use Rattle.script_orders.specs.Lanes.{did, nothing};
 ghost use Rattle.script_orders.specs.Orders.{is_of, lines_within};
 ghost use Rattle.script_orders.specs.Reached.{IsReached, lanes_of};
 ghost use Rattle.script_orders.specs.States.{Follows, all_left};
 
 use crate::changes::Change;
-use crate::found::{Orders, Program};
+use crate::found::Program;
 use crate::lane::{Lane, new_lanes, share_lanes};
+use crate::orders::Orders;
 use sh_step::Event;
 use std::alloc::{AllocError, Global};
 use std::rc::Rc;
@@ -65,8 +66,9 @@ impl State {
     /// The state in which the lines begin.
     pub fn first(alloc: Global, program: &Program<'_>) -> Result<State, AllocError>
         ensures reached { IfOk result (λ state. (layout : Layout) → IsReached layout program.now state) }
-        ensures orders { IfOk result (λ state. state.orders ≡ Orders.ONE) }
+        ensures orders { IfOk result (λ state. state.orders.count ≡ 1) }
         ensures begins { IfOk result (λ state. state.order.items ≡ []) }
+        ensures lanes { IfOk result (λ state. lanes_of state ≡ replicate program.now.shape.passes nothing) }
     {
         Ok(State {
             order: Vec::new(alloc),

@@ -1,5 +1,5 @@
 //! Going through all orders.
-ghost use Rattle.std.specs.Prelude.{◌≡◌, ℕ, ◌<◌, false, cond, [], List, IfSome, IfOk, OnOk, MatchOption, Some};
+ghost use Rattle.std.specs.Prelude.{◌≡◌, ℕ, ◌+◌, ◌<◌, false, cond, [], ◌∷◌, List, IfOk, IfErr, OnOk, MatchOption, Some};
 ghost use Rattle.std.specs.Prelude.{length, slice_get, map, vec_items};
 ghost use Rattle.std.specs.List.{All};
 ghost use Rattle.sh_key.specs.Layout.{Layout};
@@ -7,16 +7,20 @@ ghost use Rattle.script_orders.specs.declared.found.Found.{Found};
 ghost use Rattle.script_orders.specs.declared.found.Program.{Program};
 ghost use Rattle.script_orders.specs.declared.state.State.{State};
 ghost use Rattle.script_orders.specs.Counts.{CountsEnd};
+ghost use Rattle.script_orders.specs.Cuts.{steps_done, AllAfter, Passes, IsCutRightly};
 ghost use Rattle.script_orders.specs.States.{HasAlike};
+ghost use Rattle.script_orders.specs.Steps.{AllOnce, AreCounted, AreOnce};
 ghost use Rattle.script_orders.specs.Walks.{GoesTo, IsFollowed, GoesOn, HasEnd, IsSame, KeepsFound, AllRest};
+ghost use Rattle.script_orders.specs.Walks.{StepsTo, GoesFrom, AddsFound, AddsEnd, Advances};
 ghost use Rattle.script_orders.specs.Reached.{world_by, pages_by, pages_asked, lanes_of, HasPlayed, IsReached, Rests};
 ghost use Rattle.script_orders.specs.Reached.{IsOutcome, AreOutcomes, Has, IsComplete};
 
 use crate::changes::with_word;
-use crate::found::{Cut, Explored, Found, Limit, Orders, Program, Whole};
+use crate::found::{Cut, Explored, Found, Limit, Program, Whole};
 use crate::heap::{Heap, played};
 use crate::level::Level;
 use crate::next::next_line;
+use crate::orders::Orders;
 use crate::play::touch_of;
 use crate::room::Room;
 use crate::state::State;
@@ -83,6 +87,10 @@ fn go_on<L: KeyLayout>(
     ensures followed { OnOk result ((pass : ℕ) → pass < program.now.shape.passes
         → IsFollowed L.layout program.now next.new.states.items state.now pass) }
     ensures ends { IfOk result (λ goes_on. AllRest L.layout program.now state.now → goes_on ≡ false) }
+    ensures steps { OnOk result ((steps : ℕ) → steps_done state.now ≡ steps → AllAfter (steps + 1) next.old.states.items
+        → AllAfter (steps + 1) next.new.states.items) }
+    ensures from { IfOk result (GoesFrom L.layout program.now program.now.shape.passes next.old.states.items
+        next.new.states.items state.now) }
 {
     let mut goes_on = false;
     for pass in 0..program.shape.passes() {
@@ -137,8 +145,8 @@ fn outcome<L: KeyLayout>(
 
 // The place of the outcome with the same replies and pages.
 fn place_of(found: &[Found], new: &Found) -> Option<usize>
-    ensures { IfSome result (λ place. (there : Found) × (slice_get found.now place ≡ Some there)
-        × IsSame there new.now) }
+    ensures { MatchOption result (¬ Has found.now (map vec_items new.now.replies.items) new.now.pages.items)
+        (λ place. (there : Found) × (slice_get found.now place ≡ Some there) × IsSame there new.now) }
 {
     for (place, other) in found.iter().enumerate() {
         if other.replies == new.replies && other.pages == new.pages {
@@ -154,6 +162,7 @@ fn add(found: &mut Vec<Found>, new: Found) -> Result<bool, AllocError>
         → IsOutcome layout program new → OnOk result (All (IsOutcome layout program) found.new.items) }
     ensures keeps { OnOk result (KeepsFound found.old.items found.new.items) }
     ensures has { OnOk result (Has found.new.items (map vec_items new.replies.items) new.pages.items) }
+    ensures adds { OnOk result (AddsFound found.old.items new found.new.items) }
 {
     if let Some(place) = place_of(found.as_slice(), &new) {
         let there = &mut found[place];
@@ -178,6 +187,7 @@ fn add_end<L: KeyLayout>(
     ensures counts { OnOk result (CountsEnd state.now.orders whole.old whole.new) }
     ensures keeps { OnOk result (KeepsFound whole.old.found.items whole.new.found.items) }
     ensures has { OnOk result (HasEnd L.layout program.now whole.new.found.items state.now) }
+    ensures adds { OnOk result (AddsEnd L.layout program.now state.now whole.old.found.items whole.new.found.items) }
 {
     let new = outcome::<L>(alloc, program, state)?;
     whole.ends = whole.ends.saturating_add(1);
@@ -202,6 +212,7 @@ fn next_level<L: KeyLayout>(
     requires heap { HasPlayed L.layout program.now heap.old.opening.items heap.old.order.items heap.old.world }
     requires reached { All (IsReached L.layout program.now) level.now.states.items }
     requires found { All (IsOutcome L.layout program.now) whole.old.found.items }
+    requires once { AllOnce whole.old.found.items }
     ensures heap { OnOk result (HasPlayed L.layout program.now heap.new.opening.items heap.new.order.items
         heap.new.world) }
     ensures reached { IfOk result (λ next. IfOk next (λ level.
@@ -214,6 +225,12 @@ fn next_level<L: KeyLayout>(
     ensures ends { IfOk result (λ next. IfOk next (λ after. (place : ℕ) (state : State)
         → slice_get level.now.states.items place ≡ Some state → AllRest L.layout program.now state
         → HasEnd L.layout program.now whole.new.found.items state)) }
+    ensures steps { IfOk result (λ next. IfOk next (λ after. (steps : ℕ) → AllAfter steps level.now.states.items
+        → AllAfter (steps + 1) after.states.items)) }
+    ensures passes { IfOk result (λ next. IfErr next (Passes L.layout program.now level.now.states.items room.states)) }
+    ensures once { IfOk result (λ next. IfOk next (λ after. AllOnce whole.new.found.items)) }
+    ensures advances { IfOk result (λ next. IfOk next (λ after. Advances L.layout program.now level.now.states.items
+        after.states.items whole.old.found.items whole.new.found.items)) }
 {
     let mut next = Level::new(alloc);
     for state in &level.states {
@@ -232,6 +249,9 @@ fn first_level(alloc: Global, program: &Program<'_>) -> Result<Level, AllocError
     ensures reached { IfOk result (λ level. (layout : Layout) → All (IsReached layout program.now) level.states.items) }
     ensures begins { IfOk result (λ level. (layout : Layout) (order : List ℕ)
         → GoesOn layout program.now level.states.items order) }
+    ensures first { IfOk result (λ level. (first : State) × (level.states.items ≡ first ∷ [])
+        × (first.orders.count ≡ 1) × (steps_done first ≡ 0)
+        × ((layout : Layout) → StepsTo layout program.now [] first)) }
 {
     let mut level = Level::new(alloc);
     level.add(alloc, State::first(alloc, program)?)?;
@@ -252,10 +272,15 @@ fn cut(limit: Limit, whole: &Whole, steps: u64) -> Cut
 /// Does the lines in every order that keeps the order of each pass, and returns each outcome. A line whose condition
 /// does not hold is skipped. `AllocError` is returned if memory was refused, or if the shape does not fit the layout.
 ///
-/// Each outcome is one of the script's, and if the walk is whole, each order of the script has one of the outcomes.
+/// Each outcome is one of the script's, and if the walk is whole, each order of the script has one of the outcomes. No
+/// outcome is there twice, and each has the number of orders of steps that end in it. A walk passes the limit of states
+/// only if there are more.
 pub fn explore<L: KeyLayout>(alloc: Global, program: &Program<'_>) -> Result<Explored, AllocError>
     ensures are { IfOk result (AreOutcomes L.layout program.now) }
     ensures complete { IfOk result (IsComplete L.layout program.now) }
+    ensures counted { IfOk result (AreCounted L.layout program.now) }
+    ensures once { IfOk result AreOnce }
+    ensures cut { IfOk result (IsCutRightly L.layout program.now) }
 {
     let mut whole = Whole {
         states: 0,

@@ -20,3 +20,23 @@ returns-else-branch-clause-has g c =
     subst (λ (rs : List (List ℕ)). Has found rs pages) c.in_ok-new.ensures.replies
     (subst (λ (ps : List ℕ). Has found (map vec_items new.replies.items) ps) c.in_ok-new.ensures.pages
     c.in_ok-add.ensures.has)
+
+pub returns-then-branch-clause-adds : goal.returns-then-branch-clause-adds
+returns-then-branch-clause-adds g c =
+    let is = c.in_ok-new.ensures in record {
+      found = c.in_ok-new.new;
+      adds = c.in_ok-add.ensures.adds;
+      replies = is.replies;
+      pages = is.pages;
+      orders = is.orders;
+    }
+
+pub returns-else-branch-clause-adds : goal.returns-else-branch-clause-adds
+returns-else-branch-clause-adds g c =
+    let is = c.in_ok-new.ensures in record {
+      found = c.in_ok-new.new;
+      adds = c.in_ok-add.ensures.adds;
+      replies = is.replies;
+      pages = is.pages;
+      orders = is.orders;
+    }

@@ -2,7 +2,10 @@ use Rattle.std.proofs.Common.{ℕ, List}
 use Rattle.std.specs.List.{All}
 use Rattle.script_orders.specs.Orders.{IsOrder}
 use Rattle.script_orders.specs.Reached.{HasPlayed, IsReached, IsOutcome}
+use Rattle.script_orders.specs.Steps.{AllOnce}
 use Rattle.script_orders.specs.Walks.{IsCovered}
+use Rattle.script_orders.proofs.Counted.{Counts}
+use Rattle.script_orders.proofs.Cutting.{Met}
 use Rattle.script_orders.proofs.walk.explore.Given as goal
 
 abbrev pub decreases-loop-alloc : goal.decreases-loop-alloc
@@ -15,4 +18,7 @@ invariant-loop-alloc g l = record {
   found : All (IsOutcome g.L.KeyLayout.layout l.program) l.whole.found.items;
   covered : (order : List ℕ) → IsOrder l.program.lines.now l.program.shape.passes order
       → IsCovered g.L.KeyLayout.layout l.program l.level.states.items l.whole.found.items order;
+  once : AllOnce l.whole.found.items;
+  met : Met g.L.KeyLayout.layout l.program l.level.states.items l.room;
+  counts : (steps : ℕ) × Counts g.L.KeyLayout.layout l.program l.level.states.items l.whole.found.items steps;
 }

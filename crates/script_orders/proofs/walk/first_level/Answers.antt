@@ -1,11 +1,15 @@
-use Rattle.std.proofs.Common.{List, ℕ, [], refl, sym, subst}
-use Rattle.std.specs.List.{All}
+use Rattle.std.proofs.Common.{◌≡◌, ◌*◌, List, ℕ, [], length, refl, sym, ap, subst, ◌∙◌, arith}
+use Rattle.std.specs.List.{All, sum_by}
+use Rattle.std.proofs.lemmas.List.Folds.{sum_by-replicate}
 use Rattle.std.proofs.lemmas.List.Elements.{All-nil}
 use Rattle.std.proofs.lemmas.Option.{slice_get_within, get_or_from_slice_get}
+use Rattle.script_orders.specs.Lanes.{Did, nothing}
 use Rattle.script_orders.specs.Reached.{IsReached}
 use Rattle.script_orders.specs.Walks.{ComesTo}
 use Rattle.script_orders.proofs.Added.{added_reached, has_added}
 use Rattle.script_orders.proofs.Coming.{leads_to_it, comes_alike}
+use Rattle.script_orders.proofs.Followed.{added_first}
+use Rattle.script_orders.proofs.StepsOn.{steps_first}
 use Rattle.script_orders.proofs.walk.first_level.Goals as goal
 
 pub returns-clause-reached : goal.returns-clause-reached
@@ -37,4 +41,20 @@ returns-clause-begins c = λ layout order.
       has.1,
       has.2,
       comes_alike layout p [] has.1 first reached (c.in_ok-first.ensures.reached layout) has.3 comes,
+    )
+
+pub returns-clause-first : goal.returns-clause-first
+returns-clause-first c =
+    let first = c.in_ok-first.field-0 in
+    let is = c.in_ok-first.ensures in (
+      first,
+      added_first c.new-level.result.states.items c.add.new.self.states.items first c.in_ok-add.ensures
+          c.new-level.ensures,
+      is.orders,
+      ap (sum_by (λ (d : Did). length d.story)) is.lanes
+          ∙ sum_by-replicate (λ (d : Did). length d.story) c.args.program.now.shape.passes nothing
+          ∙ (let e : c.args.program.now.shape.passes * 0 ≡ 0 = omega arith in e),
+      λ layout.
+          steps_first layout c.args.program.now first c.args.program.now.shape.passes (is.reached layout) is.begins
+          is.lanes,
     )

@@ -1,4 +1,4 @@
-use Rattle.std.proofs.Common.{rc_value, ◌≡◌, true, List, ℕ, length, get_or, refl, subst, ◌∙◌, arith}
+use Rattle.std.proofs.Common.{rc_value, ◌≡◌, true, List, length, get_or, refl, subst, ◌∙◌, arith}
 use Rattle.std.proofs.lemmas.List.{length-map}
 use Rattle.std.proofs.lemmas.Option.{slice_get_within}
 use Rattle.sh_step.specs.declared.body.Body.{Body}

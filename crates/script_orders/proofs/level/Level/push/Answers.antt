@@ -1,4 +1,4 @@
-use Rattle.std.proofs.Common.{◌≡◌, List, [], ◌∷◌, ◌++◌, length, sym, ap, subst, ◌∙◌, arith}
+use Rattle.std.proofs.Common.{◌≡◌, List, [], ◌∷◌, ◌++◌, sym, ap, subst, ◌∙◌, arith}
 use Rattle.std.specs.List.{sum_by}
 use Rattle.script_orders.specs.declared.state.State.{State}
 use Rattle.script_orders.specs.Bytes.{counted, state_bytes}

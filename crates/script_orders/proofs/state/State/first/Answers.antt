@@ -1,4 +1,4 @@
-use Rattle.std.proofs.Common.{rc_value, ◌≡◌, ℕ, List, [], sym, ap, subst, map, ◌∙◌}
+use Rattle.std.proofs.Common.{rc_value, ℕ, List, [], sym, ap, subst, map, ◌∙◌}
 use Rattle.std.specs.Prelude.{replicate}
 use Rattle.script_orders.specs.declared.changes.Change.{Change}
 use Rattle.script_orders.specs.Lanes.{did, nothing}
@@ -14,3 +14,6 @@ returns-clause-reached c = λ layout.
     (subst (λ (changes : List Change). LeadsTo layout p [] changes lanes) (sym c.new-3.ensures.items)
     (first_leads layout p lanes
     (c.in_ok-new_lanes.ensures ∙ ap (λ (n : ℕ). replicate n nothing) c.passes.ensures.passes)))
+
+pub returns-clause-lanes : goal.returns-clause-lanes
+returns-clause-lanes c = c.in_ok-new_lanes.ensures ∙ ap (λ (n : ℕ). replicate n nothing) c.passes.ensures.passes
