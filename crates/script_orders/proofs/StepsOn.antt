@@ -156,7 +156,8 @@ module _ (layout : Layout) (p : Program) (steps : List ℕ) (s t : State) (to : 
             (sym (goes.alike (world_by layout p steps) to.world).0)
             ∙ sym (replies_one layout p steps goes.number its_event goes.there a
             ∙ ap (λ (b : Bool). replies_by layout p steps a ++ cond b (reply_line its_event
-            (outcome_of (plan_in layout p) (world_by layout p steps) its_event)) []) (eq-eqb its_event.pass a own_pass));
+            (outcome_of (plan_in layout p) (world_by layout p steps) its_event)) [])
+            (eq-eqb its_event.pass a own_pass));
       }
 
   other_stepped : (b : ℕ) (d : Did) → b ≢ a → slice_get (lanes_of s) b ≡ Some d → HasStepped layout p longer b d
