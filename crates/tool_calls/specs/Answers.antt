@@ -1,5 +1,5 @@
 -- What a line is answered with: what the call of the library returned.
-use Rattle.std.specs.Prelude.{◌≡◌, ℕ, ◌+◌, List, Option, Some, None, Result, Ok, Err, Unit}
+use Rattle.std.specs.Prelude.{◌≡◌, ℕ, List, Result, Ok, Err}
 use Rattle.sh_value.specs.declared.hold.Hold.{Hold}
 use Rattle.sh_value.specs.declared.refusal.Refusal.{Refusal}
 use Rattle.sh_member.specs.Readers.{TakeIntoDoes}
@@ -27,12 +27,16 @@ abbrev pub TakesKey : ℕ → (value : List ℕ) → HeldPass → Result (Unit {
 TakesKey key value = FillsByKey (AnyDoes (λ l. SideDoes l (λ v a w. TakeIntoDoes l key 16 v a value w)))
     (λ v a w. TakeIntoDoes chunked (key_within key) 16 v a value w) key
 
+-- the answer is the value, or why the key was not taken
+abbrev pub TakeAnswers : ℕ → HeldPass → Answer → HeldPass → Type 0
+TakeAnswers key m a n = (value : List ℕ) × (r : Result (Unit {0}) Refusal) × TakesKey key value m r n
+    × (a ≡ told (λ _. answer.Value value) r)
+
 -- the pass did the call on the key, and the answer is what that returned
 abbrev pub KeyAnswers : KeyCall → ℕ → HeldPass → Answer → HeldPass → Type 0
 KeyAnswers Get key m a n = (r : Result Hold Refusal) × HeldGets key m r n × (a ≡ done r)
 KeyAnswers Read key m a n = (r : Result (List ℕ) Refusal) × HeldReads key m r n × (a ≡ told answer.Value r)
 KeyAnswers Look key m a n = (r : Result (List ℕ) Refusal) × HeldFetches key m r n × (a ≡ told answer.Value r)
-KeyAnswers Take key m a n = (value : List ℕ) × (r : Result (Unit {0}) Refusal) × TakesKey key value m r n
-    × (a ≡ told (λ _. answer.Value value) r)
+KeyAnswers Take key m a n = TakeAnswers key m a n
 KeyAnswers Remove key m a n = (r : Result (Unit {0}) Refusal) × HeldRemoves key m r n × (a ≡ done r)
 KeyAnswers Release key m a n = (r : Result (Unit {0}) Refusal) × HeldReleases key m r n × (a ≡ done r)

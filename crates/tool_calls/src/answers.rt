@@ -1,11 +1,12 @@
 //! What a pass does for a call of a line, and what the call returns.
 ghost use Rattle.std.specs.Prelude.{◌≡◌};
-ghost use Rattle.tool_calls.specs.Answers.{KeyAnswers, TakesKey, done as answered, told};
+ghost use Rattle.tool_calls.specs.Answers.{KeyAnswers, TakeAnswers, done as answered, told};
 ghost use Rattle.tool_calls.specs.declared.answers.Answer.TheVariants as answer;
 
 use crate::line::{Call, KeyCall};
 use c_handles::HeldPass;
-use sh_member::{NextHeld, NextLive};
+use sh_member::NextHeld;
+use sh_pass::NextKey;
 use sh_shape::classes::class_of;
 use sh_value::{Hold, Refusal, Value, WORDS_MAX};
 use std::alloc::Global;
@@ -21,8 +22,8 @@ pub enum Answer {
     Value(Value),
     /// The page that a call prepared.
     Page(u32),
-    /// A live key, its value and the place at which to continue.
-    Live(NextLive),
+    /// A live key and the place at which to continue, and its value.
+    Live(NextKey, Value),
     /// A live key, a hold on it and the place at which to continue.
     Held(NextHeld),
     /// No live key.
@@ -58,10 +59,15 @@ fn insert(alloc: Global, pass: &mut HeldPass, words: &[u64]) -> Result<u64, Refu
     pass.insert(alloc, &value)
 }
 
-fn take(pass: &mut HeldPass, key: u64) -> Result<Value, Refusal> {
+// The value of a key, which this call removes.
+fn take(pass: &mut HeldPass, key: u64) -> Answer
+    ensures { TakeAnswers key pass.old result pass.new }
+{
     let mut value = Value::from(0);
-    pass.take_into(key, WORDS_MAX, &mut value)?;
-    Ok(value)
+    match pass.take_into(key, WORDS_MAX, &mut value) {
+        Ok(()) => Answer::Value(value),
+        Err(why) => Answer::Refused(why),
+    }
 }
 
 // A page for values of this many words.
@@ -80,7 +86,7 @@ pub fn on_key(pass: &mut HeldPass, call: KeyCall, key: u64) -> Answer
         KeyCall::Get => done(pass.get(key).map(|_hold| ())),
         KeyCall::Read => valued(pass.read(Hold { key })),
         KeyCall::Look => valued(pass.look(key)),
-        KeyCall::Take => valued(take(pass, key)),
+        KeyCall::Take => take(pass, key),
         KeyCall::Remove => done(pass.remove(key)),
         KeyCall::Release => done(pass.release(Hold { key })),
     }
@@ -88,8 +94,9 @@ pub fn on_key(pass: &mut HeldPass, call: KeyCall, key: u64) -> Answer
 
 // The first live key at a place from this one on.
 fn next(pass: &mut HeldPass, from: u64) -> Answer {
-    match pass.next_live(from, u64::MAX) {
-        Ok(Some(next)) => Answer::Live(next),
+    let mut value = Value::from(0);
+    match pass.next_live_into(from, u64::MAX, &mut value) {
+        Ok(Some(next)) => Answer::Live(next, value),
         Ok(None) => Answer::NoKey,
         Err(why) => Answer::Refused(why),
     }
@@ -107,9 +114,10 @@ fn hold(pass: &mut HeldPass, from: u64) -> Answer {
 // The live keys, in the order of their places.
 fn walk(alloc: Global, pass: &mut HeldPass) -> Result<Vec<u64>, Refusal> {
     let mut keys = Vec::new(alloc);
+    let mut value = Value::from(0);
     let mut place = 0;
     for _key in 0..u64::MAX {
-        let Some(next) = pass.next_live(place, u64::MAX)? else {
+        let Some(next) = pass.next_live_into(place, u64::MAX, &mut value)? else {
             break;
         };
         if keys.push(next.key).is_err() {

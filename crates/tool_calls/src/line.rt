@@ -1,4 +1,6 @@
 //! What a line of a script says.
+ghost use Rattle.std.specs.Prelude.{◌<◌, IfOk};
+
 use sh_script::Cause;
 use sh_script::words::{is_name, number};
 use std::alloc::{AllocError, Global};
@@ -199,7 +201,9 @@ pub fn call_of<'a>(alloc: Global, words: &[&'a [u8]]) -> Result<Call<'a>, Troubl
 pub fn pass_of<'w, 'a>(
     passes: usize,
     words: &'w [&'a [u8]],
-) -> Result<(usize, &'w [&'a [u8]]), Cause> {
+) -> Result<(usize, &'w [&'a [u8]]), Cause>
+    ensures { IfOk result (λ line. line.0 < passes) }
+{
     let (word, rest) = next(words)?;
     let pass = number_in(word)?;
     if pass < passes as u64 {

@@ -18,9 +18,9 @@ fn write_answer<W: Write>(output: &mut W, answer: &Answer) -> io::Result<()> {
         Answer::Key(key) => write!(output, " {key}"),
         Answer::Value(value) => write_words(output, value.words()),
         Answer::Page(page) => write!(output, " {page}"),
-        Answer::Live(next) => {
+        Answer::Live(next, value) => {
             write!(output, " {} then {}", next.key, next.behind)?;
-            write_words(output, next.value.words())
+            write_words(output, value.words())
         }
         Answer::Held(next) => {
             let held = if next.hold.is_some() {
