@@ -13,4 +13,5 @@ pub mod SizeSums
 pub mod StepSums
 pub mod Stepping
 pub mod Sums
+pub mod Walked
 pub mod Wholes

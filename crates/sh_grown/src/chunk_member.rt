@@ -1,7 +1,7 @@
 //! What a caller has in a chunk that it has met, and the calls of its member there.
-ghost use Rattle.std.specs.Prelude.{◌≡◌, ℕ, ◌<◌, ◌⊎◌, IfErr, IfOk, IfSome, IsSome, List, OnErr, OnOk, Some, length};
+ghost use Rattle.std.specs.Prelude.{◌≡◌, ◌<◌, IfErr, IfOk, IfSome, IsSome, OnErr, OnOk, Some, length};
 ghost use Rattle.std.specs.Prelude.{MatchOption};
-ghost use Rattle.sh_value.specs.declared.refusal.Refusal.TheVariants.{Memory, Waiting};
+ghost use Rattle.sh_value.specs.declared.refusal.Refusal.TheVariants.{Waiting};
 ghost use Rattle.sh_chunk.specs.Chunks.{chunked, chunk_of, key_within};
 ghost use Rattle.sh_pass.specs.Passes.{IsAtRest, ReadDoes, ReadIntoDoes, RemoveDoes, ReleaseDoes};
 ghost use Rattle.sh_pass.specs.Fetching.{FetchDoes};
@@ -10,9 +10,9 @@ ghost use Rattle.sh_member.specs.Readers.{TakeIntoDoes};
 ghost use Rattle.sh_member.specs.Sides.{SideAdopts, SideDoes, SideCollects};
 ghost use Rattle.sh_member.specs.SideBounds.{AdoptTakes, InsertTakes};
 ghost use Rattle.sh_grown.specs.Callers.{IsPooled, MemberDoes, MemberTakes, GetsIn};
-ghost use Rattle.sh_grown.specs.Inserts.{InsertsIn, OwnsNone};
+ghost use Rattle.sh_grown.specs.Inserts.{InsertsIn, MoveRefused, OwnsNone};
 ghost use Rattle.sh_grown.specs.Keeping.{KeepsMember};
-ghost use Rattle.sh_grown.specs.Refusals.{OwnsThere, WaitsThere, WasRefused};
+ghost use Rattle.sh_grown.specs.Refusals.{OwnsThere, WaitsThere};
 ghost use Rattle.sh_grown.specs.Steps.{LeavesThere, RestsThere, TookAt, move_most};
 
 use crate::guard::GrownGuard;
@@ -325,8 +325,7 @@ pub(crate) fn move_to(
 ) -> Result<(), Refusal>
     requires { IsSome place.old }
     ensures owns { OnOk result (OwnsThere shard place.new) }
-    ensures refused { IfErr result (λ why. (why ≡ Memory)
-        ⊎ ((value : List ℕ) → WasRefused value shard place.old place.new)) }
+    ensures refused { IfErr result (λ why. MoveRefused shard why place.old place.new) }
     ensures steps { TookAt move_most place.old place.new }
     ensures keeps { KeepsMember place.old place.new }
 {
@@ -379,8 +378,8 @@ pub(crate) fn leave_at(place: &mut Option<ChunkMember>) -> Result<(), Refusal>
 
 // Gives all passes back, from the last chunk to the first.
 pub(crate) fn return_each_to_pool(mut places: Vec<Option<ChunkMember>>) {
-    while let Some(place) = places.pop() {
-        if let Some(met) = place {
+    for chunk in (0..places.len()).rev() {
+        if let Some(met) = places[chunk].take() {
             met.return_to_pool();
         }
     }

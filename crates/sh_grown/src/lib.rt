@@ -27,6 +27,7 @@ pub mod receipts;
 pub mod share;
 pub mod sizes;
 pub mod totals;
+mod tried;
 mod walking;
 
 pub use caller::Caller;

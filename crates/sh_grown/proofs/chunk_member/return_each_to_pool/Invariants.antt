@@ -1,4 +1,5 @@
+use Rattle.std.proofs.Common.{◌≡◌, length}
 use Rattle.sh_grown.proofs.chunk_member.return_each_to_pool.Given as goal
 
-abbrev pub decreases-loop-place : goal.decreases-loop-place
-decreases-loop-place l = goal.left-loop-place l
+abbrev pub invariant-loop-chunk : goal.invariant-loop-chunk
+invariant-loop-chunk l = length l.places.items ≡ length l.initial.places.items

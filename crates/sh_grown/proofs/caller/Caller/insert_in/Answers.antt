@@ -1,5 +1,6 @@
 use Rattle.std.proofs.Common.{length}
 use Rattle.sh_grown.specs.Steps.{insert_most}
+use Rattle.sh_grown.proofs.Full.{insert_leaves, none_left}
 use Rattle.sh_grown.proofs.CallSteps.{insert_took}
 use Rattle.sh_grown.proofs.Stepping.{one_none, one_set}
 use Rattle.sh_grown.proofs.OfChunks.{inserts_of}
@@ -24,3 +25,11 @@ invariant_of-self c = record {
       c.index_mut.result.now c.insert_at.new.place c.insert_at.result c.args.self.now.of_chunks
       c.index_mut.ensures.value c.insert_at.ensures.inserts;
 }
+
+pub returns-then-not-has_met-clause-leaves : goal.returns-then-not-has_met-clause-leaves
+returns-then-not-has_met-clause-leaves c = none_left c.args.self.now.met.items
+
+pub returns-clause-leaves : goal.returns-clause-leaves
+returns-clause-leaves c =
+    insert_leaves c.args.value.now c.args.self.now.met.items c.args.chunk c.index_mut.result.now
+    c.insert_at.new.place c.insert_at.result c.index_mut.ensures.value c.insert_at.ensures.inserts

@@ -1,7 +1,12 @@
-use Rattle.std.proofs.Common.{ℕ, ◌+◌, None, get_or, length, refl}
-use Rattle.sh_grown.specs.Keeping.{KeepsMembers}
+use Rattle.std.proofs.Common.{◌≡◌, ℕ, ◌+◌, None, get_or, length, refl}
+use Rattle.std.specs.Prelude.{Ok, Result}
+use Rattle.sh_value.specs.declared.refusal.Refusal.{Refusal}
+use Rattle.sh_grown.specs.declared.tried.Tried.{Tried}
+use Rattle.sh_grown.specs.declared.tried.Tried.TheVariants.{Refused}
+use Rattle.sh_grown.specs.Inserts.{TriesInsert, tried_after}
 use Rattle.sh_grown.specs.Steps.{walk_most}
-use Rattle.sh_grown.proofs.Keeping.{keeps_then, place_stays, stays_then}
+use Rattle.sh_grown.proofs.Keeping.{keeps_then, owned_then, place_stays, stays_then, tries_after}
+use Rattle.sh_grown.proofs.Walked.{refused}
 use Rattle.sh_grown.proofs.Stepping.{below_each, below_met, below_none, below_one, met_each}
 use Rattle.sh_grown.proofs.caller.Caller.try_later.Goals as goal
 
@@ -11,6 +16,7 @@ loop-number-init c =
     record {
       stays = record { growing = refl; number = refl };
       keeps = λ chunk. place_stays (get_or was.met.items chunk None);
+      own = λ e. absurd (cc);
       steps = below_none _ (walk_most (length c.args.value.now)) was;
     }
 
@@ -18,18 +24,25 @@ pub loop-number-preserved : goal.loop-number-preserved
 loop-number-preserved c =
     let i = c.loop-number.invariant in
     let k = c.loop-number.number in
-    let most : ℕ → ℕ → ℕ = walk_most (length c.args.value.now) in
+    let value = c.args.value.now in
+    let most : ℕ → ℕ → ℕ = walk_most (length value) in
     let old = c.args.self.now in
     let mid = c.loop-number.self in
     let met = c.meet.new.self in
     let new = c.try_shards.new.self in
-    let tried : KeepsMembers met.met.items new.met.items =
-    rw c.in_default-2.is at (c.in_ok-found.ensures.tries) in
     let stays = stays_then old mid met i.stays c.meet.ensures.stays in
+    let tried : TriesInsert value old.met.items (Ok (Refused c.in-Refused.so_far)) new.met.items =
+    refused (λ (a : Result Tried Refusal). TriesInsert value old.met.items a new.met.items)
+    (tried_after c.loop-number.owned c.try_shards.result) c.in_ok-tried.tried c.in-Refused.so_far
+    c.in_ok-tried.ensures c.in-Refused.is
+    (tries_after value old.met.items met.met.items new.met.items c.loop-number.owned c.try_shards.result
+    (keeps_then old.met.items mid.met.items met.met.items i.keeps c.meet.ensures.keeps)
+    (λ e. owned_then value old.met.items mid.met.items met.met.items (i.own e) c.meet.ensures.keeps)
+    c.try_shards.ensures.tries) in
     record {
       stays = stays_then old met new stays c.try_shards.ensures.stays;
-      keeps = keeps_then old.met.items mid.met.items new.met.items i.keeps
-          (keeps_then mid.met.items met.met.items new.met.items c.meet.ensures.keeps tried);
+      keeps = tried.0;
+      own = tried.1;
       steps = below_one k most old met new stays
           (below_met k most old mid met i.stays i.steps (met_each k mid met c.meet.result c.meet.ensures.met))
           c.try_shards.ensures.steps;
@@ -48,8 +61,8 @@ returns-in_default-clause-steps c =
     (below_met k most old mid met i.stays i.steps (met_each k mid met c.meet.result c.meet.ensures.met))
 
 -- one chunk more, which ended the walk
-pub returns-in_err-found-clause-steps : goal.returns-in_err-found-clause-steps
-returns-in_err-found-clause-steps c =
+pub returns-in_err-tried-clause-steps : goal.returns-in_err-tried-clause-steps
+returns-in_err-tried-clause-steps c =
     let i = c.loop-number.invariant in
     let k = c.loop-number.number in
     let most : ℕ → ℕ → ℕ = walk_most (length c.args.value.now) in
@@ -62,8 +75,8 @@ returns-in_err-found-clause-steps c =
     (below_met k most old mid met i.stays i.steps (met_each k mid met c.meet.result c.meet.ensures.met))
     c.try_shards.ensures.steps)
 
-pub returns-in-Some-clause-steps : goal.returns-in-Some-clause-steps
-returns-in-Some-clause-steps c =
+pub returns-in_default-2-clause-steps : goal.returns-in_default-2-clause-steps
+returns-in_default-2-clause-steps c =
     let i = c.loop-number.invariant in
     let k = c.loop-number.number in
     let most : ℕ → ℕ → ℕ = walk_most (length c.args.value.now) in

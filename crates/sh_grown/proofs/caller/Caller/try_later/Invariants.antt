@@ -1,6 +1,7 @@
-use Rattle.std.proofs.Common.{length}
+use Rattle.std.proofs.Common.{◌≡◌, true, length}
 use Rattle.sh_grown.specs.Callers.{Stays}
 use Rattle.sh_grown.specs.Keeping.{KeepsMembers}
+use Rattle.sh_grown.specs.Refusals.{OwnedFull}
 use Rattle.sh_grown.specs.Steps.{TakesBelow, walk_most}
 use Rattle.sh_grown.proofs.caller.Caller.try_later.Given as goal
 
@@ -8,5 +9,6 @@ abbrev pub invariant-loop-number : goal.invariant-loop-number
 invariant-loop-number l = record {
   stays : Stays l.initial.self l.self;
   keeps : KeepsMembers l.initial.self.met.items l.self.met.items;
+  own : l.owned ≡ true → OwnedFull l.value l.initial.self.met.items l.self.met.items;
   steps : TakesBelow l.number (walk_most (length l.value)) l.initial.self l.self;
 }

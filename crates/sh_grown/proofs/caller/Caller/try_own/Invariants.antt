@@ -1,6 +1,8 @@
-use Rattle.std.proofs.Common.{length}
+use Rattle.std.proofs.Common.{◌≡◌, true, false, length}
 use Rattle.sh_grown.specs.Callers.{Stays}
+use Rattle.sh_grown.specs.Inserts.{LeavesNone, OwnsNowhere}
 use Rattle.sh_grown.specs.Keeping.{KeepsMembers}
+use Rattle.sh_grown.specs.Refusals.{OwnedFull}
 use Rattle.sh_grown.specs.Steps.{TakesBelow, insert_most}
 use Rattle.sh_grown.proofs.caller.Caller.try_own.Given as goal
 
@@ -8,5 +10,8 @@ abbrev pub invariant-loop-number : goal.invariant-loop-number
 invariant-loop-number l = record {
   stays : Stays l.initial.self l.self;
   keeps : KeepsMembers l.initial.self.met.items l.self.met.items;
+  own : l.owned ≡ true → OwnedFull l.value l.initial.self.met.items l.self.met.items;
+  leaves : LeavesNone l.initial.self.met.items l.self.met.items;
+  none : l.owned ≡ false → OwnsNowhere l.number l.initial.self.met.items;
   steps : TakesBelow l.number (insert_most (length l.value)) l.initial.self l.self;
 }

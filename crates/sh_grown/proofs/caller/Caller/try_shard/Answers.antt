@@ -1,9 +1,8 @@
 use Rattle.std.proofs.Common.{◌+◌, length}
-use Rattle.sh_grown.specs.Refusals.{RefusedIn}
 use Rattle.sh_grown.specs.Steps.{again_most, collect_most, insert_most, move_most, shard_most}
-use Rattle.sh_grown.proofs.Full.{owner_refused, refused_none, refused_of, refused_try}
 use Rattle.sh_grown.proofs.Keeping.{tries_then}
 use Rattle.sh_grown.proofs.Stepping.{as_many, one_within, one_then, part_of, uncollected}
+use Rattle.sh_grown.proofs.Walked.{move_refused_in, move_tries, owner_refused}
 use Rattle.sh_grown.proofs.caller.Caller.try_shard.Goals as goal
 
 -- ---- with a collect
@@ -47,16 +46,13 @@ returns-in-Ok-2-clause-steps c =
 
 pub returns-in-Err-clause-tries : goal.returns-in-Err-clause-tries
 returns-in-Err-clause-tries c =
-    refused_try c.args.value.now c.args.self.now.met.items c.move_in.new.self.met.items c.in-Err.why
-    c.unless_memory.result c.unless_memory.ensures c.move_in.ensures.keeps
+    rw c.tried_by.ensures (move_tries c.args.value.now c.args.chunk c.args.shard c.args.self.now.met.items
+    c.move_in.new.self.met.items c.in-Err.why c.move_in.ensures.keeps c.in-Err.ensures.refused)
 
 pub returns-in-Err-clause-refused : goal.returns-in-Err-clause-refused
 returns-in-Err-clause-refused c collects =
-    refused_none
-    (RefusedIn c.args.value.now c.args.chunk c.args.shard c.args.self.now.met.items c.move_in.new.self.met.items)
-    c.in-Err.why c.unless_memory.result c.unless_memory.ensures
-    (refused_of c.args.value.now c.args.chunk c.args.shard c.args.self.now.met.items c.move_in.new.self.met.items
-    c.in-Err.why c.in-Err.ensures.refused)
+    rw c.tried_by.ensures (move_refused_in c.args.value.now c.args.chunk c.args.shard c.args.self.now.met.items
+    c.move_in.new.self.met.items c.in-Err.why c.in-Err.ensures.refused)
 
 pub returns-in-Err-clause-steps : goal.returns-in-Err-clause-steps
 returns-in-Err-clause-steps c =
