@@ -17,7 +17,7 @@ use Rattle.sh_grown.specs.Keeping.{KeepsMember, KeepsMembers}
 use Rattle.sh_grown.specs.Refusals.{ChunkRefused, Did, OwnedFull, OwnsFull, OwnsThere, RangeRefused, RefusedIn}
 use Rattle.sh_grown.specs.Refusals.{RefusesShard, WasRefused}
 use Rattle.sh_grown.proofs.Full.{tries_by}
-use Rattle.sh_grown.proofs.Keeping.{did_then, keeps_then, kept_then_ends, owned_then, then_did, then_owned}
+use Rattle.sh_grown.proofs.Keeping.{did_then, keeps_then, kept_then_ends, owned_then, then_did, then_owned, try_refused}
 use Rattle.sh_grown.proofs.Refusals.{on_refused}
 
 -- ---- over the chunks
@@ -320,3 +320,10 @@ comes_after owned chunks value xs ys zs (Ok (Refused here)) kept own none tries 
     comes_refused owned here chunks value xs ys zs kept own none tries.0 tries.1 all
 comes_after owned chunks value xs ys zs (Err why) kept own none tries err all =
     comes_err chunks value xs ys zs why kept err.0 err.1
+
+-- a try that is refused ends the insert
+pub err_comes : (chunks : ℕ) (value : List ℕ) (xs ys : List (Option ChunkMember)) (why : Refusal)
+    → TriesInsert value xs (Err why) ys → Inserts chunks value xs (Err why) ys
+err_comes chunks value xs ys why q =
+    let r : (why ≡ refusal.Memory) × KeepsMembers xs ys = try_refused value xs ys why q in
+    subst (λ (w : Refusal). Inserts chunks value xs (Err w) ys) (sym r.0) r.1

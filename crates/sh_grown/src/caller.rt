@@ -43,7 +43,9 @@ fn no_members(alloc: Global, chunks: usize) -> Result<Vec<Option<ChunkMember>>, 
     ensures none { IfOk result (λ members. (chunk : ℕ) → get_or members.items chunk None ≡ None) }
     ensures err { IfErr result (λ why. why ≡ Memory) }
 {
-    let mut members = Vec::with_capacity(alloc, chunks)?;
+    let Ok(mut members) = Vec::with_capacity(alloc, chunks) else {
+        return Err(Refusal::Memory);
+    };
     for _chunk in 0..chunks {
         if members.push(None).is_err() {
             return Err(Refusal::Memory);

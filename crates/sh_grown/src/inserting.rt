@@ -39,7 +39,6 @@ impl Caller {
     ///
     /// In each chunk it takes at most the steps of three inserts and a collect there. For each shard of the chunk it
     /// takes at most those of two leaves, two adoptions, two collects and two inserts besides.
-    #[tactic(auto, using(crate::proofs::Keeping::inserts_then))]
     pub fn insert(&mut self, alloc: Global, value: &Value) -> Result<u64, Refusal>
         ensures inserts { Inserts (length self.old.growing.cells.items) value.now self.old.met.items result
             self.new.met.items }

@@ -6,7 +6,7 @@ use Rattle.sh_grown.proofs.chunk_member.move_to.Goals as goal
 pub returns-in_err-leave_at-clause-refused : goal.returns-in_err-leave_at-clause-refused
 returns-in_err-leave_at-clause-refused c =
     place_stuck c.args.shard c.args.place.now c.leave_at.new.place c.from_residual.result
-    c.in_err-leave_at.ensures.waits c.in_err-leave_at.ensures.err
+    c.in_err-leave_at.ensures.waits (rw c.from_residual.ensures c.in_err-leave_at.ensures.err)
 
 pub returns-clause-refused : goal.returns-clause-refused
 returns-clause-refused c =

@@ -6,7 +6,7 @@ use Rattle.sh_grown.specs.declared.tried.Tried.TheVariants.{Refused}
 use Rattle.sh_grown.specs.Inserts.{AllRefused, OnRefused, TriesInsert, tried_after}
 use Rattle.sh_grown.specs.Steps.{walk_most}
 use Rattle.sh_grown.proofs.Keeping.{keeps_then, owned_then, place_stays, stays_then, tries_after}
-use Rattle.sh_grown.proofs.Walked.{chunks_after, refused}
+use Rattle.sh_grown.proofs.Walked.{chunks_after, refused, returned}
 use Rattle.sh_grown.proofs.Stepping.{below_each, below_met, below_none, below_one, opened_each}
 use Rattle.sh_grown.proofs.caller.Caller.try_all.Goals as goal
 
@@ -106,3 +106,17 @@ pub returns-clause-steps : goal.returns-clause-steps
 returns-clause-steps c =
     below_each c.loop-number.number (walk_most (length c.args.value.now)) c.args.self.now c.loop-number.self
     c.loop-number.invariant.steps
+
+pub returns-in_default-clause-tries : goal.returns-in_default-clause-tries
+returns-in_default-clause-tries c =
+    let i = c.loop-number.invariant in
+    let value = c.args.value.now in
+    let old = c.args.self.now.met.items in
+    let mid = c.loop-number.self.met.items in
+    let met = c.meet_opened.new.self.met.items in
+    let new = c.try_shards.new.self.met.items in
+    let meets = c.meet_opened.ensures.keeps in
+    returned (λ (a : Result Tried Refusal). TriesInsert value old a new)
+    (tried_after c.loop-number.owned c.try_shards.result) c.in_ok-tried.tried c.in_ok-tried.ensures
+    (tries_after value old met new c.loop-number.owned c.try_shards.result (keeps_then old mid met i.keeps meets)
+    (λ e. owned_then value old mid met (i.own e) meets) c.try_shards.ensures.tries)

@@ -34,8 +34,8 @@ returns-in_err-own-clause-steps c =
     (one_each c.args.self.now.front (insert_most words) (insert_most words) c.args.self.now c.try_in.new.self
     (λ s z. as_many (insert_most words s z)) c.try_in.ensures.steps) c.try_own.ensures.steps
 
-pub returns-in_default-2-clause-steps : goal.returns-in_default-2-clause-steps
-returns-in_default-2-clause-steps c =
+pub returns-in_default-own-clause-steps : goal.returns-in_default-own-clause-steps
+returns-in_default-own-clause-steps c =
     let words = length c.args.value.now in
     each_then (insert_most words) (insert_most words) (own_most words) c.args.self.now c.try_in.new.self
     c.try_own.new.self (λ s z. two_inserts_more (insert_most words s z) (collect_most s z)) c.try_in.ensures.stays
@@ -71,13 +71,13 @@ returns-clause-tries c =
     let new = c.try_collected.new.self.met.items in
     let front : TriesInsert value old (Ok (Refused c.in-Refused.first)) mid =
     rw c.in-Refused.is at (c.in_ok-front.ensures.tries) in
-    let tried : TriesInsert value old (Ok (Refused c.in-Refused-2.owned)) own =
+    let tried : TriesInsert value old (Ok (Refused c.in-Refused-own.owned)) own =
     refused (λ (a : Result Tried Refusal). TriesInsert value old a own)
-    (tried_after c.in-Refused.first c.try_own.result) c.in_ok-own.own c.in-Refused-2.owned c.in_ok-own.ensures
-    c.in-Refused-2.is
+    (tried_after c.in-Refused.first c.try_own.result) c.in_ok-own.own c.in-Refused-own.owned c.in_ok-own.ensures
+    c.in-Refused-own.is
     (tries_after value old mid own c.in-Refused.first c.try_own.result front.0 front.1 c.try_own.ensures.tries) in
     rw c.tried_after-2.ensures
-    (tries_after value old own new c.in-Refused-2.owned c.try_collected.result tried.0 tried.1
+    (tries_after value old own new c.in-Refused-own.owned c.try_collected.result tried.0 tried.1
     c.try_collected.ensures.tries)
 
 pub returns-clause-none : goal.returns-clause-none
@@ -86,14 +86,14 @@ returns-clause-none c =
     let chunks = length was.growing.cells.items in
     let old = was.met.items in
     let mid = c.try_in.new.self.met.items in
-    let before : OnRefused (Ok (Refused c.in-Refused-2.owned)) (λ here. here ≡ false → OwnsNowhere chunks old) =
+    let before : OnRefused (Ok (Refused c.in-Refused-own.owned)) (λ here. here ≡ false → OwnsNowhere chunks old) =
     refused (λ (a : Result Tried Refusal). OnRefused a (λ here. here ≡ false → OwnsNowhere chunks old))
-    (tried_after c.in-Refused.first c.try_own.result) c.in_ok-own.own c.in-Refused-2.owned c.in_ok-own.ensures
-    c.in-Refused-2.is
+    (tried_after c.in-Refused.first c.try_own.result) c.in_ok-own.own c.in-Refused-own.owned c.in_ok-own.ensures
+    c.in-Refused-own.is
     (nowhere_here (OwnsNowhere chunks mid) (OwnsNowhere chunks old) c.in-Refused.first c.try_own.result
     (λ none chunk less. c.try_in.ensures.leaves chunk (none chunk less))
     (subst (λ (g : Growing). OnRefused c.try_own.result
     (λ here. here ≡ false → OwnsNowhere (length g.cells.items) mid)) c.try_in.ensures.stays.growing
     c.try_own.ensures.none)) in
     rw c.tried_after-2.ensures
-    (nowhere_before (OwnsNowhere chunks old) c.in-Refused-2.owned c.try_collected.result before)
+    (nowhere_before (OwnsNowhere chunks old) c.in-Refused-own.owned c.try_collected.result before)
