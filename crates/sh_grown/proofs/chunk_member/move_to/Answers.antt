@@ -1,3 +1,4 @@
+use Rattle.std.proofs.lemmas.Result.{err_from_is_err_and}
 use Rattle.sh_grown.proofs.CallSteps.{left_took, move_took}
 use Rattle.sh_grown.proofs.Keeping.{place_then}
 use Rattle.sh_grown.proofs.Refusals.{place_adopts, place_stuck}
@@ -5,8 +6,9 @@ use Rattle.sh_grown.proofs.chunk_member.move_to.Goals as goal
 
 pub returns-in_err-leave_at-clause-refused : goal.returns-in_err-leave_at-clause-refused
 returns-in_err-leave_at-clause-refused c =
+    let p = err_from_is_err_and c.from_residual.result c.from_residual.ensures.1 in
     place_stuck c.args.shard c.args.place.now c.leave_at.new.place c.from_residual.result
-    c.in_err-leave_at.ensures.waits (rw c.from_residual.ensures c.in_err-leave_at.ensures.err)
+    c.in_err-leave_at.ensures.waits (rw (p.1, p.2) c.in_err-leave_at.ensures.err)
 
 pub returns-clause-refused : goal.returns-clause-refused
 returns-clause-refused c =
