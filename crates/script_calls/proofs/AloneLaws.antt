@@ -1,36 +1,36 @@
 -- Lines one after the other, each pass with a receipt of the line before: the history has their entries in that order.
 use Rattle.std.proofs.Common.{◌≡◌, ◌≢◌, ℕ, zero, suc, ◌+◌, ◌<◌, ◌≤◌, Bool, true, false, cond, List, [], ◌∷◌, ◌++◌}
 use Rattle.std.proofs.Common.{length, take, set, map, slice_get, Option, Some, None, sym, refl, ap, ◌∙◌, subst, arith}
-use Rattle.std.proofs.Common.{append_assoc, append-nil, length-append, ◌⊎◌, inl, inr, ⊎_elim, add-one}
+use Rattle.std.proofs.Common.{append_assoc, append-nil, ◌⊎◌, inl, inr, ⊎_elim, add-one}
 use Rattle.std.specs.List.{Contains}
 use Rattle.std.proofs.lemmas.List.Elements.{Contains-append_left, Contains-append_right, Contains-push}
-use Rattle.std.proofs.lemmas.Option.{none-some, slice_get_within}
+use Rattle.std.proofs.lemmas.Option.{slice_get_within}
 use mathlib.Core.Logic.{dite}
 use native.Mathlib.Decide.{ℕ_discrete}
 use Rattle.sh_pass.specs.Entry.{Entry}
 use Rattle.sh_pass.specs.LogEntry.{LogEntry}
-use Rattle.sh_pass.specs.Log.{Agrees}
 use Rattle.sh_script.specs.declared.calls.CallLine.{CallLine}
 use Rattle.script_output.specs.declared.answer.Answer.{Answer}
-use Rattle.script_output.specs.Keys.{HasTagRoom}
 use Rattle.script_output.specs.Replies.{reply_line}
 use Rattle.sh_pass.specs.Passes.{Caller}
-use Rattle.script_calls.specs.OwnParts.{PartIsTrue}
+use Rattle.script_calls.specs.OwnParts.{PartIsTrue, steps_of}
 use Rattle.script_calls.specs.Parts.{RunTerms, PassPart, SeenPass, SamePass, new_passes}
-use Rattle.script_calls.specs.Calls.{CallAnswers, binds, number_told}
-use Rattle.script_calls.specs.Named.{numbers_told, tells_number, HeardOfNumber, NamesWereHeard}
+use Rattle.script_calls.specs.Calls.{CallAnswers}
+use Rattle.script_calls.specs.Named.{HeardOfEntries, NamesWereHeard}
 use Rattle.script_calls.specs.Runs.{CallsRun, LinesAnswered, opening_calls, with_part, with_number, number_meant}
 use Rattle.script_calls.specs.Runs.{next_run}
 use Rattle.script_calls.specs.Receipts.{SeenReceipt, seen_of_receipt, receipt_seen, order_seen, part_heard}
-use Rattle.script_calls.specs.Receipts.{taken_heard, MayHeed}
-use Rattle.script_calls.specs.InOrder.{adds_entry, adding_passes, times, Cut, AllHeard, LastHeard}
-use Rattle.script_calls.specs.Alone.{seen_with_part, OrderedSoFar, HeedsLast, IsLastOf, LastTells}
+use Rattle.script_calls.specs.Receipts.{taken_heard}
+use Rattle.script_calls.specs.InOrder.{adds_entry, adding_passes, entries_added, times, Cut, AllHeard}
+use Rattle.script_calls.specs.InOrder.{Covers, LastHeard}
+use Rattle.script_calls.specs.Alone.{seen_with_part, OrderedSoFar, HeedsLast, IsLastOf}
 use Rattle.script_calls.specs.Meeting.{KeepsOrders, orders_of}
 use Rattle.script_calls.specs.Stepping.{LinesHeard}
-use Rattle.script_calls.proofs.ListLemmas.{take_at, get_snoc, each_left}
+use Rattle.script_calls.proofs.ListLemmas.{take_at, each_left}
 use Rattle.script_calls.proofs.ListLemmas.{each_right}
-use Rattle.script_calls.proofs.NameLemmas.{numbers_after, meant_at, heard_more, heard_kept, orders_at, orders_set}
-use Rattle.script_calls.proofs.NameLemmas.{heard_by_heeding, tells_on, tells_own, may_log}
+use Rattle.script_calls.proofs.NameLemmas.{added_few, heard_more, heard_kept, heeded_order, orders_at, orders_set}
+use Rattle.script_calls.proofs.NameLemmas.{may_log}
+use Rattle.script_calls.proofs.NameLaws.{none_before, order_before}
 use Rattle.script_calls.proofs.HearLaws.{orders_only, may_heed, orders_heed}
 use Rattle.script_calls.proofs.HeardAll.{nothing_in}
 use Rattle.script_calls.proofs.LineLemmas.{part_here, part_there}
@@ -41,9 +41,8 @@ use Rattle.script_calls.proofs.StepLaws.{lines_more, last_more, no_steps}
 use Rattle.sh_pass.specs.Heard.{Heard}
 use Rattle.sh_pass.specs.Order.{Order}
 use Rattle.sh_pass.specs.Seats.{Heap}
-use Rattle.sh_pass.specs.Tales.{by, HasFirst, Before}
+use Rattle.sh_pass.specs.Tales.{Before}
 use Rattle.sh_pass.specs.Views.{Each, heard_in}
-use Rattle.sh_pass.proofs.Zips.{zip_length}
 use Rattle.sh_pass.proofs.Sums.Totals.{get_set_here}
 use Rattle.sh_pass.proofs.Standing.{contains_map}
 use Rattle.sh_pass.proofs.OrderLaws.{each_in}
@@ -76,30 +75,13 @@ adding_more terms tag before after (k ∷ ks) (b ∷ bs) l a h =
 -- ---- points of the history
 
 none_cut : (history : List Entry) (who : List ℕ) (p a : ℕ) → length (times p who) ≡ 0 → Cut history who p a
-none_cut history who p a e = record {
-  early = [];
-  late = history;
-  is = refl;
-  heard = omega (arith, e);
-  own = omega arith;
-}
+none_cut history who p a e = none_before history p (length (times p who)) a (length (times a who)) e
 
 order_cut : (history : List Entry) (who : List ℕ) (p : ℕ) (s : SeenPass) (h : Heard) → Before history (order_seen s h)
     → h.pass ≡ p → length (times p who) ≤ length h.log → length (times s.pass who) ≡ length s.part.log
     → Cut history who p s.pass
-order_cut history who p s h b pass few own =
-    let f : HasFirst b.0 h = b.4 in
-    let same : length h.log ≡ length f.0 = zip_length Agrees h.log f.0 f.3 in
-    let long : length (by p b.0) ≡ length f.0 + length f.1 = ap (λ (q : ℕ). length (by q b.0)) (sym pass)
-    ∙ (ap (λ (l : List Entry). length l) f.2 ∙ length-append f.0 f.1) in
-    let mine : length (by s.pass b.0) ≡ length s.part.log = b.3 in
-    record {
-      early = b.0;
-      late = b.1;
-      is = b.2;
-      heard = omega (arith, same, long, few);
-      own = omega (arith, mine, own);
-    }
+order_cut history who p s h b pass few own = order_before history p (length (times p who)) s.pass
+    (length (times s.pass who)) (order_seen s h) b pass few refl (sym own)
 
 -- ---- one more line
 
@@ -138,7 +120,6 @@ module _ (heap : Option Heap) (terms : RunTerms) (tag : Option ℕ) (lines : Lis
     (was : OrderedSoFar heap terms tag lines i numbers sides output last) (l : CallLine)
     (at : slice_get lines i ≡ Some l) (side mid now : SeenPass) (own : slice_get sides l.pass ≡ Some side)
     (heeds : HeedsLast last side mid) (same : SamePass mid now) (a : Answer)
-    (room : HasTagRoom terms.layout tag)
     (does : CallAnswers mid.terms tag mid.pass mid.part l.call (number_meant numbers l.call) a now.part)
     (stands : PartIsTrue now.terms.layout now.part) where
   abbrev who : List ℕ
@@ -229,20 +210,20 @@ module _ (heap : Option Heap) (terms : RunTerms) (tag : Option ℕ) (lines : Lis
       (map (λ (o : Order). o.heard) now.orders) o.heard (contains_map (λ (o : Order). o.heard) now.orders o
       (subst (λ (os : List Order). Contains os o) (sym now_orders) h))
 
-  heard_else : (last : Option Caller) → LastHeard heap who last → HeedsLast last side mid → (p : ℕ)
-      → 0 < length (times p who) → (h : Heard) × Contains (receipt_seen now).heard h × (h.pass ≡ p)
+  -- it heard of all entries that there were
+  order_else : (last : Option Caller) → LastHeard heap who last → HeedsLast last side mid → (p : ℕ)
+      → 0 < length (times p who) → (h : Heard) × Contains mid.orders (order_seen side h) × (h.pass ≡ p)
       × (length (times p who) ≤ length h.log)
-  heard_else None h e p some = absurd (let z : length (times p who) ≡ 0 = ap (λ (q : List ℕ). length (times p q)) h
+  order_else None h e p some = absurd (let z : length (times p who) ≡ 0 = ap (λ (q : List ℕ). length (times p q)) h
       in omega (arith, z, some))
-  heard_else (Some r) h e p some =
+  order_else (Some r) h e p some =
       let k = h.heard p some in
-      let in_mid : Contains mid.orders (order_seen side k.0) = subst
-      (λ (z : SeenPass). Contains z.orders (order_seen side k.0)) (sym e.is)
-      (Contains-append_right side.orders (r.view.orders ++ map (order_seen side) (heard_in r.view))
-      (order_seen side k.0)
-      (Contains-append_right r.view.orders (map (order_seen side) (heard_in r.view)) (order_seen side k.0)
-      (contains_map (order_seen side) (heard_in r.view) k.0 k.1))) in
-      (k.0, mid_has (order_seen side k.0) in_mid, k.2, k.3)
+      (k.0, heeded_order r side mid e k.0 k.1, k.2, k.3)
+
+  heard_else : (p : ℕ) → Covers (receipt_seen now).heard p (length (times p who))
+  heard_else p some =
+      let k = order_else last was.last_heard heeds p some in
+      (k.0, mid_has (order_seen side k.0) k.1, k.2, k.3)
 
   last_heard_more : (p : ℕ) → 0 < length (times p who') → (h : Heard) × Contains (receipt_seen now).heard h
       × (h.pass ≡ p) × (length (times p who') ≤ length h.log)
@@ -258,7 +239,7 @@ module _ (heap : Option Heap) (terms : RunTerms) (tag : Option ℕ) (lines : Lis
       ))
       (λ (ne : p ≢ l.pass).
       let c : length (times p who') ≡ length (times p who) = ap (λ (q : List ℕ). length q) (told_other p ne) in
-      let k = heard_else last was.last_heard heeds p (omega (arith, c, some)) in
+      let k = heard_else p (omega (arith, c, some)) in
       let m = k.3 in
       (k.0, k.1, k.2, omega (arith, c, m)))
 
@@ -281,67 +262,37 @@ module _ (heap : Option Heap) (terms : RunTerms) (tag : Option ℕ) (lines : Lis
 
   -- ---- names
 
-  mid_terms : mid.terms ≡ terms
-  mid_terms = ap (λ (z : SeenPass). z.terms) only ∙ ap (λ (z : SeenPass). z.terms) side_is
-
-  numbers_are : numbers ≡ numbers_told (take i lines) was.so_far.answers
-  numbers_are = was.so_far.numbers_are ∙ numbers_after terms tag (opening_calls heap) was.so_far.run (take i lines)
-      was.so_far.answers was.so_far.ran
-
-  name_heard : (last : Option Caller) → LastTells tag numbers last → HeedsLast last side mid → (n : Option ℕ)
-      → number_meant numbers l.call ≡ n → HeardOfNumber tag mid.orders side.pass (length side.part.log) n
-  name_heard last t e None is = tt
-  name_heard None t e (Some n) is =
-      let m = meant_at numbers l.call n is in
-      absurd (none-some (Some n) (subst (λ (ns : List (Option ℕ)). slice_get ns m.0 ≡ Some (Some n)) t m.1))
-  name_heard (Some r) t e (Some n) is =
-      let m = meant_at numbers l.call n is in
-      heard_by_heeding tag r side mid e (Some n) (t m.0 n m.1)
+  entries_heard : (p done : ℕ) → done ≤ length (times p who)
+      → HeardOfEntries now.orders p done l.pass (length (times l.pass who))
+  entries_heard p done few some =
+      let k = order_else last was.last_heard heeds p (omega (arith, few, some)) in
+      let C : List Order × ℕ × ℕ → Type 0 = λ z. Contains z.0 (record {
+        heard = k.0;
+        carrier = z.1;
+        length = z.2;
+        steps = steps_of side.part.stands;
+      }) in
+      let long : length side.part.log ≡ length (times l.pass who) = sym side_log
+      ∙ ap (λ (q : ℕ). length (times q who)) side_pass in (
+        k.0,
+        steps_of side.part.stands,
+        subst C (λ j. (sym now_orders j, side_pass j, long j)) k.1,
+        k.2,
+        omega (arith, few, k.3),
+      )
 
   keeps_side : (last : Option Caller) → HeedsLast last side mid → KeepsOrders side.orders now.orders
   keeps_side last e o c = subst (λ (os : List Order). Contains os o) (sym now_orders) (orders_heed last side mid e o c)
 
-  names_heard : NamesWereHeard tag (take i lines ++ l ∷ []) (was.so_far.answers ++ a ∷ [])
+  names_heard : NamesWereHeard (take i lines ++ l ∷ []) (was.so_far.answers ++ a ∷ [])
       (orders_of (set sides l.pass now))
-  names_heard =
-      let keeps = orders_set sides l.pass side now own (keeps_side last heeds) in
-      let n : Option ℕ = number_meant (numbers_told (take i lines) was.so_far.answers) l.call in
-      let it = name_heard last was.last_tells heeds n
-      (ap (λ (ns : List (Option ℕ)). number_meant ns l.call) numbers_are) in
-      let H : List Order × ℕ × ℕ → Type 0 = λ z. HeardOfNumber tag z.0 z.1 z.2 n in
-      let here : HeardOfNumber tag now.orders l.pass (length (times l.pass who)) n = subst H
-      (λ j. (sym now_orders j, side_pass j, (sym side_log ∙ ap (λ (q : ℕ). length (times q who)) side_pass) j)) it in
-      heard_more terms tag (opening_calls heap) was.so_far.run (take i lines) was.so_far.answers
-      (orders_of sides) (orders_of (set sides l.pass now)) l a was.so_far.ran was.so_far.heard keeps
-      (heard_kept tag now.orders (orders_of (set sides l.pass now)) l.pass (length (times l.pass who)) n
-      (orders_at (set sides l.pass now) l.pass now (get_set_here sides l.pass side now own)) here)
-
-  tells_old : (last : Option Caller) → LastTells tag numbers last → HeedsLast last side mid → (k n : ℕ)
-      → slice_get numbers k ≡ Some (Some n) → tells_number tag (receipt_seen now).heard (Some n) ≡ true
-  tells_old None t e k n is = absurd (none-some (Some n)
-      (subst (λ (ns : List (Option ℕ)). slice_get ns k ≡ Some (Some n)) t is))
-  tells_old (Some r) t e k n is = tells_on tag r side mid now e same (Some n) (t k n is)
-
-  tells_new : binds l.call ≡ true → tells_number tag (receipt_seen now).heard (number_told a) ≡ true
-  tells_new b =
-      let rest : List Heard = taken_heard now ++ map (λ (o : Order). o.heard) now.orders in
-      let roomy : HasTagRoom mid.terms.layout tag = subst (λ (t : RunTerms). HasTagRoom t.layout tag) (sym mid_terms)
-      room in
-      let told = tells_own mid.terms tag mid.pass mid.part now.part l.call (number_meant numbers l.call) a roomy b does
-      rest in
-      subst (λ (q : ℕ). tells_number tag (part_heard q now.part ∷ rest) (number_told a) ≡ true)
-      (ap (λ (z : SeenPass). z.pass) (sym same)) told
-
-  tells_then : (k n : ℕ) → slice_get (with_number numbers l.call a) k ≡ Some (Some n)
-      → tells_number tag (receipt_seen now).heard (Some n) ≡ true
-  tells_then k n at = go (binds l.call) refl at where
-    go : (b : Bool) → binds l.call ≡ b → slice_get (cond b (numbers ++ number_told a ∷ []) numbers) k ≡ Some (Some n)
-        → tells_number tag (receipt_seen now).heard (Some n) ≡ true
-    go false is at = tells_old last was.last_tells heeds k n at
-    go true is at = ⊎_elim (tells_old last was.last_tells heeds k n)
-        (λ (e : (k ≡ length numbers) × (number_told a ≡ Some n)). subst
-        (λ (q : Option ℕ). tells_number tag (receipt_seen now).heard q ≡ true) e.1 (tells_new is))
-        (get_snoc numbers (number_told a) (Some n) k at)
+  names_heard = heard_more terms tag (opening_calls heap) was.so_far.run (take i lines) was.so_far.answers
+      (orders_of sides) (orders_of (set sides l.pass now)) l a was.so_far.ran was.so_far.heard
+      (orders_set sides l.pass side now own (keeps_side last heeds))
+      (λ j b n. let done : ℕ = entries_added b.pass (take (suc j) (take i lines)) was.so_far.answers in
+      heard_kept now.orders (orders_of (set sides l.pass now)) b.pass done l.pass (length (times l.pass who))
+      (orders_at (set sides l.pass now) l.pass now (get_set_here sides l.pass side now own))
+      (entries_heard b.pass done (added_few b.pass (take i lines) was.so_far.answers (suc j))))
 
   steps_heard : LinesHeard (orders_of (set sides l.pass now)) terms tag (opening_calls heap) (take (i + 1) lines)
       (was.so_far.answers ++ a ∷ []) (next_run was.so_far.run l a now.part)
@@ -368,8 +319,6 @@ module _ (heap : Option Heap) (terms : RunTerms) (tag : Option ℕ) (lines : Lis
       orders = λ history each. all_heard_more history
           (subst (λ (z : SeenReceipt). Each (Before history) z.orders) tells each);
     };
-    last_tells = λ k n at. subst (λ (z : SeenReceipt). tells_number tag z.heard (Some n) ≡ true) (sym tells)
-        (tells_then k n (subst (λ (ns : List (Option ℕ)). slice_get ns k ≡ Some (Some n)) named at));
     heard_steps = subst (λ (ss : List SeenPass). LinesHeard (orders_of ss) terms tag (opening_calls heap)
         (take (i + 1) lines) (was.so_far.answers ++ a ∷ []) (next_run was.so_far.run l a now.part)) (sym put)
         steps_heard;
@@ -385,7 +334,6 @@ begins_ordered heap terms tag lines sides e = record {
   counts = λ p. refl;
   few = λ p le. refl;
   last_heard = refl;
-  last_tells = refl;
   heard_steps = refl;
   last_steps = no_steps heap;
 }

@@ -53,7 +53,7 @@ begins_alone heap terms tag lines sides e = record {
   each = λ p s at. let is : s ≡ new_pass heap terms p = newcomers_get heap terms terms.shape.passes p s
       (subst (λ (z : List SeenPass). slice_get z p ≡ Some s) e at)
       in is ∙ ap (λ (z : SeenPass). record (new_pass heap terms p) { orders = z.orders }) (sym is);
-  heard = λ i l at. absurd (none-some l at);
+  heard = λ j i b l less at. absurd (none-some l at);
 }
 
 module _ (heap : Option Heap) (terms : RunTerms) (tag : Option ℕ) (lines : List CallLine) (i : ℕ)
@@ -107,7 +107,7 @@ module _ (heap : Option Heap) (terms : RunTerms) (tag : Option ℕ) (lines : Lis
 
   abbrev pub answered_more : (after : List (Option ℕ)) (new : List SeenPass) (longer : List ℕ) → after
       ≡ with_number numbers l.call a → new ≡ set sides l.pass now → longer ≡ output ++ reply_line l a
-      → NamesWereHeard tag (take i lines ++ l ∷ []) (was.answers ++ a ∷ []) (orders_of (set sides l.pass now))
+      → NamesWereHeard (take i lines ++ l ∷ []) (was.answers ++ a ∷ []) (orders_of (set sides l.pass now))
       → AnsweredSoFar heap terms tag lines (i + 1) after new longer
   answered_more after new longer named put printed heard =
       let more = one_more terms tag (opening_calls heap) was.run then (take i lines) was.answers l a was.ran steps in
@@ -124,7 +124,7 @@ module _ (heap : Option Heap) (terms : RunTerms) (tag : Option ℕ) (lines : Lis
         each = λ p s e. let f : slice_get (set sides l.pass now) p
             ≡ Some s = ap (λ (z : List SeenPass). slice_get z p) (sym put) ∙ e
             in dite (ℕ_discrete p l.pass) (λ h. here p s h f) (λ ne. there p s ne f);
-        heard = subst (λ (z : List CallLine × List SeenPass). NamesWereHeard tag z.0 (was.answers ++ a ∷ [])
+        heard = subst (λ (z : List CallLine × List SeenPass). NamesWereHeard z.0 (was.answers ++ a ∷ [])
             (orders_of z.1)) (λ j. (sym took j, sym put j)) heard;
       }
 
@@ -218,10 +218,11 @@ carrier_ran alone heap terms tag lines i numbers sides output c last ts past fit
     let tale = m.carries.2 ∙ tale_of_parts heap terms tag lines i numbers sides output h in
     let w = m.whole in
     let has : HasAllLogs w.history (tale_told c) = subst (HasAllLogs w.history) (sym m.carries.2) w.has in
-    let named : IsNamedBy terms tag lines h.answers c = named_by heap terms tag lines i numbers sides output h past fits
-    c tale m.heard in
+    let named : IsNamedBy terms lines h.answers c = named_by heap terms tag lines i numbers sides output h past c m.heard
+    in
     record {
       told = record {
+        within = fits;
         replies = ends_alone heap terms tag lines i numbers sides output past h;
         tale_is = tale;
         whole = record { history = w.history; legal = w.legal; has = has; only = w.only };

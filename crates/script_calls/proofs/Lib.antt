@@ -17,6 +17,7 @@ pub mod StepLaws
 pub mod AloneLaws
 pub mod PartsGoOn
 pub mod AloneEnds
+pub mod GoneAnswers
 pub mod GoneLaws
 pub mod PlacedKeys
 pub mod RunningLaws

@@ -1,41 +1,31 @@
--- What was heard of names: one more line, and one more receipt.
-use Rattle.std.proofs.Common.{◌≡◌, ◌≢◌, ℕ, zero, suc, ◌+◌, ◌*◌, ◌/◌, ◌%◌, ◌^◌, ◌<◌, ◌≤◌, Bool, true, false, cond, List}
-use Rattle.std.proofs.Common.{[], ◌∷◌, ◌++◌, length, take, set, map, slice_get, Option, Some, None, Result, Ok, Err}
-use Rattle.std.proofs.Common.{sym, refl, ap, ◌∙◌, subst, arith, append_assoc, append-nil, eq-eqb, ⊎_elim}
-use Rattle.std.specs.List.{Contains, list_any}
+-- What was heard of the entries before a name: one more line, and one more receipt.
+use Rattle.std.proofs.Common.{◌≡◌, ◌≢◌, ℕ, zero, suc, ◌+◌, ◌<◌, ◌≤◌, Bool, true, false, cond, List, [], ◌∷◌, ◌++◌}
+use Rattle.std.proofs.Common.{length, take, set, map, slice_get, Option, Some, sym, refl, ap, ◌∙◌, subst, arith}
+use Rattle.std.proofs.Common.{append_assoc, append-nil, ⊎_elim}
+use Rattle.std.specs.List.{Contains}
 use Rattle.std.proofs.lemmas.List.Elements.{Contains-append_left, Contains-append_right, Contains-push}
 use Rattle.std.proofs.lemmas.List.Elements.{Contains-append_cases}
-use Rattle.std.proofs.lemmas.List.Folds.{Any-from_list_any, list_any-from_Any}
 use Rattle.std.proofs.lemmas.Option.{none-some, same_Some, slice_get_within}
 use mathlib.Core.Logic.{dite}
 use native.Mathlib.Decide.{ℕ_discrete}
-use Rattle.sh_value.specs.declared.refusal.Refusal.{Refusal}
-use Rattle.sh_key.specs.Layout.{Layout, first_key, key_count}
-use Rattle.sh_pass.specs.Entry.TheVariants.{Insert}
 use Rattle.sh_pass.specs.LogEntry.{LogEntry}
-use Rattle.sh_pass.specs.LogEntry.TheVariants.{Known}
 use Rattle.sh_pass.specs.Heard.{Heard}
 use Rattle.sh_pass.specs.Order.{Order}
 use Rattle.sh_pass.specs.Views.{heard_in}
+use Rattle.sh_script.specs.BoundNames.{names_in}
 use Rattle.sh_script.specs.declared.calls.Call.{Call}
-use Rattle.sh_script.specs.declared.calls.Call.TheVariants as call
 use Rattle.sh_script.specs.declared.calls.CallLine.{CallLine}
 use Rattle.script_output.specs.declared.answer.Answer.{Answer}
-use Rattle.script_output.specs.Keys.{shown, key_shown, HasTagRoom}
-use Rattle.script_output.specs.Results.{key_answer}
 use Rattle.sh_pass.specs.Passes.{Caller}
 use Rattle.script_calls.specs.Parts.{RunTerms, PassPart, SeenPass, SamePass}
-use Rattle.script_calls.specs.Calls.{CallAnswers, UnlessRefused, WordsAnswers, ValueInserted, words_refusal}
-use Rattle.script_calls.specs.Calls.{needs_shard}
-use Rattle.script_calls.specs.Calls.{name_used, binds, number_told}
-use Rattle.script_calls.specs.Runs.{CallsRun, LineAnswered, LinesAnswered, number_bound, number_meant}
+use Rattle.script_calls.specs.Calls.{binds, number_told}
+use Rattle.script_calls.specs.Runs.{CallsRun, LineAnswered, LinesAnswered, number_meant}
 use Rattle.script_calls.specs.OwnParts.{steps_of}
 use Rattle.script_calls.specs.Receipts.{seen_of_receipt, receipt_seen, order_seen, part_heard, taken_heard, MayHeed}
 use Rattle.script_calls.specs.Receipts.{PartHeeds, Heeds}
-use Rattle.script_calls.specs.InOrder.{adds_entry, adding_passes, times}
+use Rattle.script_calls.specs.InOrder.{Covers, adds_entry, adding_passes, entries_added, times}
 use Rattle.script_calls.specs.Meeting.{KeepsOrders, orders_of}
-use Rattle.script_calls.specs.Named.{numbers_told, is_insert_of, has_insert, tells_number, HeardOfNumber}
-use Rattle.script_calls.specs.Named.{NamesWereHeard}
+use Rattle.script_calls.specs.Named.{numbers_told, BindsNeeded, HeardOfEntries, NamesWereHeard}
 use Rattle.script_calls.proofs.ListLemmas.{get_snoc, take_past}
 use Rattle.script_calls.proofs.LineLemmas.{part_here, part_there}
 use Rattle.script_calls.proofs.OrderLemmas.{times_length, times_here, times_else}
@@ -44,7 +34,7 @@ use Rattle.sh_pass.proofs.Standing.{contains_map}
 
 -- ---- lists
 
-take_left : {A : Type 0} (xs ys : List A) (i : ℕ) → i ≤ length xs → take i (xs ++ ys) ≡ take i xs
+pub take_left : {A : Type 0} (xs ys : List A) (i : ℕ) → i ≤ length xs → take i (xs ++ ys) ≡ take i xs
 take_left [] [] i h = refl
 take_left [] (y ∷ ys) zero h = refl
 take_left [] (y ∷ ys) (suc i) h = absurd (omega (arith, h))
@@ -60,13 +50,6 @@ take_few (x ∷ xs) (suc i) = let h = take_few xs i in omega (arith, h)
 pub first_in : {A : Type 0} (x : A) (xs : List A) → Contains (x ∷ xs) x
 first_in x xs = Contains-append_left (x ∷ []) xs x (Contains-push [] x)
 
-pub some_passes : {A : Type 0} (p : A → Bool) (xs : List A) → list_any p xs ≡ true
-    → (x : A) × Contains xs x × (p x ≡ true)
-some_passes p xs e = let a = Any-from_list_any p xs e in (a.1, (a.0, a.2, a.3), a.4)
-
-passes_there : {A : Type 0} (p : A → Bool) (xs : List A) (x : A) → Contains xs x → p x ≡ true → list_any p xs ≡ true
-passes_there p xs x c e = list_any-from_Any p xs (c.0, x, c.1, c.2, e)
-
 -- ---- lines and their answers
 
 adding_left : (ls : List CallLine) (bs cs : List Answer) → length ls ≤ length bs
@@ -76,14 +59,7 @@ adding_left (l ∷ ls) [] cs h = absurd (omega (arith, h))
 adding_left (l ∷ ls) (b ∷ bs) cs h = ap (λ (z : List ℕ). cond (adds_entry l.call b) (l.pass ∷ []) [] ++ z)
     (adding_left ls bs cs (omega (arith, h)))
 
-numbers_left : (ls : List CallLine) (bs cs : List Answer) → length ls ≤ length bs
-    → numbers_told ls (bs ++ cs) ≡ numbers_told ls bs
-numbers_left [] bs cs h = refl
-numbers_left (l ∷ ls) [] cs h = absurd (omega (arith, h))
-numbers_left (l ∷ ls) (b ∷ bs) cs h = ap (λ (z : List (Option ℕ)). cond (binds l.call) (number_told b ∷ []) [] ++ z)
-    (numbers_left ls bs cs (omega (arith, h)))
-
-answers_all : (terms : RunTerms) (tag : Option ℕ) (before after : CallsRun) (ls : List CallLine) (bs : List Answer)
+pub answers_all : (terms : RunTerms) (tag : Option ℕ) (before after : CallsRun) (ls : List CallLine) (bs : List Answer)
     → LinesAnswered terms tag before ls bs after → length bs ≡ length ls
 answers_all terms tag before after [] [] h = refl
 answers_all terms tag before after [] (b ∷ bs) h = absurd h
@@ -161,18 +137,35 @@ counts_after terms tag before after (l ∷ ls) (b ∷ bs) h p =
     let all = times_length p (cond (adds_entry l.call b) (l.pass ∷ []) []) (adding_passes ls bs) in
     omega (arith, rest, one, all)
 
--- the name of a call that is bound to a number is one of those that are bound
-pub meant_at : (numbers : List (Option ℕ)) (c : Call) (n : ℕ) → number_meant numbers c ≡ Some n
-    → (i : ℕ) × (slice_get numbers i ≡ Some (Some n))
-meant_at numbers c n e = go (name_used c) e where
-  found : (o : Option (Option ℕ)) → (elim o as (λ _. Option ℕ) [ Some number ↦ number | None ↦ None ]) ≡ Some n
-      → o ≡ Some (Some n)
-  found (Some x) e = ap (λ (z : Option ℕ). Some z) e
-  found None e = absurd (let z : None ≡ Some n = e in cc)
+-- fewer lines add no more entries
+pub added_grows : (p : ℕ) (ls : List CallLine) (bs : List Answer) (k n : ℕ) → k ≤ n
+    → entries_added p (take k ls) bs ≤ entries_added p (take n ls) bs
+added_grows p [] bs zero n h = omega arith
+added_grows p [] bs (suc k) zero h = absurd (omega (arith, h))
+added_grows p [] bs (suc k) (suc n) h = omega arith
+added_grows p (l ∷ ls) bs zero n h = omega arith
+added_grows p (l ∷ ls) bs (suc k) zero h = absurd (omega (arith, h))
+added_grows p (l ∷ ls) [] (suc k) (suc n) h = omega arith
+added_grows p (l ∷ ls) (b ∷ bs) (suc k) (suc n) h =
+    let here : List ℕ = cond (adds_entry l.call b) (l.pass ∷ []) [] in
+    let rest = added_grows p ls bs k n (omega (arith, h)) in
+    let few = times_length p here (adding_passes (take k ls) bs) in
+    let many = times_length p here (adding_passes (take n ls) bs) in
+    omega (arith, rest, few, many)
 
-  go : (o : Option ℕ) → number_bound numbers o ≡ Some n → (i : ℕ) × (slice_get numbers i ≡ Some (Some n))
-  go None e = absurd (let z : None ≡ Some n = e in cc)
-  go (Some i) e = (i, found (slice_get numbers i) e)
+pub added_few : (p : ℕ) (ls : List CallLine) (bs : List Answer) (k : ℕ)
+    → entries_added p (take k ls) bs ≤ entries_added p ls bs
+added_few p ls bs k = subst (λ (z : List CallLine). entries_added p (take k ls) bs ≤ entries_added p z bs)
+    (take_past ls (k + length ls) (omega arith)) (added_grows p ls bs k (k + length ls) (omega arith))
+
+-- the first lines add the same if one more line comes after them
+pub added_left : (p k : ℕ) (ls : List CallLine) (bs : List Answer) (l : CallLine) (a : Answer)
+    → length bs ≡ length ls → k ≤ length ls
+    → entries_added p (take k (ls ++ l ∷ [])) (bs ++ a ∷ []) ≡ entries_added p (take k ls) bs
+added_left p k ls bs l a long few =
+    let short = take_few ls k in
+    ap (λ (z : List CallLine). entries_added p z (bs ++ a ∷ [])) (take_left ls (l ∷ []) k few)
+    ∙ ap (λ (z : List ℕ). length (times p z)) (adding_left (take k ls) bs (a ∷ []) (omega (arith, short, long)))
 
 -- ---- what passes heard of
 
@@ -197,56 +190,67 @@ orders_set (x ∷ xs) (suc k) s t e keeps = λ o c. ⊎_elim
     (orders_set xs k s t e keeps o h))
     (Contains-append_cases x.orders (orders_of xs) o c)
 
-pub heard_kept : (tag : Option ℕ) (orders more : List Order) (pass first : ℕ) (n : Option ℕ)
-    → KeepsOrders orders more → HeardOfNumber tag orders pass first n → HeardOfNumber tag more pass first n
-heard_kept tag orders more pass first None keeps h = tt
-heard_kept tag orders more pass first (Some n) keeps h = (h.0, h.1, keeps _ h.2, h.3)
-
--- what a pass has to have heard of the name of a line: these passes added entries before, and names have these numbers
-abbrev HeardAt : (tag : Option ℕ) → List Order → CallLine × List ℕ × List (Option ℕ) → Type 0
-HeardAt tag orders z = HeardOfNumber tag orders z.0.pass (length (times z.0.pass z.1)) (number_meant z.2 z.0.call)
+pub heard_kept : (orders more : List Order) (p done pass first : ℕ) → KeepsOrders orders more
+    → HeardOfEntries orders p done pass first → HeardOfEntries more p done pass first
+heard_kept orders more p done pass first keeps h some = let x = h some in (x.0, x.1, keeps _ x.2, x.3, x.4)
 
 -- one more line
 pub heard_more : (terms : RunTerms) (tag : Option ℕ) (before run : CallsRun) (ls : List CallLine) (bs : List Answer)
     (orders more : List Order) (l : CallLine) (a : Answer) → LinesAnswered terms tag before ls bs run
-    → NamesWereHeard tag ls bs orders → KeepsOrders orders more
-    → HeardOfNumber tag more l.pass (length (times l.pass (adding_passes ls bs)))
-    (number_meant (numbers_told ls bs) l.call)
-    → NamesWereHeard tag (ls ++ l ∷ []) (bs ++ a ∷ []) more
-heard_more terms tag before run ls bs orders more l a ran was keeps new i m at =
+    → NamesWereHeard ls bs orders → KeepsOrders orders more
+    → ((j : ℕ) (binder : CallLine) → BindsNeeded ls j binder l.call
+    → HeardOfEntries more binder.pass (entries_added binder.pass (take (suc j) ls) bs) l.pass
+    (entries_added l.pass ls bs))
+    → NamesWereHeard (ls ++ l ∷ []) (bs ++ a ∷ []) more
+heard_more terms tag before run ls bs orders more l a ran was keeps new j i b m less at needs =
     ⊎_elim old last (get_snoc ls l m i at)
   where
-    lines : List CallLine
-    lines = take i (ls ++ l ∷ [])
-
     long : length bs ≡ length ls
     long = answers_all terms tag before run ls bs ran
 
-    -- the same lines have the same answers
-    as_was : (ks : List CallLine) → lines ≡ ks → length ks ≤ length bs → (k : CallLine) → k ≡ m
-        → HeardAt tag more (k, adding_passes ks bs, numbers_told ks bs)
-        → HeardAt tag more (m, adding_passes lines (bs ++ a ∷ []), numbers_told lines (bs ++ a ∷ []))
-    as_was ks took few k is h =
-        let passes : adding_passes lines (bs ++ a ∷ []) ≡ adding_passes ks bs =
-        ap (λ (z : List CallLine). adding_passes z (bs ++ a ∷ [])) took ∙ adding_left ks bs (a ∷ []) few in
-        let numbers : numbers_told lines (bs ++ a ∷ []) ≡ numbers_told ks bs =
-        ap (λ (z : List CallLine). numbers_told z (bs ++ a ∷ [])) took ∙ numbers_left ks bs (a ∷ []) few in
-        subst (HeardAt tag more) (λ j. (is j, sym passes j, sym numbers j)) h
+    -- the binder is one of the lines before
+    needs_before : (c : Call) → j < length ls → BindsNeeded (ls ++ l ∷ []) j b c → BindsNeeded ls j b c
+    needs_before c few n = record {
+      at = ⊎_elim (λ (e : slice_get ls j ≡ Some b). e)
+          (λ (e : (j ≡ length ls) × (l ≡ b)). absurd (omega (arith, few, e.0))) (get_snoc ls l b j n.at);
+      binds_name = n.binds_name;
+      needed = n.needed
+          ∙ ap (λ (z : List CallLine). Some (names_in z)) (take_left ls (l ∷ []) j (omega (arith, few)));
+    }
 
     old : slice_get ls i ≡ Some m
-        → HeardAt tag more (m, adding_passes lines (bs ++ a ∷ []), numbers_told lines (bs ++ a ∷ []))
+        → HeardOfEntries more b.pass (entries_added b.pass (take (suc j) (ls ++ l ∷ [])) (bs ++ a ∷ [])) m.pass
+        (entries_added m.pass (take i (ls ++ l ∷ [])) (bs ++ a ∷ []))
     old e =
         let few = slice_get_within ls i m e in
-        let short = take_few ls i in
-        as_was (take i ls) (take_left ls (l ∷ []) i (omega (arith, few))) (omega (arith, short, long)) m refl
-        (heard_kept tag orders more m.pass (length (times m.pass (adding_passes (take i ls) bs)))
-        (number_meant (numbers_told (take i ls) bs) m.call) keeps (was i m e))
+        let its : entries_added b.pass (take (suc j) (ls ++ l ∷ [])) (bs ++ a ∷ [])
+        ≡ entries_added b.pass (take (suc j) ls) bs = added_left b.pass (suc j) ls bs l a long
+        (omega (arith, few, less)) in
+        let own : entries_added m.pass (take i (ls ++ l ∷ [])) (bs ++ a ∷ []) ≡ entries_added m.pass (take i ls) bs =
+        added_left m.pass i ls bs l a long (omega (arith, few)) in
+        let H : ℕ × ℕ → Type 0 = λ z. HeardOfEntries more b.pass z.0 m.pass z.1 in
+        subst H (λ q. (sym its q, sym own q)) (heard_kept orders more b.pass
+        (entries_added b.pass (take (suc j) ls) bs) m.pass (entries_added m.pass (take i ls) bs) keeps
+        (was j i b m less e (needs_before m.call (omega (arith, few, less)) needs)))
 
     last : (i ≡ length ls) × (l ≡ m)
-        → HeardAt tag more (m, adding_passes lines (bs ++ a ∷ []), numbers_told lines (bs ++ a ∷ []))
-    last e = as_was ls (ap (λ (k : ℕ). take k (ls ++ l ∷ [])) e.0
-        ∙ (take_left ls (l ∷ []) (length ls) (omega arith) ∙ take_past ls (length ls) (omega arith)))
-        (omega (arith, long)) l e.1 new
+        → HeardOfEntries more b.pass (entries_added b.pass (take (suc j) (ls ++ l ∷ [])) (bs ++ a ∷ [])) m.pass
+        (entries_added m.pass (take i (ls ++ l ∷ [])) (bs ++ a ∷ []))
+    last e =
+        let end : i ≡ length ls = e.0 in
+        let its : entries_added b.pass (take (suc j) (ls ++ l ∷ [])) (bs ++ a ∷ [])
+        ≡ entries_added b.pass (take (suc j) ls) bs = added_left b.pass (suc j) ls bs l a long
+        (omega (arith, end, less)) in
+        let own : entries_added m.pass (take i (ls ++ l ∷ [])) (bs ++ a ∷ []) ≡ entries_added m.pass ls bs =
+        added_left m.pass i ls bs l a long (omega (arith, end))
+        ∙ ap (λ (z : List CallLine). entries_added m.pass z bs) (take_past ls i (omega (arith, end))) in
+        let needed : BindsNeeded ls j b l.call = subst (λ (z : CallLine). BindsNeeded ls j b z.call) (sym e.1)
+        (needs_before m.call (omega (arith, end, less)) needs) in
+        let here : HeardOfEntries more b.pass (entries_added b.pass (take (suc j) ls) bs) m.pass
+        (entries_added m.pass ls bs) = subst (λ (z : CallLine). HeardOfEntries more b.pass
+        (entries_added b.pass (take (suc j) ls) bs) z.pass (entries_added z.pass ls bs)) e.1 (new j b needed) in
+        let H : ℕ × ℕ → Type 0 = λ z. HeardOfEntries more b.pass z.0 m.pass z.1 in
+        subst H (λ q. (sym its q, sym own q)) here
 
 -- ---- receipts
 
@@ -261,75 +265,34 @@ heeded_order r side mid e h c = subst (λ (z : SeenPass). Contains z.orders (ord
     (Contains-append_right r.view.orders (map (order_seen side) (heard_in r.view)) (order_seen side h)
     (contains_map (order_seen side) (heard_in r.view) h c)))
 
--- a pass that heeded a receipt with the insert of a number had heard of it from then on
-pub heard_by_heeding : (tag : Option ℕ) (r : Caller) (side mid : SeenPass) → Heeds r side mid → (n : Option ℕ)
-    → tells_number tag (seen_of_receipt r).heard n ≡ true
-    → HeardOfNumber tag mid.orders side.pass (length side.part.log) n
-heard_by_heeding tag r side mid e None t = tt
-heard_by_heeding tag r side mid e (Some n) t =
-    let x = some_passes (has_insert (key_shown tag n)) (seen_of_receipt r).heard t in
-    (x.0, steps_of side.part.stands, heeded_order r side mid e x.0 x.1, x.2)
+-- a pass that heeded a receipt that covers these entries had heard of them from then on
+pub heard_by_heeding : (r : Caller) (side mid : SeenPass) → Heeds r side mid → (p done : ℕ)
+    → Covers (seen_of_receipt r).heard p done
+    → HeardOfEntries mid.orders p done side.pass (length side.part.log)
+heard_by_heeding r side mid e p done t some =
+    let x = t some in
+    (x.0, steps_of side.part.stands, heeded_order r side mid e x.0 x.1, x.2, x.3)
 
-tells_more : (tag : Option ℕ) (heard more : List Heard) → ((h : Heard) → Contains heard h → Contains more h)
-    → (n : Option ℕ) → tells_number tag heard n ≡ true → tells_number tag more n ≡ true
-tells_more tag heard more f None t = refl
-tells_more tag heard more f (Some n) t =
-    let x = some_passes (has_insert (key_shown tag n)) heard t in
-    passes_there (has_insert (key_shown tag n)) more x.0 (f x.0 x.1) x.2
+-- after a pass heeded a receipt and made a call, its own receipt covers all that the first one covered
+pub covers_on : (r : Caller) (side mid now : SeenPass) → Heeds r side mid → SamePass mid now → (p done : ℕ)
+    → Covers (seen_of_receipt r).heard p done → Covers (receipt_seen now).heard p done
+covers_on r side mid now e same p done t some =
+    let x = t some in
+    let os : Contains now.orders (order_seen side x.0) = subst
+    (λ (z : SeenPass). Contains z.orders (order_seen side x.0)) (sym same) (heeded_order r side mid e x.0 x.1) in (
+      x.0,
+      Contains-append_right (part_heard now.pass now.part ∷ taken_heard now)
+          (map (λ (o : Order). o.heard) now.orders) x.0
+          (contains_map (λ (o : Order). o.heard) now.orders (order_seen side x.0) os),
+      x.2,
+      x.3,
+    )
 
--- after a pass heeded a receipt and made a call, its own receipt contains all that the first one contained
-pub tells_on : (tag : Option ℕ) (r : Caller) (side mid now : SeenPass) → Heeds r side mid → SamePass mid now
-    → (n : Option ℕ) → tells_number tag (seen_of_receipt r).heard n ≡ true
-    → tells_number tag (receipt_seen now).heard n ≡ true
-tells_on tag r side mid now e same n t = tells_more tag (seen_of_receipt r).heard (receipt_seen now).heard
-    (λ (h : Heard) (c : Contains (seen_of_receipt r).heard h).
-    let os : Contains now.orders (order_seen side h) = subst (λ (z : SeenPass). Contains z.orders (order_seen side h))
-    (sym same) (heeded_order r side mid e h c) in
-    Contains-append_right (part_heard now.pass now.part ∷ taken_heard now)
-    (map (λ (o : Order). o.heard) now.orders) h
-    (contains_map (λ (o : Order). o.heard) now.orders (order_seen side h) os))
-    n t
-
--- a key is shown by the number that it is written as
-shown_back : (layout : Layout) (tag : Option ℕ) (key : ℕ) → key < first_key layout + key_count layout
-    → HasTagRoom layout tag → key_shown tag (shown tag key) ≡ Some key
-shown_back layout None key small room = refl
-shown_back layout (Some tag) key small room =
-    let fits : key < 2 ^ 52 = omega (arith, small, room) in
-    let above : (tag * 2 ^ 56 + key) / 2 ^ 52 ≡ tag * 16 = omega (arith, fits) in
-    let below : (tag * 2 ^ 56 + key) % 2 ^ 52 ≡ key = omega (arith, fits) in
-    rw (above, below, eq-eqb (tag * 16) (tag * 16) refl) refl
-
-unrefused : {A : Type 0} (first : Option Refusal) (x : A) (Unchanged Rest : Type 0)
-    → UnlessRefused first (Ok x) Unchanged Rest → Rest
-unrefused None x Unchanged Rest h = h
-unrefused (Some e) x Unchanged Rest h = absurd (let z : Ok x ≡ Err e = h.0 in cc)
-
--- the receipt of a pass to which a key was returned contains its insert
-pub tells_own : (terms : RunTerms) (tag : Option ℕ) (pass : ℕ) (v w : PassPart) (c : Call) (bound : Option ℕ)
-    (a : Answer) → HasTagRoom terms.layout tag → binds c ≡ true → CallAnswers terms tag pass v c bound a w
-    → (rest : List Heard) → tells_number tag (part_heard pass w ∷ rest) (number_told a) ≡ true
-tells_own terms tag pass v w (call.Insert words) bound a room b h rest =
-    subst (λ (x : Answer). tells_number tag (part_heard pass w ∷ rest) (number_told x) ≡ true)
-    (sym h.is) (go h.result h.does)
-  where
-    go : (r : Result ℕ Refusal) → WordsAnswers terms pass v words r w
-        → tells_number tag (part_heard pass w ∷ rest) (number_told (key_answer tag r)) ≡ true
-    go (Err e) d = refl
-    go (Ok key) d =
-        let inserts = unrefused (words_refusal words) key _ _ d in
-        let own : ValueInserted terms pass v words (Ok key) w = unrefused (needs_shard v.shard) key _ _ inserts.0 in
-        let e : LogEntry = Known (Insert pass key words) in
-        let log : w.log ≡ v.log ++ e ∷ [] = ap (λ (u : PassPart). u.log) own.1 in
-        let it : Heard = part_heard pass w in
-        let back : key_shown tag (shown tag key) ≡ Some key = shown_back terms.layout tag key own.0.small room in
-        let test : is_insert_of (key_shown tag (shown tag key)) e ≡ true = subst (λ (o : Option ℕ). is_insert_of o e
-        ≡ true) (sym back) (eq-eqb key key refl) in
-        let has : has_insert (key_shown tag (shown tag key)) it ≡ true = passes_there
-        (is_insert_of (key_shown tag (shown tag key))) w.log e
-        (subst (λ (l : List LogEntry). Contains l e) (sym log) (Contains-push v.log e)) test in
-        passes_there (has_insert (key_shown tag (shown tag key))) (it ∷ rest) it (first_in it rest) has
-tells_own terms tag pass v w call.Post bound a room b h rest =
-    subst (λ (x : Answer). tells_number tag (part_heard pass w ∷ rest) (number_told x) ≡ true)
-    (sym h.0) refl
-tells_own terms tag pass v w _ bound a room b h rest = absurd (let z : false ≡ true = b in cc)
+-- the receipt of a pass covers its own entries
+pub covers_own : (s : SeenPass) → Covers (receipt_seen s).heard s.pass (length s.part.log)
+covers_own s some = (
+  part_heard s.pass s.part,
+  first_in (part_heard s.pass s.part) (taken_heard s ++ map (λ (o : Order). o.heard) s.orders),
+  refl,
+  omega arith,
+)

@@ -56,7 +56,7 @@ next a (t ∷ ts) l = dite (ℕ_discrete t a)
 -- ---- two cuts of one list
 
 -- a cut lies before the other's first element, or after it
-cuts : (xs ys zs us : List Entry) (b : Entry) → xs ++ ys ≡ zs ++ b ∷ us
+pub cuts : (xs ys zs us : List Entry) (b : Entry) → xs ++ ys ≡ zs ++ b ∷ us
     → ((rest : List Entry) × (zs ≡ xs ++ rest)) ⊎ ((rest : List Entry) × (xs ≡ zs ++ b ∷ rest))
 cuts [] ys zs us b e = inl (zs, refl)
 cuts (x ∷ xs) ys [] us b e = let h : x ≡ b = cc in inr (xs, ap (λ (c : Entry). c ∷ xs) h)

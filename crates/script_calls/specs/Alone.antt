@@ -1,5 +1,5 @@
 -- A run in one thread: each line's pass heeds the receipt of the line before, so the last receipt has all entries.
-use Rattle.std.specs.Prelude.{◌≡◌, ℕ, ◌≤◌, true, List, [], Option, Some, None, slice_get, length, take}
+use Rattle.std.specs.Prelude.{◌≡◌, ℕ, ◌≤◌, List, [], Option, Some, None, slice_get, length, take}
 use Rattle.sh_script.specs.declared.calls.CallLine.{CallLine}
 use Rattle.script_output.specs.declared.answer.Answer.{Answer}
 use Rattle.script_calls.specs.Parts.{RunTerms, PassPart, SeenPass, new_pass}
@@ -9,7 +9,7 @@ use Rattle.sh_pass.specs.Passes.{Caller}
 use Rattle.script_calls.specs.Receipts.{Heeds, seen_of_receipt}
 use Rattle.script_calls.specs.InOrder.{times, adding_passes, LastHeard}
 use Rattle.script_calls.specs.Meeting.{orders_of}
-use Rattle.script_calls.specs.Named.{NamesWereHeard, tells_number}
+use Rattle.script_calls.specs.Named.{NamesWereHeard}
 use Rattle.script_calls.specs.Stepping.{LinesHeard, LastHasSteps}
 use Rattle.sh_pass.specs.Seats.{Heap}
 
@@ -27,12 +27,6 @@ HeedsLast (Some r) s t = Heeds r s t
 abbrev pub seen_with_part : Option Heap → RunTerms → (ℕ → PassPart) → ℕ → SeenPass
 seen_with_part heap terms parts p = record (new_pass heap terms p) { part = parts p }
 
--- the last receipt contains the insert of each name
-abbrev pub LastTells : (tag : Option ℕ) → List (Option ℕ) → Option Caller → Type 0
-LastTells tag numbers None = numbers ≡ []
-LastTells tag numbers (Some r) = (i number : ℕ) → slice_get numbers i ≡ Some (Some number)
-    → tells_number tag (seen_of_receipt r).heard (Some number) ≡ true
-
 -- the first i lines have run with these answers, and these are the passes
 pub record AnsweredSoFar (heap : Option Heap) (terms : RunTerms) (tag : Option ℕ)
     (lines : List CallLine) (i : ℕ) (numbers : List (Option ℕ)) (sides : List SeenPass) (output : List ℕ) : Type 0 where
@@ -44,7 +38,7 @@ pub record AnsweredSoFar (heap : Option Heap) (terms : RunTerms) (tag : Option �
   pub all : length sides ≡ terms.shape.passes
   pub each : (p : ℕ) (s : SeenPass) → slice_get sides p ≡ Some s
       → s ≡ record (seen_with_part heap terms run.parts p) { orders = s.orders }
-  pub heard : NamesWereHeard tag (take i lines) answers (orders_of sides)
+  pub heard : NamesWereHeard (take i lines) answers (orders_of sides)
 
 -- the same, and the last receipt contains all entries and all steps
 pub record OrderedSoFar (heap : Option Heap) (terms : RunTerms) (tag : Option ℕ) (lines : List CallLine) (i : ℕ)
@@ -54,6 +48,5 @@ pub record OrderedSoFar (heap : Option Heap) (terms : RunTerms) (tag : Option �
       ≡ length (so_far.run.parts p).log
   pub few : (p : ℕ) → terms.shape.passes ≤ p → times p (adding_passes (take i lines) so_far.answers) ≡ []
   pub last_heard : LastHeard heap (adding_passes (take i lines) so_far.answers) last
-  pub last_tells : LastTells tag numbers last
   pub heard_steps : LinesHeard (orders_of sides) terms tag (opening_calls heap) (take i lines) so_far.answers so_far.run
   pub last_steps : LastHasSteps so_far.run.parts last

@@ -35,11 +35,11 @@ IsOrderedBy terms lines answers c = (history : List Entry) → HasAllLogs histor
     → entries_of (λ p. not (nat_lt p terms.shape.passes)) history ≡ [] → Each (Before history) c.orders
     → IsInOrder lines answers history
 
--- in every history of the tale that keeps the orders, the insert that bound a name precedes the entries of lines on it
-abbrev pub IsNamedBy : RunTerms → (tag : Option ℕ) → List CallLine → List Answer → SeenPass → Type 0
-IsNamedBy terms tag lines answers c = (history : List Entry) → HasAllLogs history (tale_told c)
+-- in every history of the tale that keeps the orders, names come first
+abbrev pub IsNamedBy : RunTerms → List CallLine → List Answer → SeenPass → Type 0
+IsNamedBy terms lines answers c = (history : List Entry) → HasAllLogs history (tale_told c)
     → entries_of (λ p. not (nat_lt p terms.shape.passes)) history ≡ [] → Each (Before history) c.orders
-    → NamesComeFirst tag lines answers history
+    → NamesComeFirst lines answers history
 
 -- The replies were written, and this pass owns no shard and carries the tale of all. It has heard of what they heard of
 -- names. If the lines ran one after the other, it has heard of their order, and of the order of their steps.
@@ -48,7 +48,7 @@ pub record CarrierRan (alone : Bool) (heap : Option Heap) (terms : RunTerms) (ta
   pub told : IsTold alone heap terms tag lines output (tale_told c)
   pub carries : CarriesTale heap terms (Some c) (tale_told c)
   pub none : OwnsNone (Some c)
-  pub named : IsNamedBy terms tag lines told.replies.answers c
+  pub named : IsNamedBy terms lines told.replies.answers c
   pub ended : (p : ℕ) → p < terms.shape.passes → EndedAmong (parts_carried c) p (told.replies.after.parts p)
   pub ordered : alone ≡ true → IsOrderedBy terms lines told.replies.answers c
   pub steps : alone ≡ true → StepsInTurn c.orders heap terms tag lines told.replies.answers told.replies.after

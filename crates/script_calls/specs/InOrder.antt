@@ -55,29 +55,40 @@ adding_passes (l ∷ lines) (a ∷ answers) = cond (adds_entry l.call a) (l.pass
 abbrev pub IsInOrder : List CallLine → List Answer → List Entry → Type 0
 IsInOrder lines answers history = map pass_of history ≡ adding_passes lines answers
 
--- ---- how it is found; `who` lists the passes of the entries that there are by now
-
--- once for each entry of pass a
+-- once for each entry of pass a, if these are the passes of entries
 abbrev pub times : ℕ → List ℕ → List ℕ
 times a who = filter (λ p. p == a) who
 
--- the history has a prefix with all entries of pass p that there are by now, and with no later ones of pass a
-pub record Cut (history : List Entry) (who : List ℕ) (p a : ℕ) : Type 0 where
+-- how many entries of the pass these lines add
+abbrev pub entries_added : ℕ → List CallLine → List Answer → ℕ
+entries_added pass lines answers = length (times pass (adding_passes lines answers))
+
+-- in this history the first `done` entries of pass p come before all entries of pass a except its `first` first ones
+pub record Precedes (history : List Entry) (p done a first : ℕ) : Type 0 where
   pub early : List Entry
   pub late : List Entry
   pub is : history ≡ early ++ late
-  pub heard : length (times p who) ≤ length (by p early)
-  pub own : length (by a early) ≤ length (times a who)
+  pub heard : done ≤ length (by p early)
+  pub own : length (by a early) ≤ first
+
+-- ---- how it is found; `who` lists the passes of the entries that there are by now
+
+-- the history has a prefix with all entries of pass p that there are by now, and with no later ones of pass a
+abbrev pub Cut : List Entry → List ℕ → (p a : ℕ) → Type 0
+Cut history who p a = Precedes history p (length (times p who)) a (length (times a who))
 
 -- the pass that added an entry had heard of all entries before it
 abbrev pub AllHeard : List Entry → List ℕ → Type 0
 AllHeard history who = (before after : List ℕ) (a : ℕ) → who ≡ before ++ a ∷ after → (p : ℕ) → Cut history before p a
 
+-- if there are such entries, the first `done` ones of pass p are among what was heard
+abbrev pub Covers : List Heard → (p done : ℕ) → Type 0
+Covers heard p done = 0 < done → (h : Heard) × Contains heard h × (h.pass ≡ p) × (done ≤ length h.log)
+
 -- the receipt contains all entries that there are by now
 pub record HeardAll (heap : Option Heap) (who : List ℕ) (r : Caller) : Type 0 where
   pub heap_is : (seen_of_receipt r).heap ≡ heap
-  pub heard : (p : ℕ) → 0 < length (times p who) → (h : Heard) × Contains (seen_of_receipt r).heard h × (h.pass ≡ p)
-      × (length (times p who) ≤ length h.log)
+  pub heard : (p : ℕ) → Covers (seen_of_receipt r).heard p (length (times p who))
   pub orders : (history : List Entry) → Each (Before history) (seen_of_receipt r).orders → AllHeard history who
 
 abbrev pub LastHeard : Option Heap → List ℕ → Option Caller → Type 0

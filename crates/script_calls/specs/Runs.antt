@@ -40,11 +40,11 @@ next_run run line a part = record {
       part;
 }
 
--- The line, with this answer, ends a run: its reply finds no room behind the output, or the number of its name finds
--- none behind the numbers. An answer alone ends none.
-abbrev pub EndsAt : (room name_room : ℕ) → List ℕ → List (Option ℕ) → CallLine → Answer → Type 0
-EndsAt room name_room output numbers line a =
-    (room < length output + length (reply_line line a)) ⊎ ((binds line.call ≡ true) × (name_room ≤ length numbers))
+-- The line, with this answer, ends a run: its reply finds no room behind the output, or its name finds none behind the
+-- names that are bound. An answer alone ends none.
+abbrev pub EndsAt : (room name_room : ℕ) → (output : List ℕ) → (names : ℕ) → CallLine → Answer → Type 0
+EndsAt room name_room output names line a =
+    (room < length output + length (reply_line line a)) ⊎ ((binds line.call ≡ true) × (name_room ≤ names))
 
 -- The line has this answer. It sees the part of its own pass alone, and the numbers of the names bound before. If the
 -- lines run one after the other, the pass may have heeded a receipt of the line before.

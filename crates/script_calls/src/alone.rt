@@ -9,7 +9,7 @@ ghost use Rattle.script_calls.specs.Finished.{heap_seen, terms_seen, AreAllNew, 
 
 use crate::heeding::heed_last;
 use crate::leaving::met_in_turn;
-use crate::line::{answered, number_meant};
+use crate::line::{answered, number_meant, number_told};
 use crate::reporting::{NoRoom, tell};
 use crate::side::Side;
 use sh_pass::Receipt;
@@ -42,7 +42,8 @@ fn lines_in_turn<S: Side>(
         let answer = answered(alloc, side, tag, &line.call, bound);
         let _known = side.whole();
         last = Some(side.receipt());
-        tell(&mut output, &mut numbers, line, &answer)?;
+        let told = number_told(&answer);
+        tell(&mut output, &mut numbers, line, &answer, told)?;
     }
     Ok((output, met_in_turn(sides, last)))
 }

@@ -5,7 +5,9 @@ ghost use Rattle.script_calls.specs.Parts.{SeenPass, SamePass};
 ghost use Rattle.script_calls.specs.Calls.{CallAnswers, AnswerSays, GetAnswers, ReadAnswers, RemoveAnswers};
 ghost use Rattle.script_calls.specs.Calls.{ReleaseAnswers, AdoptAnswers, LeaveAnswers, WordsAnswers, key_meant};
 ghost use Rattle.script_calls.specs.Calls.{name_referred, name_used, binds, number_told};
+ghost use Rattle.sh_script.specs.BoundNames.{name_needed};
 ghost use Rattle.script_output.specs.Results.{done_answer, value_answer, key_answer};
+ghost use Rattle.script_calls.specs.InOrder.{adds_entry};
 ghost use Rattle.script_calls.specs.Runs.{number_bound, number_meant};
 
 use crate::side::Side;
@@ -109,13 +111,39 @@ fn name_referred(reference: Reference) -> Option<usize>
     }
 }
 
-/// The name that a call is on.
-pub fn name_used(call: &Call) -> Option<usize>
+// The name that a call is on.
+fn name_used(call: &Call) -> Option<usize>
     ensures { result ≡ name_used call.now }
 {
     match call {
         Call::Get(r) | Call::Read(r) | Call::Remove(r) | Call::Release(r) => name_referred(*r),
         _ => None,
+    }
+}
+
+/// The name that a call is on, or that it waits for.
+pub fn name_needed(call: &Call) -> Option<usize>
+    ensures { result ≡ name_needed call.now }
+{
+    match call {
+        Call::Wait(name) => Some(*name),
+        _ => name_used(call),
+    }
+}
+
+/// Whether the call, with this answer, adds an entry to the history.
+pub fn adds_entry(call: &Call, answer: &Answer) -> bool
+    ensures { result ≡ adds_entry call.now answer.now }
+{
+    match call {
+        Call::Insert(_) => matches!(answer, Answer::Key(_)),
+        Call::Get(_) => matches!(
+            answer,
+            Answer::Done | Answer::Refused(Refusal::Gone | Refusal::Crowded)
+        ),
+        Call::Remove(_) => matches!(answer, Answer::Done | Answer::Refused(Refusal::Gone)),
+        Call::Release(_) => matches!(answer, Answer::Done),
+        _ => false,
     }
 }
 

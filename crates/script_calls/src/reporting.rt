@@ -1,10 +1,11 @@
-//! How a line is reported: its reply is added to the output, and the number of its name to those of the names.
-ghost use Rattle.std.specs.Prelude.{◌≡◌, ◌++◌, OnOk, OnErr};
+//! How a line is reported: its reply is added to the output, and what it binds to the names.
+ghost use Rattle.std.specs.Prelude.{◌≡◌, ◌++◌, ◌∷◌, [], cond, length, OnOk, OnErr};
 ghost use Rattle.std.specs.Vec.{vec_capacity};
 ghost use Rattle.script_output.specs.Replies.{reply_line};
-ghost use Rattle.script_calls.specs.Runs.{with_number, EndsAt};
+ghost use Rattle.script_calls.specs.Runs.{EndsAt};
+ghost use Rattle.script_calls.specs.Calls.{binds};
 
-use crate::line::{binds, number_told};
+use crate::line::binds;
 use script_output::{Answer, push_reply};
 use sh_script::{CallLine, Fault};
 
@@ -23,20 +24,22 @@ impl From<NoRoom> for Fault {
     }
 }
 
-/// Adds the reply line of a call, and the number of the name that the call binds. Refused only if the line or the
-/// number finds no room: every answer of a call is written, even a refusal of memory.
-pub fn tell(
+/// Adds the reply line of a call, and what it binds its name to, if it binds one. Refused only if the line or the name
+/// finds no room: every answer of a call is written, even a refusal of memory.
+pub fn tell<T: Drop>(
     output: &mut Vec<u8>,
-    numbers: &mut Vec<Option<u64>>,
+    names: &mut Vec<T>,
     line: &CallLine,
     answer: &Answer,
+    bound: T,
 ) -> Result<(), NoRoom>
     ensures text { OnOk result (output.new.items ≡ output.old.items ++ reply_line line.now answer.now) }
-    ensures names { OnOk result (numbers.new.items ≡ with_number numbers.old.items line.now.call answer.now) }
-    ensures room { OnErr result (EndsAt (vec_capacity output.old) (vec_capacity numbers.old) output.old.items
-        numbers.old.items line.now answer.now) }
+    ensures names { OnOk result (names.new.items ≡ cond (binds line.now.call) (names.old.items ++ bound ∷ [])
+        names.old.items) }
+    ensures room { OnErr result (EndsAt (vec_capacity output.old) (vec_capacity names.old) output.old.items
+        (length names.old.items) line.now answer.now) }
 {
-    if binds(&line.call) && numbers.push(number_told(answer)).is_err() {
+    if binds(&line.call) && names.push(bound).is_err() {
         return Err(NoRoom(()));
     }
     match push_reply(output, line, answer) {

@@ -1,32 +1,42 @@
 -- One more line, whose answer is put among the replies.
 use Rattle.std.proofs.Common.{◌≡◌, ◌≢◌, ℕ, zero, suc, ◌+◌, ◌≤◌, eq-eqb, ne_eqb, Bool, cond, List, [], ◌∷◌, ◌++◌}
 use Rattle.std.proofs.Common.{length, take, drop, set, slice_get, Option, Some, sym, refl, ap, ◌∙◌, subst, arith}
-use Rattle.std.proofs.Common.{length-set, add-one}
+use Rattle.std.proofs.Common.{length-set, length-append, add-one, map, true, false, ⊎_elim}
+use Rattle.std.specs.Prelude.{filter}
+use Rattle.std.proofs.lemmas.List.Elements.{filter-append}
 use Rattle.std.proofs.lemmas.Option.{none-some, same_Some, slice_get_within}
 use mathlib.Core.Logic.{dite}
 use native.Mathlib.Decide.{ℕ_discrete}
 use Rattle.sh_script.specs.declared.calls.Call.{Call}
+use Rattle.sh_script.specs.declared.calls.Call.TheVariants as call
+use Rattle.sh_script.specs.declared.calls.Reference.TheVariants as reference
 use Rattle.sh_script.specs.declared.calls.CallLine.{CallLine}
+use Rattle.sh_script.specs.BoundNames.{binds, names_in}
+use Rattle.script_output.specs.declared.answer.Answer.{Answer}
 use Rattle.script_calls.specs.Parts.{RunTerms, PassPart, SeenPass, new_pass}
-use Rattle.script_calls.specs.Calls.{CallAnswers}
+use Rattle.script_calls.specs.Calls.{CallAnswers, number_told}
 use Rattle.script_output.specs.Replies.{reply_line, replies_text}
 use Rattle.script_calls.specs.Runs.{CallsRun, LineAnswered, LinesAnswered, opening_calls, next_run, with_part}
 use Rattle.script_calls.specs.Runs.{with_number}
-use Rattle.script_calls.specs.Runs.{number_meant}
+use Rattle.script_calls.specs.Runs.{number_bound, number_meant}
 use Rattle.script_calls.specs.Alone.{seen_with_part}
-use Rattle.script_calls.specs.InOrder.{adding_passes, times}
+use Rattle.script_calls.specs.InOrder.{entries_added}
 use Rattle.script_calls.specs.Meeting.{orders_of}
-use Rattle.script_calls.specs.Named.{numbers_told, HeardOfNumber, NamesWereHeard}
-use Rattle.script_calls.proofs.NameLemmas.{numbers_after, counts_after, heard_more, heard_kept, orders_at}
-use Rattle.script_calls.proofs.ListLemmas.{get_some, take_at, take_past}
+use Rattle.script_calls.specs.Named.{HeardOfEntries, NamesWereHeard}
+use Rattle.script_calls.proofs.NameLemmas.{added_left, answers_all, counts_after, heard_more, heard_kept, orders_at}
+use Rattle.script_calls.proofs.NameLemmas.{take_left}
+use Rattle.script_calls.proofs.ListLemmas.{get_some, get_snoc, map_more, take_at, take_past}
 use Rattle.script_calls.proofs.LineLemmas.{OneMore, one_more, part_here, part_there}
+use Rattle.script_calls.proofs.Newcomers.{get_middle}
+use Rattle.script_workers.specs.declared.board.Bound.{Bound}
 use Rattle.script_workers.specs.declared.worker.Made.{Made}
-use Rattle.script_workers.specs.Works.{own_calls, CallMade, CallsMade, IsWork}
+use Rattle.script_workers.specs.Works.{own_calls, bound_by, bound_number, HeardOfBound, CallMade, CallsMade, IsWork}
 use Rattle.script_workers.specs.Gathers.{HaveEnded}
-use Rattle.script_workers.specs.Merges.{MergedSoFar, AllAnswered}
+use Rattle.script_workers.specs.Merges.{AreNames, bound_at, bound_needed, number_in, MergedSoFar, AllAnswered}
 use Rattle.sh_pass.specs.Seats.{Heap}
 use Rattle.sh_pass.proofs.Sums.Totals.{get_set_here}
 use Rattle.sh_pass.proofs.Zips.{set_other}
+use Rattle.sh_pass.proofs.ByPlace.{get_front}
 
 -- ---- lists
 
@@ -71,13 +81,105 @@ passed heap terms tag rest l p v side ms ne h =
     let Q : List Call → Type 0 = λ cs. CallsMade terms tag p side.orders v cs ms side.part in
     record { is = h.is; calls = subst Q (own_there p l rest ne) h.calls }
 
+-- ---- names
+
+number_at : (names : List Bound) (i : ℕ) → bound_number (slice_get names i) ≡ number_bound (map number_in names) (Some i)
+number_at [] i = refl
+number_at (x ∷ xs) zero = refl
+number_at (x ∷ xs) (suc i) = number_at xs i
+
+-- a call uses of its name the number alone
+by_number : (terms : RunTerms) (tag : Option ℕ) (p : ℕ) (v w : PassPart) (names : List Bound) (c : Call) (a : Answer)
+    → CallAnswers terms tag p v c (bound_number (bound_needed names c)) a w
+    → CallAnswers terms tag p v c (number_meant (map number_in names) c) a w
+by_number terms tag p v w names (call.Get (reference.Key k)) a h = h
+by_number terms tag p v w names (call.Read (reference.Key k)) a h = h
+by_number terms tag p v w names (call.Remove (reference.Key k)) a h = h
+by_number terms tag p v w names (call.Release (reference.Key k)) a h = h
+by_number terms tag p v w names (call.Get (reference.Name i)) a h = subst
+    (λ (b : Option ℕ). CallAnswers terms tag p v (call.Get (reference.Name i)) b a w) (number_at names i) h
+by_number terms tag p v w names (call.Read (reference.Name i)) a h = subst
+    (λ (b : Option ℕ). CallAnswers terms tag p v (call.Read (reference.Name i)) b a w) (number_at names i) h
+by_number terms tag p v w names (call.Remove (reference.Name i)) a h = subst
+    (λ (b : Option ℕ). CallAnswers terms tag p v (call.Remove (reference.Name i)) b a w) (number_at names i) h
+by_number terms tag p v w names (call.Release (reference.Name i)) a h = subst
+    (λ (b : Option ℕ). CallAnswers terms tag p v (call.Release (reference.Name i)) b a w) (number_at names i) h
+by_number terms tag p v w names (call.Adopt shard) a h = h
+by_number terms tag p v w names call.Leave a h = h
+by_number terms tag p v w names (call.Insert words) a h = h
+by_number terms tag p v w names call.Post a h = h
+by_number terms tag p v w names (call.Wait i) a h = h
+
+module _ (ls : List CallLine) (bs : List Answer) (names : List Bound) (was : AreNames ls bs names) (l : CallLine)
+    (a : Answer) (x : Bound) (after : List Bound) (long : length bs ≡ length ls)
+    (is : after ≡ cond (binds l.call) (names ++ x ∷ []) names) (pass : x.pass ≡ l.pass)
+    (entries : x.entries ≡ entries_added l.pass (ls ++ l ∷ []) (bs ++ a ∷ [])) where
+  kept : (c : Bool) (k : ℕ) (y : Bound) → slice_get names k ≡ Some y
+      → slice_get (cond c (names ++ x ∷ []) names) k ≡ Some y
+  kept true k y e = get_front names (x ∷ []) k y e
+  kept false k y e = e
+
+  longer : (c : Bool) → length (cond c (names ++ x ∷ []) names) ≡ length names + length (cond c (l ∷ []) [])
+  longer true = length-append names (x ∷ [])
+  longer false = omega arith
+
+  abbrev NameAt : ℕ → CallLine → Type 0
+  NameAt j m = (bound : Bound) × (slice_get after (names_in (take j (ls ++ l ∷ []))) ≡ Some bound)
+      × (bound.pass ≡ m.pass) × (bound.entries ≡ entries_added m.pass (take (suc j) (ls ++ l ∷ [])) (bs ++ a ∷ []))
+
+  old_name : (j : ℕ) (m : CallLine) → slice_get ls j ≡ Some m → binds m.call ≡ true → NameAt j m
+  old_name j m e b =
+      let few = slice_get_within ls j m e in
+      let r = was.each j m e b in
+      let place : names_in (take j (ls ++ l ∷ [])) ≡ names_in (take j ls) = ap (λ (z : List CallLine). names_in z)
+      (take_left ls (l ∷ []) j (omega (arith, few))) in (
+        r.0,
+        ap (slice_get after) place ∙ (ap (λ (z : List Bound). slice_get z (names_in (take j ls))) is
+            ∙ kept (binds l.call) (names_in (take j ls)) r.0 r.1),
+        r.2,
+        r.3 ∙ sym (added_left m.pass (suc j) ls bs l a long (omega (arith, few))),
+      )
+
+  last_name : (j : ℕ) (m : CallLine) → (j ≡ length ls) × (l ≡ m) → binds m.call ≡ true → NameAt j m
+  last_name j m e b =
+      let end : j ≡ length ls = e.0 in
+      let own : binds l.call ≡ true = subst (λ (z : CallLine). binds z.call ≡ true) (sym e.1) b in
+      let now : after ≡ names ++ x ∷ [] = is ∙ ap (λ (c : Bool). cond c (names ++ x ∷ []) names) own in
+      let place : names_in (take j (ls ++ l ∷ [])) ≡ length names = ap (λ (z : List CallLine). names_in z)
+      (take_left ls (l ∷ []) j (omega (arith, end)) ∙ take_past ls j (omega (arith, end))) ∙ sym was.all in
+      let whole : take (suc j) (ls ++ l ∷ []) ≡ ls ++ l ∷ [] = take_past (ls ++ l ∷ []) (suc j)
+      (omega (arith, end, length-append ls (l ∷ []))) in (
+        x,
+        ap (slice_get after) place ∙ (ap (λ (z : List Bound). slice_get z (length names)) now
+            ∙ get_middle names x []),
+        pass ∙ ap (λ (z : CallLine). z.pass) e.1,
+        entries ∙ (ap (λ (z : CallLine). entries_added z.pass (ls ++ l ∷ []) (bs ++ a ∷ [])) e.1
+            ∙ ap (λ (z : List CallLine). entries_added m.pass z (bs ++ a ∷ [])) (sym whole)),
+      )
+
+  -- one more line, which may bind a name
+  one_more_name : AreNames (ls ++ l ∷ []) (bs ++ a ∷ []) after
+  one_more_name = record {
+    all =
+        let grown : names_in (ls ++ l ∷ []) ≡ names_in ls + length (cond (binds l.call) (l ∷ []) []) =
+        ap (λ (z : List CallLine). length z) (filter-append (λ (z : CallLine). binds z.call) ls (l ∷ []))
+        ∙ length-append (filter (λ (z : CallLine). binds z.call) ls) (cond (binds l.call) (l ∷ []) []) in
+        let now : length after ≡ length (cond (binds l.call) (names ++ x ∷ []) names) = ap
+        (λ (z : List Bound). length z) is in
+        let more = longer (binds l.call) in
+        let few = was.all in
+        omega (arith, grown, now, more, few);
+    each = λ j m at b. ⊎_elim (λ (e : slice_get ls j ≡ Some m). old_name j m e b)
+        (λ (e : (j ≡ length ls) × (l ≡ m)). last_name j m e b) (get_snoc ls l m j at);
+  }
+
 -- ---- one more line
 
 module _ (heap : Option Heap) (terms : RunTerms) (tag : Option ℕ) (lines : List CallLine) (i : ℕ)
-    (numbers : List (Option ℕ)) (sides : List SeenPass) (rests : List (List Made)) (output : List ℕ)
-    (was : MergedSoFar heap terms tag lines i numbers sides rests output) (l : CallLine)
+    (names : List Bound) (sides : List SeenPass) (rests : List (List Made)) (output : List ℕ)
+    (was : MergedSoFar heap terms tag lines i names sides rests output) (l : CallLine)
     (at : slice_get lines i ≡ Some l) (m : Made) (ms : List Made) (own : slice_get rests l.pass ≡ Some (m ∷ ms))
-    (bound : m.bound ≡ number_meant numbers l.call) where
+    (bound : m.bound ≡ bound_needed names l.call) where
   abbrev rest : List CallLine
   rest = drop (i + 1) lines
 
@@ -106,12 +208,16 @@ module _ (heap : Option Heap) (terms : RunTerms) (tag : Option ℕ) (lines : Lis
 
   steps : LineAnswered terms tag was.run l m.answer then
   steps =
-      let D : Option ℕ → Type 0 = λ b. CallAnswers terms tag l.pass one.made.begins l.call b m.answer one.part in
+      let D : Option Bound → Type 0 = λ b. CallAnswers terms tag l.pass one.made.begins l.call (bound_number b) m.answer
+      one.part in
+      let N : List (Option ℕ) → Type 0 = λ z. CallAnswers terms tag l.pass one.made.begins l.call
+      (number_meant z l.call) m.answer one.part in
       record {
         begins = one.made.begins;
         heeds = one.made.heeds;
         part = one.part;
-        does = subst D (bound ∙ ap (λ (z : List (Option ℕ)). number_meant z l.call) was.numbers_are) one.made.does;
+        does = subst N was.numbers_are (by_number terms tag l.pass one.made.begins one.part names l.call m.answer
+            (subst D bound one.made.does));
         next_is = refl;
       }
 
@@ -139,24 +245,41 @@ module _ (heap : Option Heap) (terms : RunTerms) (tag : Option ℕ) (lines : Lis
       subst (λ (z : PassPart). IsWork heap terms tag rest p z side qs)
       (sym (part_there was.run.parts l.pass p one.part ne)) left
 
-  -- its pass had heard of the insert of the name that the line is on
-  heard : NamesWereHeard tag (take i lines ++ l ∷ []) (was.answers ++ m.answer ∷ []) (orders_of sides)
+  -- its pass had heard of the entries that come with the name that the line needs
+  heard : NamesWereHeard (take i lines ++ l ∷ []) (was.answers ++ m.answer ∷ []) (orders_of sides)
   heard =
       let counted = counts_after terms tag (opening_calls heap) was.run (take i lines) was.answers was.ran l.pass in
       let none : length ((opening_calls heap).parts l.pass).log ≡ 0 = refl in
-      let first : length (was.run.parts l.pass).log ≡ length (times l.pass (adding_passes (take i lines) was.answers)) =
-      omega (arith, counted, none) in
-      let told : m.bound ≡ number_meant (numbers_told (take i lines) was.answers) l.call = bound
-      ∙ ap (λ (z : List (Option ℕ)). number_meant z l.call) (was.numbers_are ∙ numbers_after terms tag
-      (opening_calls heap) was.run (take i lines) was.answers was.ran) in
-      let H : ℕ × Option ℕ → Type 0 = λ z. HeardOfNumber tag (orders_of sides) l.pass z.0 z.1 in
+      let before : ℕ = length (was.run.parts l.pass).log in
+      let first : before ≡ entries_added l.pass (take i lines) was.answers = omega (arith, counted, none) in
       heard_more terms tag (opening_calls heap) was.run (take i lines) was.answers (orders_of sides) (orders_of sides) l
-      m.answer was.ran was.heard (λ o c. c) (subst H (λ j. (first j, told j)) (heard_kept tag owner.0.orders
-      (orders_of sides) l.pass (length (was.run.parts l.pass).log) m.bound (orders_at sides l.pass owner.0 owner.1)
-      one.made.heard))
+      m.answer was.ran was.heard (λ o c. c) (λ j b n.
+      let x = was.names_are.each j b n.at n.binds_name in
+      let is : m.bound ≡ Some x.0 = bound ∙ (ap (bound_at names) n.needed ∙ x.1) in
+      let told : HeardOfEntries owner.0.orders x.0.pass x.0.entries l.pass before = subst
+      (HeardOfBound owner.0.orders l.pass before) is one.made.heard in
+      let H : ℕ × ℕ × ℕ → Type 0 = λ z. HeardOfEntries (orders_of sides) z.0 z.1 l.pass z.2 in
+      subst H (λ q. (x.2 q, x.3 q, first q)) (heard_kept owner.0.orders (orders_of sides) x.0.pass x.0.entries l.pass
+      before (orders_at sides l.pass owner.0 owner.1) told))
 
-  pub merged_more : (after : List (Option ℕ)) (new : List (List Made)) (longer : List ℕ)
-      → after ≡ with_number numbers l.call m.answer → new ≡ set rests l.pass ms
+  -- how many entries its pass has then
+  counted : m.entries ≡ entries_added l.pass (take i lines ++ l ∷ []) (was.answers ++ m.answer ∷ [])
+  counted =
+      let all = counts_after terms tag (opening_calls heap) then (take i lines ++ l ∷ []) (was.answers ++ m.answer ∷ [])
+      more.ran l.pass in
+      let none : length ((opening_calls heap).parts l.pass).log ≡ 0 = refl in
+      let part : length (then.parts l.pass).log ≡ length one.part.log = ap (λ (u : PassPart). length u.log)
+      (part_here was.run.parts l.pass l.pass one.part refl) in
+      let made = one.made.counts in
+      omega (arith, all, none, part, made)
+
+  numbered : (c : Bool) → map number_in (cond c (names ++ bound_by l.pass m ∷ []) names)
+      ≡ cond c (map number_in names ++ number_told m.answer ∷ []) (map number_in names)
+  numbered true = map_more number_in names (bound_by l.pass m)
+  numbered false = refl
+
+  pub merged_more : (after : List Bound) (new : List (List Made)) (longer : List ℕ)
+      → after ≡ cond (binds l.call) (names ++ bound_by l.pass m ∷ []) names → new ≡ set rests l.pass ms
       → longer ≡ output ++ reply_line l m.answer → MergedSoFar heap terms tag lines (i + 1) after sides new longer
   merged_more after new longer named popped printed =
       let R : List CallLine → Type 0 = λ ls. LinesAnswered terms tag (opening_calls heap) ls
@@ -165,7 +288,11 @@ module _ (heap : Option Heap) (terms : RunTerms) (tag : Option ℕ) (lines : Lis
         answers = was.answers ++ m.answer ∷ [];
         run = then;
         ran = subst R (sym took) more.ran;
-        numbers_are = named ∙ ap (λ (z : List (Option ℕ)). with_number z l.call m.answer) was.numbers_are;
+        numbers_are = ap (map number_in) named ∙ (numbered (binds l.call)
+            ∙ ap (λ (z : List (Option ℕ)). with_number z l.call m.answer) was.numbers_are);
+        names_are = subst (λ (ls : List CallLine). AreNames ls (was.answers ++ m.answer ∷ []) after) (sym took)
+            (one_more_name (take i lines) was.answers names was.names_are l m.answer (bound_by l.pass m) after
+            (answers_all terms tag (opening_calls heap) was.run (take i lines) was.answers was.ran) named refl counted);
         text = printed ∙ (ap (λ t. t ++ reply_line l m.answer) was.text
             ∙ (sym more.text ∙ ap (λ ls. replies_text ls (was.answers ++ m.answer ∷ [])) (sym took)));
         sides_all = was.sides_all;
@@ -174,16 +301,16 @@ module _ (heap : Option Heap) (terms : RunTerms) (tag : Option ℕ) (lines : Lis
             let g : slice_get (set rests l.pass ms) p ≡ Some qs =
             ap (λ (z : List (List Made)). slice_get z p) (sym popped) ∙ f in
             dite (ℕ_discrete p l.pass) (λ is. here p side qs is e g) (λ ne. there p side qs ne e g);
-        heard = subst (λ (ls : List CallLine). NamesWereHeard tag ls (was.answers ++ m.answer ∷ []) (orders_of sides))
+        heard = subst (λ (ls : List CallLine). NamesWereHeard ls (was.answers ++ m.answer ∷ []) (orders_of sides))
             (sym took) heard;
       }
 
 -- a call is left for each line
 pub never_empty : (heap : Option Heap) (terms : RunTerms) (tag : Option ℕ) (lines : List CallLine) (i : ℕ)
-    (numbers : List (Option ℕ)) (sides : List SeenPass) (rests : List (List Made)) (output : List ℕ)
-    → MergedSoFar heap terms tag lines i numbers sides rests output → (l : CallLine) → slice_get lines i ≡ Some l
+    (names : List Bound) (sides : List SeenPass) (rests : List (List Made)) (output : List ℕ)
+    → MergedSoFar heap terms tag lines i names sides rests output → (l : CallLine) → slice_get lines i ≡ Some l
     → slice_get rests l.pass ≡ Some [] → ⊥
-never_empty heap terms tag lines i numbers sides rests output was l at own =
+never_empty heap terms tag lines i names sides rests output was l at own =
     let few = slice_get_within rests l.pass [] own in
     let owner = get_some sides l.pass (omega (arith, few, was.sides_all, was.rests_all)) in
     let h = was.each l.pass owner.0 [] owner.1 own in
@@ -203,11 +330,12 @@ merging_begins heap terms tag lines sides rests h = record {
   run = opening_calls heap;
   ran = refl;
   numbers_are = refl;
+  names_are = record { all = refl; each = λ j l at. absurd (none-some l at) };
   text = refl;
   sides_all = h.sides_all;
   rests_all = h.rests_all;
   each = h.each;
-  heard = λ i l at. absurd (none-some l at);
+  heard = λ j i b l less at. absurd (none-some l at);
 }
 
 none_left : (heap : Option Heap) (terms : RunTerms) (tag : Option ℕ) (p : ℕ) (parts : ℕ → PassPart) (side : SeenPass)
@@ -218,19 +346,19 @@ none_left heap terms tag p parts side [] h =
 none_left heap terms tag p parts side (m ∷ ms) h = absurd h.calls
 
 pub merging_ends : (heap : Option Heap) (terms : RunTerms) (tag : Option ℕ) (lines : List CallLine) (i : ℕ)
-    (numbers : List (Option ℕ)) (sides : List SeenPass) (rests : List (List Made)) (output : List ℕ)
-    → length lines ≤ i → MergedSoFar heap terms tag lines i numbers sides rests output
+    (names : List Bound) (sides : List SeenPass) (rests : List (List Made)) (output : List ℕ)
+    → length lines ≤ i → MergedSoFar heap terms tag lines i names sides rests output
     → AllAnswered heap terms tag lines sides output
-merging_ends heap terms tag lines i numbers sides rests output past h =
+merging_ends heap terms tag lines i names sides rests output past h =
     let whole : take i lines ≡ take (length lines) lines =
     take_past lines i past ∙ sym (take_past lines (length lines) (omega arith)) in
     let R : List CallLine → Type 0 = λ ls. LinesAnswered terms tag (opening_calls heap) ls h.answers h.run in (
-      numbers,
+      h.run.numbers,
       record {
         answers = h.answers;
         run = h.run;
         ran = subst R whole h.ran;
-        numbers_are = h.numbers_are;
+        numbers_are = refl;
         text = h.text ∙ ap (λ ls. replies_text ls h.answers) whole;
         all = h.sides_all;
         each = λ p s e.
@@ -239,6 +367,6 @@ merging_ends heap terms tag lines i numbers sides rests output past h =
             let Q : List CallLine → Type 0 = λ ls. IsWork heap terms tag ls p (h.run.parts p) s made.0 in
             none_left heap terms tag p h.run.parts s made.0
             (subst Q (drop_past lines i past) (h.each p s made.0 e made.1));
-        heard = subst (λ (ls : List CallLine). NamesWereHeard tag ls h.answers (orders_of sides)) whole h.heard;
+        heard = subst (λ (ls : List CallLine). NamesWereHeard ls h.answers (orders_of sides)) whole h.heard;
       },
     )

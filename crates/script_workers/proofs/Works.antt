@@ -1,24 +1,26 @@
 -- One more line for a worker.
 use Rattle.std.proofs.Common.{◌≡◌, ◌≢◌, ℕ, zero, suc, ◌+◌, eqb, eq-eqb, ne_eqb, append-nil, Bool, true, false, cond}
 use Rattle.std.proofs.Common.{List, [], ◌∷◌, ◌++◌, length, take, slice_get, Some, Option, sym, refl, ap, ◌∙◌, subst}
-use Rattle.std.proofs.Common.{◌<◌, ◌==◌, arith, map, add-one}
+use Rattle.std.proofs.Common.{◌<◌, ◌==◌, arith, add-one}
 use Rattle.std.specs.Prelude.{filter, count_by}
 use Rattle.std.proofs.lemmas.List.Sums.{length-filter}
 use Rattle.std.proofs.lemmas.Option.{none-some, same_Some}
 use Rattle.sh_script.specs.declared.calls.Call.{Call}
 use Rattle.sh_script.specs.declared.calls.CallLine.{CallLine}
 use Rattle.script_calls.specs.Parts.{RunTerms, PassPart, SeenPass, SamePass, new_part, new_pass}
-use Rattle.script_output.specs.Keys.{HasTagRoom}
-use Rattle.script_calls.specs.Calls.{CallAnswers, binds, number_told}
+use Rattle.script_calls.specs.Calls.{CallAnswers}
+use Rattle.script_calls.specs.InOrder.{Covers, adds_entry}
 use Rattle.script_calls.specs.Meeting.{KeepsOrders}
-use Rattle.script_calls.specs.Named.{HeardOfNumber, tells_number}
-use Rattle.script_calls.specs.Receipts.{receipt_seen, part_heard, taken_heard}
-use Rattle.script_calls.proofs.NameLemmas.{heard_kept, tells_own}
+use Rattle.script_calls.specs.Receipts.{receipt_seen}
+use Rattle.script_calls.proofs.GrowLemmas.{grows}
+use Rattle.script_calls.proofs.NameLemmas.{covers_own, may_log}
+use Rattle.script_output.specs.declared.answer.Answer.{Answer}
+use Rattle.script_workers.specs.declared.board.Bound.{Bound}
 use Rattle.script_workers.specs.declared.worker.Made.{Made}
 use Rattle.script_workers.specs.Boards.{MayHearName}
-use Rattle.script_workers.specs.Works.{own_calls, CallMade, CallsMade, IsWork}
-use Rattle.script_workers.proofs.Boards.{name_only, name_heeds, name_keeps, name_heard}
-use Rattle.sh_pass.specs.Heard.{Heard}
+use Rattle.script_workers.specs.Works.{own_calls, bound_number, HeardOfBound, CallMade, CallsMade, IsWork}
+use Rattle.script_workers.proofs.Boards.{name_only, name_heeds, name_keeps, name_heard, bound_kept}
+use Rattle.sh_pass.specs.LogEntry.{LogEntry}
 use Rattle.sh_pass.specs.Order.{Order}
 use Rattle.sh_pass.specs.Seats.{Heap}
 
@@ -94,8 +96,9 @@ calls_kept terms tag p orders more v w (c ∷ cs) (m ∷ ms) keeps h = (
   record {
     begins = h.1.begins;
     heeds = h.1.heeds;
-    heard = heard_kept tag orders more p (length v.log) m.bound keeps h.1.heard;
+    heard = bound_kept orders more p (length v.log) m.bound keeps h.1.heard;
     does = h.1.does;
+    counts = h.1.counts;
   },
   calls_kept terms tag p orders more h.0 w cs ms keeps h.2,
 )
@@ -123,26 +126,30 @@ module _ (heap : Option Heap) (terms : RunTerms) (tag : Option ℕ) (lines : Lis
       omega (arith, below, made)
 
   -- a line of its own, whose call was made, once what is known of its name was heard
-  pub work_then : (mid after : SeenPass) (m : Made) → l.pass ≡ n → MayHearName tag m.bound side mid
-      → SamePass mid after → CallAnswers mid.terms tag mid.pass mid.part l.call m.bound m.answer after.part
+  pub work_then : (mid after : SeenPass) (m : Made) → l.pass ≡ n → MayHearName m.bound side mid
+      → SamePass mid after
+      → CallAnswers mid.terms tag mid.pass mid.part l.call (bound_number m.bound) m.answer after.part
+      → m.entries ≡ length after.part.log
       → IsWork heap terms tag (take (i + 1) lines) n (new_part heap n) after (ms ++ m ∷ [])
-  work_then mid after m own hears same does =
-      let P : SeenPass → Type 0 = λ z. CallAnswers z.terms tag z.pass z.part l.call m.bound m.answer after.part in
+  work_then mid after m own hears same does counts =
+      let P : SeenPass → Type 0 = λ z. CallAnswers z.terms tag z.pass z.part l.call (bound_number m.bound) m.answer
+      after.part in
       let mid_is : mid ≡ record (new_pass heap terms n) { part = mid.part; orders = mid.orders } =
-      name_only tag m.bound side mid hears
+      name_only m.bound side mid hears
       ∙ ap (λ (z : SeenPass). record z { part = mid.part; orders = mid.orders }) h.is in
       let orders : after.orders ≡ mid.orders = ap (λ (z : SeenPass). z.orders) same in
       let pass : side.pass ≡ n = ap (λ (z : SeenPass). z.pass) h.is in
-      let H : List Order × ℕ → Type 0 = λ z. HeardOfNumber tag z.0 z.1 (length side.part.log) m.bound in
-      let heard : HeardOfNumber tag after.orders n (length side.part.log) m.bound = subst H
-      (λ j. (sym orders j, pass j)) (name_heard tag m.bound side mid hears) in
+      let H : List Order × ℕ → Type 0 = λ z. HeardOfBound z.0 z.1 (length side.part.log) m.bound in
+      let heard : HeardOfBound after.orders n (length side.part.log) m.bound = subst H
+      (λ j. (sym orders j, pass j)) (name_heard m.bound side mid hears) in
       let keeps : KeepsOrders side.orders after.orders = subst (λ (os : List Order). KeepsOrders side.orders os)
-      (sym orders) (name_keeps tag m.bound side mid hears) in
+      (sym orders) (name_keeps m.bound side mid hears) in
       let made : CallMade terms tag n after.orders side.part l.call m after.part = record {
         begins = mid.part;
-        heeds = name_heeds tag m.bound side mid hears;
+        heeds = name_heeds m.bound side mid hears;
         heard = heard;
         does = subst P mid_is does;
+        counts = counts;
       } in
       let Q : List Call → Type 0 = λ cs. CallsMade terms tag n after.orders (new_part heap n) cs (ms ++ m ∷ [])
       after.part in
@@ -165,22 +172,27 @@ module _ (heap : Option Heap) (terms : RunTerms) (tag : Option ℕ) (lines : Lis
   pub work_heap : side.heap ≡ heap
   work_heap = ap (λ (z : SeenPass). z.heap) h.is
 
-  -- its receipt once its call was made contains also its insert, if the call was one that returned a key
-  pub work_tells : (mid after : SeenPass) (m : Made) → HasTagRoom terms.layout tag → MayHearName tag m.bound side mid
-      → SamePass mid after → CallAnswers mid.terms tag mid.pass mid.part l.call m.bound m.answer after.part
-      → (after.heap ≡ heap)
-      × (binds l.call ≡ true → tells_number tag (receipt_seen after).heard (number_told m.answer) ≡ true)
-  work_tells mid after m room hears same does =
+  -- how many entries it has then
+  pub work_counts : (mid after : SeenPass) (bound : Option Bound) (a : Answer) → MayHearName bound side mid
+      → CallAnswers mid.terms tag mid.pass mid.part l.call (bound_number bound) a after.part
+      → length after.part.log ≡ length side.part.log + cond (adds_entry l.call a) 1 0
+  work_counts mid after bound a hears does =
+      grows mid.terms tag mid.pass mid.part l.call (bound_number bound) a after.part does
+      ∙ ap (λ (log : List LogEntry). length log + cond (adds_entry l.call a) 1 0)
+      (may_log side.part mid.part (name_heeds bound side mid hears))
+
+  -- its receipt then covers them
+  pub work_covers : (mid after : SeenPass) (bound : Option Bound) (entries : ℕ) → MayHearName bound side mid
+      → SamePass mid after → entries ≡ length after.part.log
+      → (after.heap ≡ heap) × Covers (receipt_seen after).heard n entries
+  work_covers mid after bound entries hears same counts =
       let mid_is : mid ≡ record (new_pass heap terms n) { part = mid.part; orders = mid.orders } =
-      name_only tag m.bound side mid hears
+      name_only bound side mid hears
       ∙ ap (λ (z : SeenPass). record z { part = mid.part; orders = mid.orders }) h.is in
-      let roomy : HasTagRoom mid.terms.layout tag = subst (λ (z : SeenPass). HasTagRoom z.terms.layout tag) (sym mid_is)
-      room in
-      let rest : List Heard = taken_heard after ++ map (λ (o : Order). o.heard) after.orders in (
+      let pass : after.pass ≡ n = ap (λ (z : SeenPass). z.pass) same ∙ ap (λ (z : SeenPass). z.pass) mid_is in
+      let C : ℕ × ℕ → Type 0 = λ z. Covers (receipt_seen after).heard z.0 z.1 in (
         ap (λ (z : SeenPass). z.heap) same ∙ ap (λ (z : SeenPass). z.heap) mid_is,
-        λ b. subst (λ (q : ℕ). tells_number tag (part_heard q after.part ∷ rest) (number_told m.answer) ≡ true)
-            (ap (λ (z : SeenPass). z.pass) (sym same))
-            (tells_own mid.terms tag mid.pass mid.part after.part l.call m.bound m.answer roomy b does rest),
+        subst C (λ j. (pass j, sym counts j)) (covers_own after),
       )
 
   -- a pass that is as it was

@@ -1,11 +1,12 @@
--- What a worker did: the calls of its pass's own lines, in order, each after the insert of the key that it names.
-use Rattle.std.specs.Prelude.{◌≡◌, ℕ, ◌==◌, cond, Bool, List, [], ◌∷◌, length, Option}
+-- What a worker did: the calls of its pass's own lines, in order, each after what comes with the name that it needs.
+use Rattle.std.specs.Prelude.{◌≡◌, ℕ, ◌==◌, cond, Bool, List, [], ◌∷◌, length, Option, Some, None}
 use Rattle.sh_script.specs.declared.calls.Call.{Call}
 use Rattle.sh_script.specs.declared.calls.CallLine.{CallLine}
 use Rattle.script_calls.specs.Parts.{RunTerms, PassPart, SeenPass, new_pass}
-use Rattle.script_calls.specs.Calls.{CallAnswers}
+use Rattle.script_calls.specs.Calls.{CallAnswers, number_told}
 use Rattle.script_calls.specs.Receipts.{MayHeed}
-use Rattle.script_calls.specs.Named.{HeardOfNumber}
+use Rattle.script_calls.specs.Named.{HeardOfEntries}
+use Rattle.script_workers.specs.declared.board.Bound.{Bound}
 use Rattle.script_workers.specs.declared.worker.Made.{Made}
 use Rattle.sh_pass.specs.Order.{Order}
 use Rattle.sh_pass.specs.Seats.{Heap}
@@ -19,14 +20,29 @@ abbrev pub own_calls : ℕ → List CallLine → List Call
 own_calls p [] = []
 own_calls p (l ∷ ls) = cond (l.pass == p) (l.call ∷ own_calls p ls) (own_calls p ls)
 
+-- the number that the name of a call is bound to, if it is bound to one
+abbrev pub bound_number : Option Bound → Option ℕ
+bound_number None = None
+bound_number (Some bound) = bound.number
+
+-- what the call, made by this pass, binds its name to
+abbrev pub bound_by : ℕ → Made → Bound
+bound_by p m = record { number = number_told m.answer; pass = p; entries = m.entries }
+
+-- if a name is bound, the pass had heard of the entries of the pass that bound it
+abbrev pub HeardOfBound : List Order → (pass first : ℕ) → Option Bound → Type 0
+HeardOfBound orders pass first None = Unit {0}
+HeardOfBound orders pass first (Some bound) = HeardOfEntries orders bound.pass bound.entries pass first
+
 -- The pass, whose part was v, made this call, and then its part was u. It may have heeded a receipt first. If the call
--- is on a name that is bound to a number, it had heard of the insert of its key: that is one of these orders.
+-- needs a name, it had heard of the entries that come with it: that is one of these orders.
 pub record CallMade (terms : RunTerms) (tag : Option ℕ) (p : ℕ) (orders : List Order) (v : PassPart) (c : Call)
     (m : Made) (u : PassPart) : Type 0 where
   pub begins : PassPart
   pub heeds : MayHeed v begins
-  pub heard : HeardOfNumber tag orders p (length v.log) m.bound
-  pub does : CallAnswers terms tag p begins c m.bound m.answer u
+  pub heard : HeardOfBound orders p (length v.log) m.bound
+  pub does : CallAnswers terms tag p begins c (bound_number m.bound) m.answer u
+  pub counts : m.entries ≡ length u.log
 
 -- The pass made these calls, one after the other. Its part was v before the first, and is w.
 abbrev pub CallsMade : RunTerms → Option ℕ → ℕ → List Order → PassPart → List Call → List Made → PassPart → Type 0

@@ -1,8 +1,8 @@
 //! The board of names, on which workers wait for one another.
-ghost use Rattle.std.specs.Prelude.{◌≡◌, IfOk, MatchOption, length, true};
-ghost use Rattle.script_calls.specs.Named.{tells_number};
+ghost use Rattle.std.specs.Prelude.{◌≡◌, IfOk, length};
+ghost use Rattle.script_calls.specs.InOrder.{Covers};
 ghost use Rattle.script_calls.specs.Receipts.{seen_of_receipt};
-ghost use Rattle.script_workers.specs.Boards.{IsBinding, HeardName};
+ghost use Rattle.script_workers.specs.Boards.{IsBinding, HeardName, MayHearName};
 
 use crate::room::Room;
 use script_calls::side::Side;
@@ -12,63 +12,71 @@ use std::marker::{Model, PhantomData};
 use std::mem;
 use std::sync::{Condvar, Mutex, Wait};
 
-/// What a name is bound to: a number, if its insert returned one, and then a receipt that contains the insert of its
-/// key. A contract sees the number.
+/// What a name is bound to: the number that its insert returned, if it returned one, and how many entries the pass that
+/// bound it had then.
+#[derive(Clone, Copy, Debug, PartialEq, Eq)]
+pub struct Bound {
+    pub number: Option<u64>,
+    pub pass: usize,
+    pub entries: usize,
+}
+
+/// What a name is bound to, and then a receipt that covers these entries. A contract sees what it is bound to.
 #[derive(Drop)]
 pub struct Binding<B: Room> {
-    number: Option<u64>,
+    bound: Bound,
     receipt: Receipt,
     room: PhantomData<B>,
 }
 
 impl<B: Room> Model for Binding<B> {
-    ghost use Rattle.std.specs.Prelude.{ℕ, Option};
+    ghost use Rattle.script_workers.specs.declared.board.Bound.{Bound};
     ghost use Rattle.script_workers.specs.Boards.{IsBinding};
 
-    ghost Value = { Option ℕ };
+    ghost Value = { Bound };
 
-    ghost view = { λ b. b.number };
+    ghost view = { λ b. b.bound };
 
-    ghost invariant = { λ b. IsBinding B.heap B.tag b.number b.receipt };
+    ghost invariant = { λ b. IsBinding B.heap b.bound b.receipt };
 }
 
 impl<B: Room> Binding<B> {
-    /// The number, with a receipt of the pass that bound the name.
-    pub fn new(number: Option<u64>, receipt: Receipt) -> Self
+    /// What the name is bound to, with a receipt of the pass that bound it.
+    pub fn new(bound: Bound, receipt: Receipt) -> Self
         requires heap { (seen_of_receipt receipt).heap ≡ B.heap }
-        requires tells { tells_number B.tag (seen_of_receipt receipt).heard number ≡ true }
-        ensures { result ≡ number }
+        requires covers { Covers (seen_of_receipt receipt).heard bound.pass bound.entries }
+        ensures { result ≡ bound }
     {
         Binding {
-            number,
+            bound,
             receipt,
             room: PhantomData,
         }
     }
 
-    // The pass heeds the receipt. A receipt of its own, which contains all that this one contained, takes its place.
+    // The pass heeds the receipt. A receipt of its own, which covers all that this one covered, takes its place.
     fn heeded<S: Side>(self, side: &mut S) -> Self
         requires heap { (S.seen side.old).heap ≡ B.heap }
-        ensures number { result ≡ self }
-        ensures heard { HeardName B.tag self (S.seen side.old) (S.seen side.new) }
+        ensures bound { result ≡ self }
+        ensures heard { HeardName self (S.seen side.old) (S.seen side.new) }
     {
         let Binding {
-            number,
+            bound,
             receipt,
             room,
         } = self;
         side.heed(receipt);
         Binding {
-            number,
+            bound,
             receipt: side.receipt(),
             room,
         }
     }
 
-    fn number(&self) -> Option<u64>
+    fn bound(&self) -> Bound
         ensures { result ≡ self.now }
     {
-        self.number
+        self.bound
     }
 }
 
@@ -98,12 +106,11 @@ impl<B: Room> Names<B> {
         }
     }
 
-    // The number that the name is bound to, once the pass has heeded the receipt of its binding. A name that was bound
-    // before the board was closed still gives its number.
-    fn told<S: Side>(&mut self, name: usize, side: &mut S) -> Option<Option<u64>>
+    // What the name is bound to, once the pass has heeded the receipt of its binding. A name that was bound before the
+    // board was closed is still told.
+    fn told<S: Side>(&mut self, name: usize, side: &mut S) -> Option<Bound>
         requires heap { (S.seen side.old).heap ≡ B.heap }
-        ensures heard { MatchOption result (S.seen side.new ≡ S.seen side.old)
-            (λ number. HeardName B.tag number (S.seen side.old) (S.seen side.new)) }
+        ensures heard { MayHearName result (S.seen side.old) (S.seen side.new) }
     {
         let Some(place) = self.names.get_mut(name) else {
             return None;
@@ -112,14 +119,15 @@ impl<B: Room> Names<B> {
             return None;
         };
         let binding = binding.heeded(side);
-        let number = binding.number();
+        let bound = binding.bound();
         *place = Name::Bound(binding);
-        Some(number)
+        Some(bound)
     }
 }
 
-/// Names that threads bind and wait for. With each name comes a receipt, so the insert that bound it happens before
-/// what is returned to a pass that waited. Its number is compared with the answers later: no contract relies on it.
+/// Names that threads bind and wait for. With each name comes a receipt, so what its pass did before it bound the name
+/// happens before what is returned to a pass that waited. What the name is bound to is compared with the answers later:
+/// no contract relies on it.
 #[derive(Drop)]
 pub struct Board<B: Room> {
     names: Mutex<Names<B>>,
@@ -157,12 +165,11 @@ impl<B: Room> Board<B> {
         }
     }
 
-    /// Waits for a name, heeds the receipt that comes with it, and returns the number that it is bound to. `None` if
-    /// the board is closed and the name is not bound, or if there is no such name.
-    pub fn wait<S: Side, R: Wait>(&self, rt: &R, name: usize, side: &mut S) -> Option<Option<u64>>
+    /// Waits for a name, heeds the receipt that comes with it, and returns what it is bound to. `None` if the board is
+    /// closed and the name is not bound, or if there is no such name.
+    pub fn wait<S: Side, R: Wait>(&self, rt: &R, name: usize, side: &mut S) -> Option<Bound>
         requires heap { (S.seen side.old).heap ≡ B.heap }
-        ensures heard { MatchOption result (S.seen side.new ≡ S.seen side.old)
-            (λ number. HeardName B.tag number (S.seen side.old) (S.seen side.new)) }
+        ensures heard { MayHearName result (S.seen side.old) (S.seen side.new) }
     {
         let bound = self.bound.get(name)?;
         let mut names = bound.wait_while(rt, self.names.lock(rt), |names| names.is_awaited(name));

@@ -4,14 +4,15 @@ ghost use Rattle.std.specs.List.{All};
 ghost use Rattle.sh_script.specs.declared.calls.CallLine.{CallLine};
 ghost use Rattle.script_output.specs.Ends.{IsEndFault};
 ghost use Rattle.script_workers.specs.Gathers.{HaveEnded};
-ghost use Rattle.script_workers.specs.Merges.{AllAnswered};
+ghost use Rattle.script_workers.specs.Merges.{AllAnswered, bound_needed};
 
+use crate::board::Bound;
 use crate::gather::Ended;
 use crate::room::Room;
-use script_calls::line::number_meant;
+use script_calls::line::name_needed;
 use script_calls::reporting::{NoRoom, tell};
 use script_calls::side::Side;
-use sh_script::{CallLine, Fault};
+use sh_script::{Call, CallLine, Fault};
 use std::alloc::Global;
 
 /// Why answers are not put in order.
@@ -19,7 +20,7 @@ use std::alloc::Global;
 pub enum Unmerged {
     /// A line found no room.
     NoRoom(NoRoom),
-    /// A call was made with a number that is not the one its name's insert returned.
+    /// A call was made with another binding of its name than the one that its line left.
     Differ,
 }
 
@@ -44,9 +45,17 @@ impl From<Unmerged> for Fault {
     }
 }
 
-/// Returns the reply lines in the order of the script's lines, and the passes. The number that each call used for its
-/// name is compared with what the insert of the name returned. `Differ` if they differ, which can't happen with a board
-/// that keeps what was bound; `NoRoom` if a line finds no room.
+// What the name that the call needs is bound to, if it needs one that is bound.
+fn bound_needed(names: &[Bound], call: &Call) -> Option<Bound>
+    ensures { result ≡ bound_needed names.now call.now }
+{
+    let name = name_needed(call)?;
+    names.get(name).copied()
+}
+
+/// Returns the reply lines in the order of the script's lines, and the passes. The binding that a call found of the name
+/// that it needs is compared with the one that the name's line left. `Differ` if they differ, which can't happen with a
+/// board that keeps what was bound; `NoRoom` if a line finds no room.
 pub fn merged<S: Side, B: Room>(
     alloc: Global,
     lines: &[CallLine],
@@ -60,7 +69,7 @@ pub fn merged<S: Side, B: Room>(
         (map S.seen merged.1.items) merged.0.items) }
 {
     let Ended { sides, mut rests } = ended;
-    let mut numbers: Vec<Option<u64>> = Vec::new(alloc);
+    let mut names: Vec<Bound> = Vec::new(alloc);
     let mut output = Vec::new(alloc);
     for line in lines {
         let Some(rest) = rests.get_mut(line.pass as usize) else {
@@ -69,10 +78,11 @@ pub fn merged<S: Side, B: Room>(
         let Some(made) = rest.take() else {
             unreachable!()
         };
-        if made.bound != number_meant(numbers.as_slice(), &line.call) {
+        if made.bound != bound_needed(names.as_slice(), &line.call) {
             return Err(Unmerged::Differ);
         }
-        tell(&mut output, &mut numbers, line, &made.answer)?;
+        let bound = made.binding(line.pass as usize);
+        tell(&mut output, &mut names, line, &made.answer, bound)?;
     }
     Ok((output, sides))
 }

@@ -102,10 +102,10 @@ fn played<S: Side + Send, B: Room + Send + Sync, R: Threads + Wait + Sync, G: Ga
     Ok((output, met_in_turn(sides, None)))
 }
 
-/// Runs each pass's lines in a thread of its own, in the order of the script. A line that uses a name waits until it is
-/// bound, and its entry comes after the insert that bound it. Returns the reply lines in the order of the script's
-/// lines. Returns also the pass that carries the tale of all once all owners have left and all passes have met; no pass
-/// if an owner could not leave. `Io` if a thread can't be started.
+/// Runs each pass's lines in a thread of its own, in the order of the script. A line that needs a name waits until it is
+/// bound, and its entry comes after all that the binding pass did so far. Returns the reply lines in the order of the
+/// script's lines. Returns also the pass that carries the tale of all once all owners have left and all passes have met;
+/// no pass if an owner could not leave. `Io` if a thread can't be started.
 pub fn threads_lines<S: Side + Send, R: Threads + Wait + Sync, G: Gate + Sync>(
     rt: &R,
     alloc: Global,

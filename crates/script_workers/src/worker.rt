@@ -1,19 +1,18 @@
 //! Workers: each makes the calls of one pass, in the order of the script.
-ghost use Rattle.std.specs.Prelude.{◌≡◌, ◌≤◌, length, [], None, IfSome, MatchOption, true};
+ghost use Rattle.std.specs.Prelude.{◌≡◌, ◌≤◌, length, [], IfSome, MatchOption, cond};
 ghost use Rattle.std.specs.List.{list_any};
 ghost use Rattle.std.specs.Vec.{vec_capacity};
 ghost use Rattle.script_output.specs.Keys.{HasTagRoom};
+ghost use Rattle.script_calls.specs.InOrder.{Covers, adds_entry};
 ghost use Rattle.script_calls.specs.Parts.{new_part, new_pass};
-ghost use Rattle.script_calls.specs.Calls.{binds, name_used, number_told};
-ghost use Rattle.script_calls.specs.Named.{tells_number};
 ghost use Rattle.script_calls.specs.Receipts.{receipt_seen};
 ghost use Rattle.script_workers.specs.Boards.{MayHearName};
-ghost use Rattle.script_workers.specs.Works.{own_calls, is_line_of, IsWork};
+ghost use Rattle.script_workers.specs.Works.{own_calls, is_line_of, bound_by, bound_number, IsWork};
 
-use crate::board::{Binding, Board};
+use crate::board::{Binding, Board, Bound};
 use crate::gate::Gate;
 use crate::room::Room;
-use script_calls::line::{answered, binds, name_used, number_told};
+use script_calls::line::{adds_entry, answered, binds, name_needed, number_told};
 use script_calls::side::Side;
 use script_output::Answer;
 use sh_script::{Call, CallLine};
@@ -31,11 +30,26 @@ pub struct Shared<'a, G: Gate, B: Room> {
     pub gate: &'a G,
 }
 
-/// A call that was made: the number that its name was bound to, if it is on a name, and its answer.
+/// A call that was made: what the name that it needs was bound to, if it needs one, its answer, and how many entries its
+/// pass had then.
 #[derive(Drop)]
 pub struct Made {
-    pub bound: Option<u64>,
+    pub bound: Option<Bound>,
     pub answer: Answer,
+    pub entries: usize,
+}
+
+impl Made {
+    /// What the call, made by this pass, binds its name to, if it binds one.
+    pub fn binding(&self, pass: usize) -> Bound
+        ensures { result ≡ bound_by pass self.now }
+    {
+        Bound {
+            number: number_told(&self.answer),
+            pass,
+            entries: self.entries,
+        }
+    }
 }
 
 /// A pass with its calls. To a contract it is the pass's number.
@@ -43,15 +57,16 @@ pub struct Made {
 pub struct Worker<S: Side, B: Room> {
     number: usize,
     side: S,
-    // The number of lines that it has passed, and of names that they bind.
+    // The number of lines that it has passed, of names that they bind, and of entries that its own ones added.
     next: usize,
     names: usize,
+    entries: usize,
     made: Vec<Made>,
     room: PhantomData<B>,
 }
 
 impl<S: Side, B: Room> Model for Worker<S, B> {
-    ghost use Rattle.std.specs.Prelude.{ℕ, ◌≤◌, take, length};
+    ghost use Rattle.std.specs.Prelude.{ℕ, ◌≡◌, ◌≤◌, take, length};
     ghost use Rattle.std.specs.Vec.{vec_capacity};
     ghost use Rattle.script_calls.specs.Parts.{new_part};
     ghost use Rattle.script_workers.specs.Works.{own_calls, IsWork};
@@ -62,51 +77,53 @@ impl<S: Side, B: Room> Model for Worker<S, B> {
 
     ghost invariant = { λ w. IsWork B.heap B.terms B.tag (take w.next B.lines) w.number
         (new_part B.heap w.number) (S.seen w.side) w.made.items × (w.names ≤ w.next)
-        × (length (own_calls w.number B.lines) ≤ vec_capacity w.made) };
+        × (length (own_calls w.number B.lines) ≤ vec_capacity w.made)
+        × (w.entries ≡ length (S.seen w.side).part.log) × (w.entries ≤ w.next) };
 }
 
-// The number that the name of the call is bound to. If the call is on a name, the pass waits for it and heeds the
-// receipt that comes with it. A `wait` waits too, but has no number. `None` if the board is closed.
+// What the name that the call needs is bound to, if it needs one: the pass waits for it, and heeds the receipt that comes
+// with it. `None` if the board is closed.
 fn awaited<S: Side, B: Room, R: Wait>(
     rt: &R,
     board: &Board<B>,
     side: &mut S,
     call: &Call,
-) -> Option<Option<u64>>
+) -> Option<Option<Bound>>
     requires heap { (S.seen side.old).heap ≡ B.heap }
     ensures heard { MatchOption result (S.seen side.new ≡ S.seen side.old)
-        (λ number. MayHearName B.tag number (S.seen side.old) (S.seen side.new)) }
-    ensures unnamed { name_used call.now ≡ None → IfSome result (λ number. number ≡ None) }
+        (λ bound. MayHearName bound (S.seen side.old) (S.seen side.new)) }
 {
-    if let Call::Wait(name) = call {
-        return match board.wait(rt, *name, side) {
-            Some(_) => Some(None),
-            None => None,
-        };
-    }
-    match name_used(call) {
-        Some(name) => board.wait(rt, name, side),
-        None => Some(None),
+    let Some(name) = name_needed(call) else {
+        return Some(None);
+    };
+    match board.wait(rt, name, side) {
+        Some(bound) => Some(Some(bound)),
+        None => None,
     }
 }
 
-// Binds the name, if the call binds one, to the number that the call returned, if it returned one. A receipt of the
-// pass comes with it.
+// The number that the name of a call is bound to, if it is bound to one.
+fn number_bound(bound: Option<Bound>) -> Option<u64>
+    ensures { result ≡ bound_number bound }
+{
+    bound?.number
+}
+
+// Binds the name, if the call binds one. A receipt of the pass comes with it.
 fn bind<S: Side, B: Room, R: Wait>(
     rt: &R,
     board: &Board<B>,
     name: usize,
     side: &mut S,
     call: &Call,
-    answer: &Answer,
+    bound: Bound,
 )
     requires heap { (S.seen side.old).heap ≡ B.heap }
-    requires tells { binds call.now ≡ true
-        → tells_number B.tag (receipt_seen (S.seen side.old)).heard (number_told answer.now) ≡ true }
+    requires covers { Covers (receipt_seen (S.seen side.old)).heard bound.pass bound.entries }
     ensures { S.seen side.new ≡ S.seen side.old }
 {
     if binds(call) {
-        let binding = Binding::new(number_told(answer), side.receipt());
+        let binding = Binding::new(bound, side.receipt());
         board.bind(rt, name, binding);
     }
 }
@@ -116,6 +133,14 @@ fn names_bound(call: &Call) -> usize
     ensures { result ≤ 1 }
 {
     if binds(call) { 1 } else { 0 }
+}
+
+// The number of entries that the call, with this answer, added.
+fn entries_added(call: &Call, answer: &Answer) -> usize
+    ensures is { result ≡ cond (adds_entry call.now answer.now) 1 0 }
+    ensures few { result ≤ 1 }
+{
+    if adds_entry(call, answer) { 1 } else { 0 }
 }
 
 impl<S: Side, B: Room> Worker<S, B> {
@@ -136,16 +161,23 @@ impl<S: Side, B: Room> Worker<S, B> {
             let Some(bound) = awaited(rt, shared.board, &mut self.side, &line.call) else {
                 return false;
             };
-            let answer = answered(shared.alloc, &mut self.side, shared.tag, &line.call, bound);
+            let number = number_bound(bound);
+            let answer = answered(shared.alloc, &mut self.side, shared.tag, &line.call, number);
+            self.entries += entries_added(&line.call, &answer);
+            let made = Made {
+                bound,
+                answer,
+                entries: self.entries,
+            };
             bind(
                 rt,
                 shared.board,
                 self.names,
                 &mut self.side,
                 &line.call,
-                &answer,
+                made.binding(self.number),
             );
-            self.made.push_reserved(Made { bound, answer });
+            self.made.push_reserved(made);
             shared.gate.after(self.number, call);
         }
         self.names += names_bound(&line.call);
@@ -195,6 +227,7 @@ impl<S: Side, B: Room> Worker<S, B> {
             side,
             next: 0,
             names: 0,
+            entries: 0,
             made,
             room: PhantomData,
         }
@@ -214,6 +247,7 @@ impl<S: Side, B: Room> Worker<S, B> {
             side,
             next: _,
             names: _,
+            entries: _,
             made,
             room: _,
         } = self;

@@ -6,7 +6,7 @@ ghost use Rattle.sh_script.specs.declared.calls.CallLine.{CallLine};
 use crate::assertions::{agree, holds};
 use script_calls::side::Side;
 use script_heap::heap_lines::{HeapMember, members};
-use script_workers::board::{Binding, Board};
+use script_workers::board::{Binding, Board, Bound};
 use script_workers::gate::{Gate, OpenGate};
 use script_workers::room::Room;
 use script_workers::threads::threads_lines;
@@ -39,24 +39,31 @@ fn replies<R: Threads + Wait + Sync, G: Gate + Sync>(
     Ok(output)
 }
 
-// The number that a closed board of two names returns for a name. The first name is bound to no number.
+// A name of a pass that has no entries.
+const UNNUMBERED: Bound = Bound {
+    number: None,
+    pass: 0,
+    entries: 0,
+};
+
+// What a closed board of two names returns for a name. The first name is bound to no number.
 fn told_once_closed<S: Side, B: Room, R: Wait>(
     rt: &R,
     alloc: Global,
     side: S,
     name: usize,
-) -> Result<Option<Option<u64>>, AllocError>
+) -> Result<Option<Bound>, AllocError>
     requires { (S.seen side).heap ≡ B.heap }
 {
     let mut side = side;
     let board = Board::<B>::new(alloc, 2)?;
-    board.bind(rt, 0, Binding::new(None, side.receipt()));
+    board.bind(rt, 0, Binding::new(UNNUMBERED, side.receipt()));
     board.close(rt);
     Ok(board.wait(rt, name, &mut side))
 }
 
 // The same, for a pass of a new heap.
-fn told_of<R: Wait>(rt: &R, alloc: Global, name: usize) -> Result<Option<Option<u64>>, Fault> {
+fn told_of<R: Wait>(rt: &R, alloc: Global, name: usize) -> Result<Option<Bound>, Fault> {
     let Ok(shape) = Shape::new(1, 1, 2) else {
         return Err(Fault::BadShape);
     };
@@ -78,7 +85,7 @@ fn a_closed_board_tells_of_what_is_bound_and_waits_for_nothing(rt: HostRuntime) 
     let bound = told_of(&rt, rt.alloc(), 0).expect(&rt, "it runs");
     let open = told_of(&rt, rt.alloc(), 1).expect(&rt, "it runs");
     let absent = told_of(&rt, rt.alloc(), 2).expect(&rt, "it runs");
-    agree(&rt, bound, Some(None));
+    agree(&rt, bound, Some(UNNUMBERED));
     agree(&rt, open, None);
     agree(&rt, absent, None);
 }

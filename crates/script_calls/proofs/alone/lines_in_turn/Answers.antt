@@ -69,19 +69,18 @@ loop-line-preserved g c =
     let now = seen c.answered-answer.new.side in
     let a = c.answered-answer.result in
     let bound : c.number_meant-bound.result ≡ number_meant c.loop-line.numbers.items l.call = search rules in
-    let named : c.tell.new.numbers.items ≡ with_number c.loop-line.numbers.items l.call a = search rules in
+    let named : c.tell.new.names.items ≡ with_number c.loop-line.numbers.items l.call a = search rules in
     let printed : c.tell.new.output.items ≡ c.loop-line.output.items ++ reply_line l a = search rules in
     let D : Option ℕ → Type 0 = λ b. CallAnswers mid.terms c.args.tag mid.pass mid.part l.call b a now.part in
     let put : map seen (set c.loop-line.sides.items l.pass c.receipt.new.self) ≡ set (map seen c.loop-line.sides.items)
     l.pass now = map_set seen c.loop-line.sides.items l.pass c.receipt.new.self
     ∙ ap (set (map seen c.loop-line.sides.items) l.pass) c.receipt.ensures.same in
-    let room : HasTagRoom g.at.1.layout c.args.tag = search rules in
     let stands : PartIsTrue now.terms.layout now.part = c.whole-known.ensures.stands in
     ordered_more g.at.0 g.at.1 c.args.tag c.args.lines.now c.loop-line.line-index c.loop-line.numbers.items
     (map seen c.loop-line.sides.items) c.loop-line.output.items c.loop-line.last
     c.loop-line.invariant l at side mid now own c.heed_last.ensures
-    c.answered-answer.ensures.same a room (subst D bound c.answered-answer.ensures.does) stands
-    c.tell.new.numbers.items _ c.tell.new.output.items c.receipt.result named put printed c.receipt.ensures.tells
+    c.answered-answer.ensures.same a (subst D bound c.answered-answer.ensures.does) stands
+    c.tell.new.names.items _ c.tell.new.output.items c.receipt.result named put printed c.receipt.ensures.tells
 
 pub met_in_turn-requires : goal.met_in_turn-requires
 met_in_turn-requires g c κs within = (
