@@ -29,7 +29,7 @@ steps_decide x y = (
 stories_decide : (xs ys : List Step) → Decides (pointwise step_eq.eq-value.it xs ys) (xs ≡ ys)
 stories_decide xs ys = slice_eq-Decides steps_decide xs ys (pointwise step_eq.eq-value.it xs ys) refl
 
-lane_decides : (x y : Lane) → Decides (lane_eq.eq-value.it x y) (did x ≡ did y)
+pub lane_decides : (x y : Lane) → Decides (lane_eq.eq-value.it x y) (did x ≡ did y)
 lane_decides x y =
     let story = stories_decide x.story.items y.story.items in
     let replies = bytes_eq-Decides x.replies.items y.replies.items in

@@ -30,6 +30,7 @@ mod Cutting
 mod FoundLists
 mod FoundTests
 mod Seeing
+mod Again
 mod CountedLines
 mod Words
 mod Answered

@@ -13,7 +13,7 @@ use Rattle.sh_step.specs.Plans.{plan_of}
 use Rattle.sh_core.specs.declared.accounts.Accounts.{Accounts}
 use Rattle.sh_core.specs.Kept.{KeptWorld, HoldsWords, Represents, FromEvents}
 use Rattle.sh_core.specs.Lists.{accounts, class_named, lists_of}
-use Rattle.sh_core.specs.Refines.{Always, KindsAddUp}
+use Rattle.sh_core.specs.Refines.{Always, OneKind}
 use Rattle.sh_core.specs.Worlds.{run}
 use Rattle.sh_core.proofs.Clauses.RunTheorem.{theorem}
 use Rattle.script_output.specs.Accounts.{AreAccounts, class_word, counted, no_slots}
@@ -45,8 +45,8 @@ text_same shape f g h =
 
 -- ---- what is counted does not depend on the log
 
-kinds : Always (λ plan w l. KindsAddUp w l)
-kinds layout shape a b f es = (theorem layout shape a b f es).kinds
+kinds : Always (λ plan w l. OneKind w l)
+kinds layout shape a b f es = (theorem layout shape a b f es).one_kind
 
 module _ (layout : Layout) (k : KeptWorld) (log : List Entry) (q : ℕ) (reached : FromEvents layout k)
     (also : FromEvents layout (record k { log = log })) (there : q < all_pages k.shape) where

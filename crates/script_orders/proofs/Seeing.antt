@@ -1,12 +1,9 @@
 -- What an event's step sees and leaves is what the code looks up.
-use Rattle.std.proofs.Common.{◌≡◌, ℕ, ◌<◌, ◌^◌, Bool, true, false, cond, List, get_or, Option, Some, None}
-use Rattle.std.proofs.Common.{slice_get, refl, sym, ap, ◌∙◌, subst, inl, inr, eq-eqb, ne_eqb}
+use Rattle.std.proofs.Common.{◌≡◌, ℕ, ◌<◌, ◌^◌, true, false, List, get_or, Option, Some, None}
+use Rattle.std.proofs.Common.{slice_get, refl, sym, ap, ◌∙◌, subst}
 use Rattle.std.specs.Prelude.{option_map, is_some}
-use Rattle.std.proofs.lemmas.Bool.{cases_eq}
 use Rattle.sh_key.specs.Layout.{Layout}
-use Rattle.sh_shape.specs.declared.places.Place.{Place}
 use Rattle.sh_shape.specs.Places.{IsPlace, number}
-use Rattle.sh_shape.proofs.PlaceLaws.{places_differ}
 use Rattle.sh_slots.specs.declared.reply.Reply.{Reply}
 use Rattle.sh_step.specs.declared.action.Event.{Event}
 use Rattle.sh_step.specs.declared.body.Body.{Body}
@@ -19,15 +16,13 @@ use Rattle.sh_step.proofs.StepLaws.{steps_same}
 use Rattle.sh_core.specs.declared.outcome.Outcome.TheVariants.{Moved}
 use Rattle.sh_core.specs.Kept.{KeptWorld, Represents, FromEvents, IsReady, word_at}
 use Rattle.sh_core.specs.Outcomes.{row_of_event, outcome_of, done}
-use Rattle.sh_core.specs.Words.{read, write}
-use Rattle.sh_core.specs.Worlds.{World, step, apply, entry_of, value_at_place}
-use Rattle.sh_core.proofs.Sums.Writes.{read_same, read_other}
+use Rattle.sh_core.specs.Words.{read}
+use Rattle.sh_core.specs.Worlds.{World, step, entry_of, value_at_place}
 use Rattle.sh_core.proofs.Words.Operating.{operation_has_room}
 use Rattle.sh_core.proofs.Words.Ready.{ready}
 use Rattle.sh_core.proofs.Words.Stepping.{outcome_done}
-use Rattle.sh_core.proofs.Words.Steps.{row_of_at, step_moves}
-use Rattle.script_orders.specs.Changes.{Leaves}
-use Rattle.script_orders.specs.Seen.{seen_in, Sees}
+use Rattle.sh_core.proofs.Words.Steps.{row_of_at}
+use Rattle.script_orders.specs.Seen.{seen_in, Sees, Touches}
 
 no_entry : (a : ℕ) (v : List ℕ) (o : Option Reply) → is_some o ≡ false → done (entry_of a v o) ≡ Moved
 no_entry a v None h = refl
@@ -78,33 +73,22 @@ module _ (layout : Layout) (k : KeptWorld) (e : Event) (part : Body) (m : Move) 
       looked ∙ ap (λ (n : ℕ). get_or k.words n 0) (at_place touched is_number)
       ∙ stands.words.at (row_of kept_plan part m).place ready_row.row.place
 
-  -- what it leaves
-  pub leaves : (touched found left : ℕ) → touched ≡ number k.shape (step_at kept_plan m).place
-      → found ≡ get_or k.words touched 0 → left ≡ operate (step_at kept_plan m).operation found
-      → (w : World) → Represents k w → Leaves k.shape kept_plan w e touched left
-  unfolding row apply
-  leaves touched found left is_number looked is_left w stands place within =
-      let made = row_of kept_plan part m in
-      let done : step kept_plan w e ≡ apply w e.pass made =
-      step_moves kept_plan w e part made (made_here w stands) (ap (option_map (row_of kept_plan part)) is) in
-      let same = at_place touched is_number in
-      let new : ℕ = operate made.operation (read w.words made.place) in
-      let leaves_it : new ≡ left = sym (is_left
-      ∙ ap (λ (s : Step). operate s.operation found) (sym (steps_same kept_plan part m))
-      ∙ ap (operate made.operation) (word_found touched found is_number looked w stands)) in
-      let was : ℕ = read w.words place in
-      ap (λ (v : World). read v.words place) done ∙ elim (cases_eq (number k.shape place) touched) [
-        | inl here ↦
-            let there : place ≡ made.place =
-            places_differ k.shape place made.place within ready_row.row.place (here ∙ same) in
-            ap (λ (p : Place). read (write w.words made.place new) p) there
-            ∙ read_same w.words made.place new
-            ∙ leaves_it
-            ∙ sym (ap (λ (b : Bool). cond b left was) (eq-eqb (number k.shape place) touched here))
-        | inr ne ↦
-            read_other w.words made.place place new (λ (h : place ≡ made.place). ne (ap (number k.shape) h ∙ sym same))
-            ∙ sym (ap (λ (b : Bool). cond b left was) (ne_eqb (number k.shape place) touched ne))
-      ]
+  -- what it touches, finds and leaves
+  pub touches : (touched found seen left : ℕ) → touched ≡ number k.shape (step_at kept_plan m).place
+      → found ≡ get_or k.words touched 0 → seen ≡ seen_in kept_plan m found
+      → left ≡ operate (step_at kept_plan m).operation found → (w : World) → Represents k w
+      → Touches k.shape kept_plan w e touched found seen left
+  touches touched found seen left is_number looked is_seen is_left w stands = record {
+    part = part;
+    the_move = m;
+    at = made_here w stands;
+    is = is;
+    within = ready_row.row.place;
+    number_is = sym (at_place touched is_number);
+    finds = sym (word_found touched found is_number looked w stands);
+    seen_is = is_seen;
+    leaves = is_left ∙ ap (λ (s : Step). operate s.operation found) (sym (steps_same kept_plan part m));
+  }
 
   -- it leaves a word, since what it found has room
   pub step_has_room : (touched found : ℕ) → touched ≡ number k.shape (step_at kept_plan m).place

@@ -12,6 +12,7 @@ pub mod Weights
 pub mod Steps
 pub mod Cuts
 pub mod Walks
+pub mod Known
 pub mod Printed
 pub mod Texts
 pub mod Comments

@@ -9,7 +9,10 @@ use Rattle.sh_step.specs.declared.action.Event.{Event}
 use Rattle.sh_step.specs.declared.body.Body.{Body}
 use Rattle.sh_step.specs.declared.moves.Move.{Move}
 use Rattle.sh_step.specs.declared.moves.Move.TheVariants as move
+use Rattle.sh_shape.specs.Places.{IsPlace, number}
+use Rattle.sh_shape.specs.Shape.{Numbers}
 use Rattle.sh_step.specs.Moves.{move_of, row_of}
+use Rattle.sh_step.specs.Operations.{operate}
 use Rattle.sh_step.specs.Plans.{Plan}
 use Rattle.sh_core.specs.Words.{read}
 use Rattle.sh_core.specs.Worlds.{World}
@@ -59,6 +62,18 @@ pub record Sees (plan : Plan) (w : World) (e : Event) (seen : ℕ) : Type 0 wher
   pub at : slice_get w.parts e.pass ≡ Some part
   pub is : move_of plan part e.action ≡ Some the_move
   pub seen_is : seen ≡ seen_in plan the_move (read w.words (row_of plan part the_move).place)
+
+-- The event's step touches the word of this number. It finds this word, which is seen so, and leaves that one
+pub record Touches (shape : Numbers) (plan : Plan) (w : World) (e : Event) (touched found seen left : ℕ) : Type 0 where
+  pub part : Body
+  pub the_move : Move
+  pub at : slice_get w.parts e.pass ≡ Some part
+  pub is : move_of plan part e.action ≡ Some the_move
+  pub within : IsPlace shape (row_of plan part the_move).place
+  pub number_is : number shape (row_of plan part the_move).place ≡ touched
+  pub finds : read w.words (row_of plan part the_move).place ≡ found
+  pub seen_is : seen ≡ seen_in plan the_move found
+  pub leaves : left ≡ operate (row_of plan part the_move).operation found
 
 -- the step is done on a word that is seen so, and leads from one part to the other
 pub record DoesStep (plan : Plan) (lines : List Event) (step : Step) (before after : Body) : Type 0 where

@@ -1,7 +1,7 @@
 //! Words that are not as the lines begin.
 ghost use Rattle.std.specs.Prelude.{◌≡◌, ◌++◌, nat_lt, OnOk, IfOk};
 ghost use Rattle.std.specs.List.{filter};
-ghost use Rattle.script_orders.specs.Changes.{changes_of, changes_with};
+ghost use Rattle.script_orders.specs.Changes.{changes_of, changes_with, word_in};
 
 use std::alloc::{AllocError, Global};
 
@@ -52,6 +52,18 @@ fn push_word(
     }
     out.push(Change { number, word })?;
     Ok(())
+}
+
+/// The word of this number by the changes. As the lines begin it is `was`.
+pub fn word_of(changes: &[Change], number: usize, was: u64) -> u64
+    ensures { result ≡ word_in changes.now number was }
+{
+    for change in changes {
+        if change.number == number {
+            return change.word;
+        }
+    }
+    was
 }
 
 /// The changes once the word of this number is `word`. As the lines begin it is `opening`. Changes are in the order of

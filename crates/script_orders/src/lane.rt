@@ -114,6 +114,13 @@ pub fn new_lanes(alloc: Global, passes: u32) -> Result<Vec<Rc<Lane>>, AllocError
     Ok(lanes)
 }
 
+/// The same lane, shared.
+pub fn share_lane(lane: &Rc<Lane>) -> Result<Rc<Lane>, AllocError>
+    ensures { IfOk result (λ copy. did copy.value ≡ did lane.now.value) }
+{
+    lane.clone()
+}
+
 /// The same lanes, shared.
 pub fn share_lanes(alloc: Global, lanes: &[Rc<Lane>]) -> Result<Vec<Rc<Lane>>, AllocError>
     ensures { IfOk result (λ copies. map (λ lane. did lane.value) copies.items

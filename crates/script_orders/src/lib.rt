@@ -13,6 +13,7 @@ pub mod comments;
 pub mod expected;
 pub mod found;
 mod heap;
+mod known;
 mod lane;
 mod level;
 mod next;

@@ -1,8 +1,6 @@
 //! Doing lines on a heap.
 ghost use Rattle.std.specs.Prelude.{◌≡◌, ◌<◌, false, None, MatchOption, IfSome, IfOk, OnErr, Ok, is_some, length};
 ghost use Rattle.std.specs.Prelude.{slice_index};
-ghost use Rattle.sh_shape.specs.declared.places.Place.{Place};
-ghost use Rattle.sh_shape.specs.Places.{IsPlace, number};
 ghost use Rattle.sh_step.specs.declared.body.Body.{Body};
 ghost use Rattle.sh_step.specs.Moves.{row_of};
 ghost use Rattle.sh_step.specs.Plans.{Plan, plan_of};
@@ -10,8 +8,7 @@ ghost use Rattle.sh_core.specs.declared.outcome.Outcome.TheVariants.{Moved};
 ghost use Rattle.sh_core.specs.Kept.{Represents, StepsWorld, RunsWorld};
 ghost use Rattle.sh_core.specs.Outcomes.{row_of_event, outcome_of};
 ghost use Rattle.sh_core.specs.Worlds.{World as Core};
-ghost use Rattle.script_orders.specs.Changes.{Leaves};
-ghost use Rattle.script_orders.specs.Seen.{Sees};
+ghost use Rattle.script_orders.specs.Seen.{Sees, Touches};
 
 use crate::found::Program;
 use crate::seen::seen;
@@ -47,7 +44,9 @@ pub fn opened<L: KeyLayout>(alloc: Global, program: &Program<'_>) -> Result<Worl
 pub struct Touch {
     /// The number of the word.
     pub number: usize,
-    /// The word that is found, as far as it matters to the pass.
+    /// The word that is found.
+    pub found: u64,
+    /// The same, as far as it matters to the pass.
     pub seen: u64,
     /// The word that is left.
     pub left: u64,
@@ -85,12 +84,11 @@ pub fn touch_of<L: KeyLayout>(world: &World<L>, event: &Event) -> Option<Touch>
         ((w : Core) → Represents world.now w → row_of_event (plan_of L.layout world.now.shape) w event.now ≡ None)
         (λ touch. (w : Core) → Represents world.now w
         → Sees (plan_of L.layout world.now.shape) w event.now touch.seen) }
-    ensures leaves { IfSome result (λ touch. (w : Core) → Represents world.now w
-        → Leaves world.now.shape (plan_of L.layout world.now.shape) w event.now touch.number touch.left) }
+    ensures touches { IfSome result (λ touch. (w : Core) → Represents world.now w
+        → Touches world.now.shape (plan_of L.layout world.now.shape) w event.now touch.number touch.found touch.seen
+        touch.left) }
     ensures quiet { IfSome result (λ touch. touch.replies ≡ false → (w : Core) → Represents world.now w
         → Moved ≡ outcome_of (plan_of L.layout world.now.shape) w event.now) }
-    ensures place { IfSome result (λ touch. (place : Place) × IsPlace world.now.shape place
-        × (number world.now.shape place ≡ touch.number)) }
     ensures within { IfSome result (λ touch. touch.number < length world.now.words) }
 {
     let shape = world.shape();
@@ -104,6 +102,7 @@ pub fn touch_of<L: KeyLayout>(world: &World<L>, event: &Event) -> Option<Touch>
     let replies = has_reply(&the_move, found);
     Some(Touch {
         number,
+        found,
         seen,
         left,
         replies,

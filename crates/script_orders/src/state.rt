@@ -2,6 +2,7 @@
 ghost use Rattle.std.specs.Prelude.{◌≡◌, ◌++◌, ◌<◌, [], Some, None, MatchOption, OnOk, IfOk, length, map, slice_get};
 ghost use Rattle.std.specs.Prelude.{replicate, vec_items};
 ghost use Rattle.sh_key.specs.Layout.{Layout};
+ghost use Rattle.std.specs.Rc.{rc_value};
 ghost use Rattle.script_orders.specs.Bytes.{counted, state_bytes};
 ghost use Rattle.script_orders.specs.Lanes.{did, nothing};
 ghost use Rattle.script_orders.specs.Orders.{is_of, lines_within};
@@ -85,18 +86,18 @@ impl State {
         alloc: Global,
         lines: &[Event],
         pass: u32,
-        lane: Lane,
+        lane: Rc<Lane>,
         changes: Vec<Change>,
     ) -> Result<State, AllocError>
         requires { pass < length self.now.lanes.items }
-        ensures { IfOk result (Follows lines.now pass (did lane) changes.items self.now) }
+        ensures { IfOk result (Follows lines.now pass (did (rc_value lane)) changes.items self.now) }
     {
         let mut order = Vec::from_slice(alloc, self.order.as_slice())?;
         let mut passes = Vec::from_slice(alloc, self.passes.as_slice())?;
         let mut lanes = share_lanes(alloc, self.lanes.as_slice())?;
         let behind = self.lanes[pass as usize].behind;
         push_lines(&mut order, lines, pass, behind, lane.behind)?;
-        lanes[pass as usize] = Rc::new(alloc, lane)?;
+        lanes[pass as usize] = lane;
         passes.push(pass)?;
         Ok(State {
             order,

@@ -8,6 +8,7 @@ ghost use Rattle.script_orders.specs.declared.found.Program.{Program};
 ghost use Rattle.script_orders.specs.declared.state.State.{State};
 ghost use Rattle.script_orders.specs.Counts.{CountsEnd};
 ghost use Rattle.script_orders.specs.Cuts.{steps_done, AllAfter, Passes, IsCutRightly};
+ghost use Rattle.script_orders.specs.Known.{IsKnown};
 ghost use Rattle.script_orders.specs.States.{HasAlike};
 ghost use Rattle.script_orders.specs.Steps.{AllOnce, AreCounted, AreOnce};
 ghost use Rattle.script_orders.specs.Walks.{GoesTo, IsFollowed, GoesOn, HasEnd, IsSame, KeepsFound, AllRest};
@@ -15,56 +16,54 @@ ghost use Rattle.script_orders.specs.Walks.{StepsTo, GoesFrom, AddsFound, AddsEn
 ghost use Rattle.script_orders.specs.Reached.{world_by, pages_by, pages_asked, lanes_of, HasPlayed, IsReached, Rests};
 ghost use Rattle.script_orders.specs.Reached.{IsOutcome, AreOutcomes, Has, IsComplete};
 
-use crate::changes::with_word;
 use crate::found::{Cut, Explored, Found, Limit, Program, Whole};
 use crate::heap::{Heap, played};
+use crate::known::{Known, known_at, next_step, state_after};
+use crate::lane::share_lane;
 use crate::level::Level;
-use crate::next::next_line;
 use crate::orders::Orders;
-use crate::play::touch_of;
 use crate::room::Room;
 use crate::state::State;
 use script_output::account_line::push_accounts;
 use sh_key::KeyLayout;
 use std::alloc::{AllocError, Global};
 
-// The state once the pass did its next line, if it has one.
+// At most so many next steps are known at a time.
+const MOST_KNOWN: usize = 1024;
+
+// The state once the pass did its next line, if it has one. What it does next is looked up, or done on the heap.
 fn gone_on<L: KeyLayout>(
     alloc: Global,
     program: &Program<'_>,
     heap: &mut Heap<L>,
+    known: &mut Vec<Known>,
     state: &State,
     pass: u32,
 ) -> Result<Option<State>, AllocError>
     requires heap { HasPlayed L.layout program.now heap.old.opening.items heap.old.order.items heap.old.world }
+    requires known { All (IsKnown L.layout program.now) known.old.items }
     requires reached { IsReached L.layout program.now state.now }
     ensures heap { OnOk result (HasPlayed L.layout program.now heap.new.opening.items heap.new.order.items
         heap.new.world) }
+    ensures known { OnOk result (All (IsKnown L.layout program.now) known.new.items) }
     ensures next { IfOk result (λ next. MatchOption next (Rests L.layout program.now state.now pass)
         (GoesTo L.layout program.now pass state.now)) }
 {
-    heap.play(alloc, program, state.order.as_slice())?;
-    let Some(lane) = state.lane(pass) else {
+    let Some(lane) = state.lanes.get(pass as usize) else {
         return Ok(None);
     };
-    let Some(line) = next_line(&heap.world, program.lines, pass, lane.behind) else {
-        return Ok(None);
-    };
-    let Some(event) = program.lines.get(line) else {
-        return Ok(None);
-    };
-    let Some(touch) = touch_of(&heap.world, event) else {
-        return Ok(None);
-    };
-    let behind = lane.behind;
-    let words = heap.opening.as_slice();
-    let opening = words[touch.number];
-    let outcome = heap.outcome(program, pass, behind, line, event, touch.replies)?;
-    let lane = lane.after(alloc, line, touch.seen, event, &outcome)?;
-    let old = state.changes.as_slice();
-    let changes = with_word(alloc, old, touch.number, opening, touch.left)?;
-    let next = state.after(alloc, program.lines, pass, lane, changes)?;
-    Ok(Some(next))
+    let opening = heap.opening.as_slice();
+    let changes = state.changes.as_slice();
+    if let Some(place) = known_at(known.as_slice(), opening, changes, pass, lane.as_ref()) {
+        return state_after::<L>(alloc, program, heap, state, pass, &known[place].next);
+    }
+    let next = next_step::<L>(alloc, program, heap, state, pass)?;
+    let after = state_after::<L>(alloc, program, heap, state, pass, &next)?;
+    if known.len() < MOST_KNOWN {
+        let lane = share_lane(lane)?;
+        known.push(Known { pass, lane, next })?;
+    }
+    Ok(after)
 }
 
 // Puts the states after one further step among the next ones, and returns whether there are any.
@@ -72,14 +71,17 @@ fn go_on<L: KeyLayout>(
     alloc: Global,
     program: &Program<'_>,
     heap: &mut Heap<L>,
+    known: &mut Vec<Known>,
     state: &State,
     next: &mut Level,
 ) -> Result<bool, AllocError>
     requires heap { HasPlayed L.layout program.now heap.old.opening.items heap.old.order.items heap.old.world }
+    requires known { All (IsKnown L.layout program.now) known.old.items }
     requires reached { IsReached L.layout program.now state.now }
     requires all { All (IsReached L.layout program.now) next.old.states.items }
     ensures heap { OnOk result (HasPlayed L.layout program.now heap.new.opening.items heap.new.order.items
         heap.new.world) }
+    ensures known { OnOk result (All (IsKnown L.layout program.now) known.new.items) }
     ensures all { OnOk result (All (IsReached L.layout program.now) next.new.states.items) }
     ensures rests { IfOk result (λ goes_on. goes_on ≡ false
         → (pass : ℕ) → pass < program.now.shape.passes → Rests L.layout program.now state.now pass) }
@@ -94,7 +96,7 @@ fn go_on<L: KeyLayout>(
 {
     let mut goes_on = false;
     for pass in 0..program.shape.passes() {
-        if let Some(after) = gone_on::<L>(alloc, program, heap, state, pass)? {
+        if let Some(after) = gone_on::<L>(alloc, program, heap, known, state, pass)? {
             next.add(alloc, after)?;
             goes_on = true;
         }
@@ -233,8 +235,9 @@ fn next_level<L: KeyLayout>(
         after.states.items whole.old.found.items whole.new.found.items)) }
 {
     let mut next = Level::new(alloc);
+    let mut known = Vec::new(alloc);
     for state in &level.states {
-        if !go_on::<L>(alloc, program, heap, state, &mut next)? {
+        if !go_on::<L>(alloc, program, heap, &mut known, state, &mut next)? {
             add_end::<L>(alloc, program, state, whole)?;
         }
         if let Some(limit) = room.passed(level, &next, whole) {

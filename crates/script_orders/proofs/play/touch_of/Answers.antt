@@ -15,7 +15,8 @@ use Rattle.sh_core.specs.Worlds.{World}
 use Rattle.script_orders.specs.declared.play.Touch.{Touch}
 use Rattle.script_orders.specs.Seen.{Sees}
 use Rattle.sh_core.proofs.Words.Stepping.{row_of_past}
-use Rattle.script_orders.proofs.Seeing.{step_has_place, step_stores, step_has_room, sees, leaves, quiet, no_move_no_row}
+use Rattle.script_orders.proofs.Seeing.{step_has_place, step_stores, step_has_room, sees, touches, quiet}
+use Rattle.script_orders.proofs.Seeing.{no_move_no_row}
 use Rattle.script_orders.proofs.Walked.{found_at}
 use Rattle.script_orders.proofs.play.touch_of.Goals as goal
 
@@ -136,8 +137,8 @@ returns-clause-is g c =
     λ w stands. sees layout k e part m c.shape-shape.ensures.reached at is found c.seen-seen.result
     (looked ∙ ap (λ (i : ℕ). get_or k.words i 0) place) (c.seen-seen.ensures k.shape) w stands
 
-pub returns-clause-leaves : goal.returns-clause-leaves
-returns-clause-leaves g c =
+pub returns-clause-touches : goal.returns-clause-touches
+returns-clause-touches g c =
     let layout = g.L.KeyLayout.layout in
     let k = c.args.world.now in
     let e = c.args.event.now in
@@ -157,8 +158,8 @@ returns-clause-leaves g c =
     let left : c.after-left.result ≡ operate (step_at (plan_of layout k.shape) m).operation found =
     c.after-left.ensures.is ∙ ap (λ (s : Step). operate s.operation found) c.step-step.ensures
     ∙ ap (λ (ns : Numbers). operate (step_at (plan_of layout ns) m).operation found) c.shape-shape.ensures.is in
-    λ w stands. leaves layout k e part m c.shape-shape.ensures.reached at is n found c.after-left.result place looked
-    left w stands
+    λ w stands. touches layout k e part m c.shape-shape.ensures.reached at is n found c.seen-seen.result
+    c.after-left.result place looked (c.seen-seen.ensures k.shape) left w stands
 
 pub returns-clause-quiet : goal.returns-clause-quiet
 returns-clause-quiet g c = λ none.
@@ -180,26 +181,3 @@ returns-clause-quiet g c = λ none.
     ∙ ap (λ (ws : List ℕ). get_or ws n 0) c.words.ensures.is in
     λ w stands. sym (quiet layout k e part m c.shape-shape.ensures.reached at is n found place looked
     (sym (c.has_reply-replies.ensures (plan_of layout k.shape) part) ∙ none) w stands)
-
-pub returns-clause-place : goal.returns-clause-place
-returns-clause-place g c =
-    let layout = g.L.KeyLayout.layout in
-    let k = c.args.world.now in
-    let e = c.args.event.now in
-    let part = c.in_ok-part.part.now in
-    let m = c.in_ok-the_move.the_move in
-    let look = c.in_ok-part.ensures.lookup in
-    let at = found_at c.parts.result.now k.parts e.pass part c.parts.ensures look.3.0 look.1 in
-    let is = sym (subst (λ (n : Numbers). Some m ≡ move_of (plan_of layout n) part e.action) c.shape-shape.ensures.is
-    c.in_ok-the_move.ensures) in
-    let n : ℕ = c.index-number.result in
-    let place : n ≡ number k.shape (step_at (plan_of layout k.shape) m).place =
-    c.index-number.ensures.is ∙ ap (λ (s : Step). number c.shape-shape.result s.place) c.step-step.ensures
-    ∙ ap (λ (ns : Numbers). number ns (step_at (plan_of layout ns) m).place) c.shape-shape.ensures.is in
-    let found : ℕ = c.word_at-found.result in
-    let looked : found ≡ get_or k.words n 0 = c.word_at-found.ensures
-    ∙ ap (λ (ws : List ℕ). get_or ws n 0) c.words.ensures.is in (
-      (step_at (plan_of layout k.shape) m).place,
-      step_has_place layout k e part m c.shape-shape.ensures.reached at is,
-      sym place,
-    )

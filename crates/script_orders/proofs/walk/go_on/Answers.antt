@@ -19,6 +19,7 @@ use Rattle.script_orders.proofs.walk.go_on.Goals.{in-Some+in_ok-add, in_default}
 pub loop-pass-init : goal.loop-pass-init
 loop-pass-init g c = record {
   played = c.requires.heap;
+  known = c.requires.known;
   all = c.requires.all;
   rests = λ h a less. absurd (omega arith);
   keeps = λ t h. h;
@@ -50,6 +51,7 @@ loop-pass-preserved g c =
           let keeps = keeps_alike old new after added in
           record {
             played = c.in_ok-after.ensures.heap;
+            known = c.in_ok-after.ensures.known;
             all = subst (λ (l : Level). All (IsReached layout p) l.states.items) (sym w.next-is)
                 (added_reached layout p old new after added held.all goes.reached);
             rests = λ h. absurd (let z : false ≡ true = sym h ∙ w.goes_on-is in cc);
@@ -80,6 +82,7 @@ loop-pass-preserved g c =
           w.in_default.is c.in_ok-after.ensures.next in
           record {
             played = c.in_ok-after.ensures.heap;
+            known = c.in_ok-after.ensures.known;
             all = subst (λ (l : Level). All (IsReached layout p) l.states.items) (sym w.next-is) held.all;
             rests = λ h. below_more _ _ (held.rests (sym w.goes_on-is ∙ h)) rests;
             keeps = λ t h. subst (λ (l : Level). HasAlike l.states.items t) (sym w.next-is) (held.keeps t h);

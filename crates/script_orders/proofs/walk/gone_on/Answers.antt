@@ -1,94 +1,84 @@
-use Rattle.std.proofs.Common.{rc_value, ◌≡◌, true, List, length, get_or, refl, subst, ◌∙◌, arith}
-use Rattle.std.proofs.lemmas.List.{length-map}
+use Rattle.std.proofs.Common.{rc_value, ◌≡◌, ℕ, List, sym, ap, subst, ◌∙◌, refl, Some, slice_get}
+use Rattle.std.specs.List.{All}
+use Rattle.std.specs.Prelude.{vec_items}
 use Rattle.std.proofs.lemmas.Option.{slice_get_within}
-use Rattle.sh_step.specs.declared.body.Body.{Body}
-use Rattle.sh_step.specs.Plans.{plan_of}
 use Rattle.script_orders.specs.declared.changes.Change.{Change}
-use Rattle.script_orders.specs.Changes.{changes_with}
-use Rattle.script_orders.specs.Lanes.{did}
-use Rattle.script_orders.specs.Reached.{world_by, is_due, lanes_of}
-use Rattle.script_orders.specs.States.{Follows}
-use Rattle.script_orders.proofs.Going.{runs_by, goes_by}
-use Rattle.script_orders.proofs.Skipped.{due_row}
-use Rattle.script_orders.proofs.Walked.{rests_past, rests_idle, found_at, due_within}
+use Rattle.script_orders.specs.declared.known.Known.{Known}
+use Rattle.script_orders.specs.declared.lane.Lane.{Lane}
+use Rattle.script_orders.specs.Known.{IsKnown, IsSo}
+use Rattle.script_orders.specs.Lanes.{Did, did}
+use Rattle.script_orders.specs.Reached.{lanes_of}
+use Rattle.script_orders.proofs.Added.{all_push}
+use Rattle.script_orders.proofs.Again.{known_next}
+use Rattle.script_orders.proofs.Walked.{rests_past, lane_at, lane_none, none_past, found_at}
 use Rattle.script_orders.proofs.walk.gone_on.Goals as goal
+use Rattle.script_orders.proofs.walk.gone_on.Goals.{then-len-lt-MOST_KNOWN+in_ok-lane+in_ok-push}
+use Rattle.script_orders.proofs.walk.gone_on.Goals.{else-len-lt-MOST_KNOWN+in-Some-1, else-len-lt-MOST_KNOWN+in-None-1}
 
 pub returns-in_default-clause-next : goal.returns-in_default-clause-next
 returns-in_default-clause-next g c =
-    rests_past g.L.KeyLayout.layout c.args.program.now c.args.state.now c.args.pass c.in_default.ensures
+    let s = c.args.state.now in
+    rests_past g.L.KeyLayout.layout c.args.program.now s c.args.pass (lane_none s.lanes.items rc_value c.args.pass
+    (none_past c.deref.result.now s.lanes.items c.args.pass c.deref.ensures.value c.in_default.ensures.lookup.3))
 
-pub returns-in_default-next_line-clause-next : goal.returns-in_default-next_line-clause-next
-returns-in_default-next_line-clause-next g c =
+pub state_after-requires-clause-next : goal.state_after-requires-clause-next
+state_after-requires-clause-next g c =
     let layout = g.L.KeyLayout.layout in
     let p = c.args.program.now in
     let s = c.args.state.now in
-    let heap = c.play.new.self in
-    let runs = runs_by layout p heap.opening.items heap.order.items s.order.items heap.world
-    c.in_ok-play.ensures.played (c.in_ok-play.ensures.order ∙ c.as_slice.ensures.value) in
-    rests_idle layout p s c.args.pass (did c.in-Some.lane.now) heap.world c.in-Some.ensures runs
-    c.in_default-next_line.ensures
+    let pass = c.args.pass in
+    let shared = c.in-Some.lane.now in
+    let d : Did = did (rc_value shared) in
+    let look = c.in-Some.ensures.lookup in
+    let at : slice_get (lanes_of s) pass ≡ Some d =
+    lane_at s.lanes.items rc_value pass shared
+    (found_at c.deref.result.now s.lanes.items pass shared c.deref.ensures.value look.3.0 look.1) in
+    let opening = c.args.heap.now.opening.items in
+    let changes = s.changes.items in
+    let known = c.args.known.now.items in
+    let place = c.in-Some-known_at.place in
+    let found = c.in-Some-known_at.ensures in
+    let it : Known = c.index.result.now in
+    let here : slice_get known place ≡ Some found.0 =
+    subst (λ (ks : List Known). slice_get ks place ≡ Some found.0) c.as_slice.ensures.value found.1 in
+    let less = slice_get_within known place found.0 here in
+    let there : slice_get known place ≡ Some it = found_at known known place it refl less c.index.ensures in
+    let one : found.0 ≡ it = let z : Some found.0 ≡ Some it = sym here ∙ there in cc in
+    let so : IsSo opening changes pass d it =
+    subst (λ (x : Known). IsSo opening changes pass d x) one
+    (subst (λ (l : Lane). IsSo opening changes pass (did l) found.0) c.as_ref.ensures
+    (subst (λ (cs : List Change). IsSo opening cs pass (did c.as_ref.result.now) found.0)
+    c.as_slice-changes.ensures.value
+    (subst (λ (ws : List ℕ). IsSo ws c.as_slice-changes.result.now pass (did c.as_ref.result.now) found.0)
+    c.as_slice-opening.ensures.value found.2))) in
+    let is : IsKnown layout p it = subst (IsKnown layout p) (sym c.index.ensures) (c.requires.known place it less) in
+    known_next layout p s opening pass d it c.requires.reached c.requires.heap.begins at is so
 
-pub returns-in_default-get-clause-next : goal.returns-in_default-get-clause-next
-returns-in_default-get-clause-next g c =
-    let world = c.play.new.self.world in
-    due_within (plan_of g.L.KeyLayout.layout world.shape) world.parts c.args.program.now.lines.now c.args.pass
-    c.in-Some-next_line.line c.in-Some-next_line.ensures.due c.in_default-get.ensures.lookup.3
-
-pub returns-in_default-touch_of-clause-next : goal.returns-in_default-touch_of-clause-next
-returns-in_default-touch_of-clause-next g c =
+pub returns-clause-known : goal.returns-clause-known
+returns-clause-known g c =
     let layout = g.L.KeyLayout.layout in
     let p = c.args.program.now in
     let s = c.args.state.now in
-    let heap = c.play.new.self in
-    let k = heap.world in
-    let runs = runs_by layout p heap.opening.items heap.order.items s.order.items k c.in_ok-play.ensures.played
-    (c.in_ok-play.ensures.order ∙ c.as_slice.ensures.value) in
-    let w = world_by layout p s.order.items in
-    let line = c.in-Some-next_line.line in
-    let event = c.in-Some-get.event.now in
-    let there = c.in-Some-get.ensures.lookup in
-    let due = subst (λ (parts : List Body). is_due (plan_of layout k.shape) parts p.lines.now c.args.pass line ≡ true)
-    (runs.2).parts c.in-Some-next_line.ensures.due in
-    due_row (plan_of layout k.shape) w p.lines.now c.args.pass line event
-    (found_at p.lines.now p.lines.now line event refl there.3.0 there.1) due
-    (c.in_default-touch_of.ensures.is w (runs.2))
-
-pub outcome-requires-clause-there : goal.outcome-requires-clause-there
-outcome-requires-clause-there g c =
-    let lines = c.args.program.now.lines.now in
-    let there = c.in-Some-get.ensures.lookup in
-    found_at lines lines c.in-Some-next_line.line c.in-Some-get.event.now refl there.3.0 there.1
-
-pub after-requires-2 : goal.after-requires-2
-after-requires-2 g c =
-    let s = c.args.state.now in
-    let less = slice_get_within (lanes_of s) c.args.pass (did c.in-Some.lane.now) c.in-Some.ensures in
-    let long : length (lanes_of s) ≡ length s.lanes.items =
-    length-map s.lanes.items (λ lane. did (rc_value lane)) in
-    omega arith
-
-pub returns-clause-next : goal.returns-clause-next
-returns-clause-next g c =
-    let layout = g.L.KeyLayout.layout in
-    let p = c.args.program.now in
-    let s = c.args.state.now in
-    let heap = c.play.new.self in
-    let line = c.in-Some-next_line.line in
-    let event = c.in-Some-get.event.now in
-    let there = c.in-Some-get.ensures.lookup in
-    let touch = c.in-Some-touch_of.touch in
-    let touched = c.in-Some-touch_of.ensures in
-    let next = c.in_ok-next.next in
-    let new = did c.in_ok-lane.lane in
-    let changes : c.in_ok-changes.changes.items
-    ≡ changes_with s.changes.items touch.number (get_or heap.opening.items touch.number 0) touch.left =
-    c.in_ok-changes.ensures ∙ (λ i. changes_with (c.as_slice-old.ensures.value i) touch.number
-    (get_or (c.as_slice-words.ensures.value i) touch.number 0) touch.left) in
-    let follows = subst (λ (cs : List Change). Follows p.lines.now c.args.pass new cs s next) changes
-    c.in_ok-next.ensures in
-    goes_by layout p s c.args.pass (did c.in-Some.lane.now) heap.opening.items heap.order.items heap.world
-    c.in-Some.ensures c.requires.reached c.in_ok-play.ensures.played
-    (c.in_ok-play.ensures.order ∙ c.as_slice.ensures.value) next new line touch.seen touch.number touch.left event
-    c.in_ok-outcome.outcome c.in-Some-next_line.ensures
-    (found_at p.lines.now p.lines.now line event refl there.3.0 there.1) touched.is touched.leaves touched.place
-    c.in_ok-outcome.ensures.is c.in_ok-lane.ensures follows
+    let pass = c.args.pass in
+    let known = c.args.known.now.items in
+    elim c.if-len-lt-MOST_KNOWN.branch [
+      | then-len-lt-MOST_KNOWN+in_ok-lane+in_ok-push w ↦
+          let shared = c.in-Some.lane.now in
+          let look = c.in-Some.ensures.lookup in
+          let at : slice_get (lanes_of s) pass ≡ Some (did (rc_value shared)) =
+          lane_at s.lanes.items rc_value pass shared
+          (found_at c.deref.result.now s.lanes.items pass shared c.deref.ensures.value look.3.0 look.1) in
+          let it : Known = record { pass = pass; lane = w.in_ok-lane.lane; next = c.in_ok-next.next } in
+          let is : IsKnown layout p it = record {
+            state = s;
+            reached = c.requires.reached;
+            at = at ∙ ap (λ (d : Did). Some d) (sym w.in_ok-lane.ensures);
+            is = c.in_ok-next.ensures.next;
+          } in
+          subst (All (IsKnown layout p)) (sym w.in_ok-push.ensures.items ∙ ap vec_items (sym w.known-is))
+          (all_push (IsKnown layout p) known it is c.requires.known)
+      | else-len-lt-MOST_KNOWN+in-Some-1 w ↦
+          subst (All (IsKnown layout p)) (ap vec_items (sym w.known-is)) c.requires.known
+      | else-len-lt-MOST_KNOWN+in-None-1 w ↦
+          subst (All (IsKnown layout p)) (ap vec_items (sym w.known-is)) c.requires.known
+    ]

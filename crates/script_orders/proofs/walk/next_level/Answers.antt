@@ -8,6 +8,7 @@ use Rattle.std.proofs.lemmas.List.Elements.{All-nil}
 use Rattle.std.proofs.lemmas.Option.{slice_get_within, get_or_from_slice_get}
 use Rattle.script_orders.specs.declared.found.Whole.{Whole}
 use Rattle.script_orders.specs.declared.state.State.{State}
+use Rattle.script_orders.specs.Known.{IsKnown}
 use Rattle.script_orders.specs.Reached.{IsReached, IsOutcome, Has}
 use Rattle.script_orders.specs.Cuts.{steps_done, AllAfter}
 use Rattle.script_orders.specs.Steps.{AllOnce, is_empty}
@@ -33,6 +34,7 @@ loop-state-init g c =
     let p = c.args.program.now in
     let old = c.args.whole.now.found.items in record {
       played = c.requires.heap;
+      known = subst (All (IsKnown layout p)) (sym c.new-known.ensures.items) (All-nil (IsKnown layout p));
       reached = subst (All (IsReached layout p)) (sym c.new-next.ensures) (All-nil (IsReached layout p));
       found = c.requires.found;
       followed = λ place s less at pass within. absurd (omega arith);
@@ -82,6 +84,7 @@ loop-state-preserved g c =
     ap (λ (x : State). before ++ x ∷ []) (sym here) ∙ sym (take_more level index item less) in
     record {
       played = goes.heap;
+      known = goes.known;
       reached = goes.all;
       found = elim c.if-not-branch.branch [
         | then-not-branch+in_ok-add_end w ↦

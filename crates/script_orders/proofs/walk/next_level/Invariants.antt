@@ -2,6 +2,7 @@ use Rattle.std.proofs.Common.{◌≡◌, ℕ, ◌+◌, ◌<◌, Some, slice_get,
 use Rattle.std.specs.List.{All}
 use Rattle.script_orders.specs.declared.state.State.{State}
 use Rattle.script_orders.specs.Cuts.{AllAfter}
+use Rattle.script_orders.specs.Known.{IsKnown}
 use Rattle.script_orders.specs.Reached.{HasPlayed, IsReached, IsOutcome}
 use Rattle.script_orders.specs.Steps.{AllOnce}
 use Rattle.script_orders.specs.Walks.{IsFollowed, HasEnd, KeepsFound, AllRest, Advances}
@@ -10,6 +11,7 @@ use Rattle.script_orders.proofs.walk.next_level.Given as goal
 abbrev pub invariant-loop-state : goal.invariant-loop-state
 invariant-loop-state g l = record {
   played : HasPlayed g.L.KeyLayout.layout l.program l.heap.opening.items l.heap.order.items l.heap.world;
+  known : All (IsKnown g.L.KeyLayout.layout l.program) l.known.items;
   reached : All (IsReached g.L.KeyLayout.layout l.program) l.next.states.items;
   found : All (IsOutcome g.L.KeyLayout.layout l.program) l.whole.found.items;
   followed : (place : ℕ) (s : State) → place < l.state-index → slice_get l.level.states.items place ≡ Some s

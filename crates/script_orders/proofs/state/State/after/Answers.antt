@@ -22,15 +22,15 @@ returns c = record {
       let same : did lane ≡ old = let z : Some (did lane) ≡ Some old = sym here ∙ at in cc in
       c.in_ok-push_lines.ensures
       ∙ ap (λ (l : Lane). c.in_ok-order.order.items
-      ++ lines_within c.args.lines.now c.args.pass l.behind c.args.lane.behind) c.deref.ensures
-      ∙ ap (λ (xs : List ℕ). xs ++ lines_within c.args.lines.now c.args.pass lane.behind c.args.lane.behind)
+      ++ lines_within c.args.lines.now c.args.pass l.behind c.deref-2.result.now.behind) c.deref.ensures
+      ∙ ap (λ (l : Lane). c.in_ok-order.order.items
+      ++ lines_within c.args.lines.now c.args.pass lane.behind l.behind) c.deref-2.ensures
+      ∙ ap (λ (xs : List ℕ). xs ++ lines_within c.args.lines.now c.args.pass lane.behind c.args.lane.value.behind)
       (c.in_ok-order.ensures.items ∙ c.as_slice.ensures.value)
-      ∙ ap (λ (d : Did). s.order.items ++ lines_within c.args.lines.now c.args.pass d.behind c.args.lane.behind) same;
+      ∙ ap (λ (d : Did). s.order.items ++ lines_within c.args.lines.now c.args.pass d.behind c.args.lane.value.behind) same;
   passes = grind (arith, common_steps);
-  lanes = map-set (λ lane. did (rc_value lane)) c.in_ok-lanes.lanes.items c.args.pass c.in_ok-lanes-2.field-0
-      ∙ ap (λ (d : Did). slice_set (map (λ lane. did (rc_value lane)) c.in_ok-lanes.lanes.items) c.args.pass d)
-      (ap did c.in_ok-lanes-2.ensures.ok)
-      ∙ ap (λ (ls : List Did). slice_set ls c.args.pass (did c.args.lane)) (c.in_ok-lanes.ensures
+  lanes = map-set (λ lane. did (rc_value lane)) c.in_ok-lanes.lanes.items c.args.pass c.args.lane
+      ∙ ap (λ (ls : List Did). slice_set ls c.args.pass (did (rc_value c.args.lane))) (c.in_ok-lanes.ensures
       ∙ (λ i. map (λ lane. did (rc_value lane)) (c.as_slice-3.ensures.value i)));
   changes_are = refl;
   orders = refl;
