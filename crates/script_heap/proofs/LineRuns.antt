@@ -37,7 +37,8 @@ use Rattle.script_calls.proofs.LineLemmas.{part_there}
 use Rattle.script_calls.proofs.PartsGoOn.{line_follows, goes_then, goes_to_end}
 use Rattle.script_heap.specs.ByLine.{KnowsBell, HasPart, HaveParts, RunsByLine}
 use Rattle.script_heap.specs.HeapOutput.{EndsInRun}
-use Rattle.script_heap.proofs.LineCuts.{CutBefore, CutAt, heard_cut, exact_cut, next_cut, none_done}
+use Rattle.sh_quiet.proofs.Cuts.{CutBefore, none_done, same_front}
+use Rattle.script_heap.proofs.LineCuts.{CutAt, heard_cut, exact_cut, next_cut}
 
 -- ---- what is true of each pass between two lines
 
@@ -88,17 +89,6 @@ settled_so layout shape (Shard o) h e = record {
   );
 }
 settled_so layout shape Moving h e = absurd h
-
--- lists that begin with the same number of elements of one list
-pub same_front : (xs us ys vs : List Footstep) → xs ++ us ≡ ys ++ vs → length xs ≡ length ys → xs ≡ ys
-same_front [] us [] vs e l = refl
-same_front [] us (y ∷ ys) vs e l = absurd (omega (arith, l))
-same_front (x ∷ xs) us [] vs e l = absurd (omega (arith, l))
-same_front (x ∷ xs) us (y ∷ ys) vs e l =
-    let h : x ≡ y = cc in
-    let t : xs ++ us ≡ ys ++ vs = cc in
-    let rest = same_front xs us ys vs t (omega (arith, l)) in
-    λ i. h i ∷ rest i
 
 module _ (layout : Layout) (shape : Numbers) (tag : Option ℕ) (events : List Event) (orders : List Order)
     (each : Each (StepsBefore (plan_of layout shape) events) orders) where

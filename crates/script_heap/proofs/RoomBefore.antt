@@ -1,5 +1,5 @@
 -- The room of a shard by the words before a line: what its owner knew then, and what an insert says of it.
-use Rattle.std.proofs.Common.{◌≡◌, ◌≢◌, ℕ, suc, ◌+◌, ◌*◌, ◌<◌, ◌≤◌, inl, inr, ⊎_elim, Bool, true, false, List}
+use Rattle.std.proofs.Common.{◌≡◌, ◌≢◌, ℕ, suc, ◌+◌, ◌*◌, ◌<◌, ◌≤◌, ◌⊎◌, inl, inr, ⊎_elim, Bool, true, false, List}
 use Rattle.std.proofs.Common.{[], ◌∷◌, ◌++◌, slice_get, refl, ap, sym, ◌∙◌, subst, arith, eq-eqb, Option, Some}
 use Rattle.std.specs.Prelude.{nat_lt}
 use Rattle.std.proofs.lemmas.Bool.{cases_lt}
@@ -32,7 +32,7 @@ use Rattle.sh_pass.specs.Entry.TheVariants.{Insert}
 use Rattle.sh_pass.specs.Own.{Own}
 use Rattle.sh_pass.specs.Owners.{heap_page, own_body}
 use Rattle.sh_member.specs.Pages.{WhollyMine, page_at, shard_page}
-use Rattle.sh_member.specs.Shards.{Sharded, NoneLeft, IsSpare, IsBlank, IsNextFor, NextAfterSearch, FindsPage}
+use Rattle.sh_member.specs.Shards.{Sharded, NoneLeft, IsSpare, IsBlank, IsNextFor, NextAfterSearch, FindsPage, FoundFor}
 use Rattle.sh_member.specs.Shards.{StaysOwner}
 use Rattle.sh_member.specs.declared.member.Side.TheVariants.{Shard}
 use Rattle.sh_member.specs.Sides.{SeenSide}
@@ -46,7 +46,8 @@ use Rattle.script_calls.specs.OwnParts.{shape_in}
 use Rattle.script_calls.specs.Parts.{heap_terms}
 use Rattle.script_calls.specs.Runs.{CallsRun, LineAnswered}
 use Rattle.script_heap.specs.ByLine.{HaveParts}
-use Rattle.script_heap.specs.Rooms.{class_word, NoSlotLeft, NoPageBlank, OwnersWholly, HasRoom}
+use Rattle.script_output.specs.Keys.{shown}
+use Rattle.script_heap.specs.Rooms.{class_word, NoSlotLeft, NoPageBlank, OwnersWholly, HasRoom, BeginsPage}
 use Rattle.script_heap.proofs.PageNumbers.{home_number}
 use Rattle.script_heap.proofs.OwnerLaws.{own_before, was_quiet, ends_is}
 use Rattle.script_heap.proofs.RoomLaws.{its_shard, goes_alone, saw, sees, its_pages}
@@ -152,7 +153,7 @@ module _ (layout : Layout) (shape : Numbers) (la : IsLayout layout) (ls : IsShap
       let some : 0 < mine_at x body = has_some (same_slot x) body.mine it in
       let least : mine_at x body ≤ mine old_world x = total_at (mine_at x) old_world.parts l.pass body body_at in
       let kinds : kind_count old_world (lists_of old_plan early) x ≤ 1 =
-      (let sum = all_true.kinds x in
+      (let sum = all_true.one_kind x in
       let few = if1_few (nat_lt x.slot (slots_under (old_world.words.class_at x.page))) in omega (arith, sum, few)) in
       omega (arith, some, least, kinds)
 
@@ -279,6 +280,14 @@ module _ (layout : Layout) (shape : Numbers) (la : IsLayout layout) (ls : IsShap
       λ used. free (subst (λ (q : ℕ). IsUsed old_world (slot_ref q name.slot)) (sym at_page) used),
     )
 
+    -- the owner knew that a page was blank
+    known_blank : (q : ℕ) → q < old_plan.pages → q ≢ f.page → class_word old_plan old_world shard q ≡ 0
+        → (page_at o.pages q).class ≡ Some 0
+    known_blank q lt ne none =
+        let known = stays.holds.known.words q (counted q lt) in
+        let its : (page_at o.pages q).class ≡ Some known.0 = sym (f.others q ne) ∙ known.1 in
+        its ∙ ap (λ (z : ℕ). Some z) (sym (old_word q known.0 lt its) ∙ none)
+
     module _ (after : NextAfterSearch c f.page key words o n) where
       -- the class word of the page was the same before the search
       same_class : (page_at after.searched.pages f.page).class ≡ (page_at o.pages f.page).class
@@ -311,6 +320,52 @@ module _ (layout : Layout) (shape : Numbers) (la : IsLayout layout) (ls : IsShap
       by_next (inr (inl s)) = by_spare s.1.here
       by_next (inr (inr b)) = by_blank b.2.here
 
+      -- no page below it was blank, if it was
+      blank_there : (q : ℕ) → q < f.page → class_word old_plan old_world shard q ≡ 0
+          → IsBlank (page_at after.searched.pages q)
+      blank_there q lt none = after.left.through.classes q
+          ∙ known_blank q (let inside = there_is in omega (arith, lt, inside))
+          (λ (e : q ≡ f.page). omega (arith, e, lt)) none
+
+      low : IsNextFor c f.page after.searched → class_word old_plan old_world shard f.page ≡ 0 → (q : ℕ) → q < f.page
+          → class_word old_plan old_world shard q ≢ 0
+      low (inl b) blank q lt none = b.1.lower q lt (blank_there q lt none)
+      low (inr (inl s)) blank q lt none =
+          let its = old_word f.page (suc s.1.here.whole.class) there_is (sym same_class ∙ s.1.here.whole.classed) in
+          absurd (omega (arith, its, blank))
+      low (inr (inr b)) blank q lt none = b.2.lower q lt (blank_there q lt none)
+
+    had : ((page_at o.pages f.page).class ≡ Some (c + 1)) ⊎ NextAfterSearch c f.page key words o n
+    had = by_found f.found where
+      by_found : FoundFor layout c f.page key words o n
+          → ((page_at o.pages f.page).class ≡ Some (c + 1)) ⊎ NextAfterSearch c f.page key words o n
+      by_found (inl h) = inl h.0
+      by_found (inr h) = inr h.3
+
     pub had_room : HasRoom old_plan old_world shard c
     had_room = ⊎_elim by_slot
-        (λ (after : NextAfterSearch c f.page key words o n). by_next after after.prepares.next) f.had
+        (λ (after : NextAfterSearch c f.page key words o n). by_next after after.prepares.next) had
+
+    -- if the page was given the class, the key's slot is the first one
+    begins_slot : FoundFor layout c f.page key words o n → (page_at o.pages f.page).class ≢ Some (c + 1) → name.slot ≡ 0
+    begins_slot (inl h) other = absurd (other h.0)
+    begins_slot (inr h) other =
+        let its = h.1.names in
+        let same : name ≡ its.0 = same_Some name its.0 (sym f.names.1 ∙ its.1) in
+        ap (λ (x : KeyRef). x.slot) same ∙ (ap (λ (x : SlotRef). x.slot) its.2 ∙ h.2)
+
+    pub begins_page : BeginsPage old_plan tag old_world shard c (shown tag key)
+    begins_page = record {
+      key = key;
+      is = refl;
+      name = name;
+      named = named;
+      page = f.page;
+      place = at_page;
+      lowest = λ blank. ⊎_elim
+          (λ (class : (page_at o.pages f.page).class ≡ Some (c + 1)).
+          let its = old_word f.page (c + 1) there_is class in absurd (omega (arith, its, blank)))
+          (λ (after : NextAfterSearch c f.page key words o n). low after after.prepares.next blank)
+          had;
+      begins = λ other. begins_slot f.found (λ class. other (old_word f.page (c + 1) there_is class));
+    }

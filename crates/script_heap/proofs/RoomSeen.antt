@@ -37,7 +37,7 @@ use Rattle.script_heap.specs.Rooms.{InsertSeesRoom, CallSeesRoom, RoomsAreSeen, 
 use Rattle.script_heap.proofs.LineEntries.{AreLogged, known_to_end, log_stays, log_has_insert}
 use Rattle.script_heap.proofs.OwnerLaws.{first_parts}
 use Rattle.script_heap.proofs.RoomBefore.{had_room, none_left_before, none_blank_before, wholly_after, other_after}
-use Rattle.script_heap.proofs.RoomBefore.{inside_after}
+use Rattle.script_heap.proofs.RoomBefore.{inside_after, begins_page}
 use Rattle.script_heap.proofs.RoomLaws.{its_shard}
 
 module _ (layout : Layout) (shape : Numbers) (la : IsLayout layout) (ls : IsShape shape) (lf : Fits layout shape) where
@@ -54,7 +54,7 @@ module _ (layout : Layout) (shape : Numbers) (la : IsLayout layout) (ls : IsShap
       (here : HaveParts seen_plan early before.parts) (there : HaveParts seen_plan (early ++ own) next.parts)
       (logged : AreLogged seen_plan ((early ++ own) ++ rest) next.parts) where
     abbrev Sees : List ℕ → Answer → Type 0
-    Sees words = InsertSeesRoom seen_plan (run seen_plan early) before.parts l.pass words
+    Sees words = InsertSeesRoom seen_plan tag (run seen_plan early) before.parts l.pass words
 
     -- what an insert with this result adds to the log of the pass
     abbrev Adds : List ℕ → Result ℕ Refusal → Type 0
@@ -74,14 +74,16 @@ module _ (layout : Layout) (shape : Numbers) (la : IsLayout layout) (ls : IsShap
         (stays : StaysOwner layout o n) where
       inserts_see : (words : List ℕ) (r : Result ℕ Refusal) → Adds words r
           → InsertServes layout (value_class words) words o r n → Sees words (key_answer tag r)
-      inserts_see words (Ok key) log h = (
-        n.pages.shard,
-        its_shard layout shape la ls lf tag early own before next l a line inside here there o n was is stays,
-        had_room layout shape la ls lf tag early own before next l a line inside here there o n was is stays
-            (value_class words) key words h.2
-            (log_has_insert layout shape la ls lf tag early own rest before next l a line inside here there logged key
-            words log),
-      )
+      inserts_see words (Ok key) log h =
+          let added = log_has_insert layout shape la ls lf tag early own rest before next l a line inside here there
+          logged key words log in (
+            n.pages.shard,
+            its_shard layout shape la ls lf tag early own before next l a line inside here there o n was is stays,
+            had_room layout shape la ls lf tag early own before next l a line inside here there o n was is stays
+                (value_class words) key words h.2 added,
+            begins_page layout shape la ls lf tag early own before next l a line inside here there o n was is stays
+                (value_class words) key words h.2 added,
+          )
       inserts_see words (Err refusal.Full) log h =
           let c : ℕ = value_class words in
           let same = log_stays layout shape la ls lf tag early own rest before next l a line inside here there logged
@@ -137,12 +139,12 @@ module _ (layout : Layout) (shape : Numbers) (la : IsLayout layout) (ls : IsShap
         (adds words (needs_shard line.begins.shard) r h.0) h.1
 
     call_sees : (c : Call) (bound : Option ℕ) → CallAnswers seen_terms tag l.pass line.begins c bound a line.part
-        → CallSeesRoom seen_plan (run seen_plan early) before.parts l.pass c a
+        → CallSeesRoom seen_plan tag (run seen_plan early) before.parts l.pass c a
     call_sees (call.Insert words) bound h = subst (λ (z : Answer). Sees words z) (sym h.is)
         (seen_by_words words (nat_lt 16 (length words)) h.result h.does)
     call_sees _ bound h = tt
 
-    line_sees : CallSeesRoom seen_plan (run seen_plan early) before.parts l.pass l.call a
+    line_sees : CallSeesRoom seen_plan tag (run seen_plan early) before.parts l.pass l.call a
     line_sees = call_sees l.call (number_meant before.numbers l.call) line.does
 
   -- ---- all lines

@@ -34,6 +34,7 @@ use Rattle.sh_pass.proofs.OrderLaws.{each_in}
 use Rattle.sh_member.specs.Shards.{Sharded}
 use Rattle.sh_member.specs.declared.member.Side.TheVariants.{Pass, Shard, Moving}
 use Rattle.sh_member.specs.Sides.{SeenSide, SideLeaves}
+use Rattle.sh_quiet.proofs.Cuts.{CutBefore, same_front}
 use Rattle.sh_quiet.proofs.Exact.{Goes}
 use Rattle.sh_quiet.proofs.Leaves.{never_waits}
 use Rattle.sh_quiet.proofs.Working.{SeesBell}
@@ -47,8 +48,8 @@ use Rattle.script_calls.proofs.ListLemmas.{get_some}
 use Rattle.script_calls.proofs.PartsGoOn.{leave_follows}
 use Rattle.script_heap.specs.ByLine.{KnowsBell}
 use Rattle.script_heap.specs.Owners.{NoPassIsStuck}
-use Rattle.script_heap.proofs.LineCuts.{CutBefore, heard_cut}
-use Rattle.script_heap.proofs.LineRuns.{Settled, settled_so, same_front}
+use Rattle.script_heap.proofs.LineCuts.{heard_cut}
+use Rattle.script_heap.proofs.LineRuns.{Settled, settled_so}
 
 -- how many steps it did, if there is such a pass
 abbrev steps_at : Option SeenPass → ℕ

@@ -193,6 +193,7 @@ module _ (alone : Bool) (layout : Layout) (heap : Heap) (tag : Option ℕ) (line
       → Each (Before w.history) v.view.orders
       → IsTold alone (Some heap) (heap_terms layout heap.shape) tag lines output (tale_told (seen_of_caller layout v))
   told_by w kept = record {
+    within = ran.told.within;
     replies = ran.told.replies;
     tale_is = ran.told.tale_is;
     whole = w;

@@ -7,6 +7,8 @@ use Rattle.sh_key.specs.Layout.{Layout, IsLayout}
 use Rattle.sh_shape.specs.Classes.{slots}
 use Rattle.sh_shape.specs.Shape.{Numbers, IsShape, Fits}
 use Rattle.sh_core.specs.Event.{Event}
+use Rattle.sh_core.specs.KeyRef.{KeyRef}
+use Rattle.sh_core.specs.Moves.{place_named}
 use Rattle.sh_core.specs.Plans.{Plan, plan_of, page_number}
 use Rattle.sh_core.specs.Refines.{mine}
 use Rattle.sh_core.specs.Stacks.{slot_ref}
@@ -16,6 +18,7 @@ use Rattle.sh_quiet.specs.Quiescence.{IsUsed}
 use Rattle.sh_script.specs.declared.calls.Call.{Call}
 use Rattle.sh_script.specs.declared.calls.Call.TheVariants as call
 use Rattle.sh_script.specs.declared.calls.CallLine.{CallLine}
+use Rattle.script_output.specs.Keys.{shown}
 use Rattle.script_output.specs.declared.answer.Answer.{Answer}
 use Rattle.script_output.specs.declared.answer.Answer.TheVariants as answer
 use Rattle.script_calls.specs.Parts.{RunTerms, PassPart, heap_terms}
@@ -116,22 +119,34 @@ LinesFindRoom = (asked : Bool) (layout : Layout) (shape : Numbers) (tag : Option
 
 -- ---- by the words before a line
 
+-- The number is that of a key of shard k. If its page is blank in this world, no lower page of the shard is. If its
+-- page has another class than c or none, the key names slot 0.
+pub record BeginsPage (plan : Plan) (tag : Option ℕ) (w : World) (k c number : ℕ) : Type 0 where
+  pub key : ℕ
+  pub is : number ≡ shown tag key
+  pub name : KeyRef
+  pub named : place_named plan key ≡ Some name
+  pub page : ℕ
+  pub place : name.page ≡ page_number plan k page
+  pub lowest : class_word plan w k page ≡ 0 → (q : ℕ) → q < page → class_word plan w k q ≢ 0
+  pub begins : class_word plan w k page ≢ c + 1 → name.slot ≡ 0
+
 -- The answer to an insert of these words by pass p, if passes have these parts and this is the world before. If it is
--- the number of a key, the pass's shard has room. If it is Full, the shard has none. If it is Memory, only a blank page
--- has room.
-abbrev pub InsertSeesRoom : Plan → World → (ℕ → PassPart) → (p : ℕ) → (words : List ℕ) → Answer → Type 0
-InsertSeesRoom plan w parts p words (answer.Key number) = (k : ℕ) × (owned_by parts p ≡ Some k)
-    × HasRoom plan w k (value_class words)
-InsertSeesRoom plan w parts p words (answer.Refused refusal.Full) = (k : ℕ) × (owned_by parts p ≡ Some k)
+-- the number of a key, the pass's shard has room, and a page that is given the class begins with slot 0. If it is Full,
+-- the shard has no room. If it is Memory, only a blank page has room.
+abbrev pub InsertSeesRoom : Plan → Option ℕ → World → (ℕ → PassPart) → (p : ℕ) → (words : List ℕ) → Answer → Type 0
+InsertSeesRoom plan tag w parts p words (answer.Key number) = (k : ℕ) × (owned_by parts p ≡ Some k)
+    × HasRoom plan w k (value_class words) × BeginsPage plan tag w k (value_class words) number
+InsertSeesRoom plan tag w parts p words (answer.Refused refusal.Full) = (k : ℕ) × (owned_by parts p ≡ Some k)
     × HasNoRoom plan w k (value_class words)
-InsertSeesRoom plan w parts p words (answer.Refused refusal.Memory) = (k : ℕ) × (owned_by parts p ≡ Some k)
+InsertSeesRoom plan tag w parts p words (answer.Refused refusal.Memory) = (k : ℕ) × (owned_by parts p ≡ Some k)
     × NoSlotLeft plan w k (value_class words) × NoPageSpare plan w k (value_class words)
-InsertSeesRoom plan w parts p words _ = Unit {0}
+InsertSeesRoom plan tag w parts p words _ = Unit {0}
 
 -- the same for a call, if it is an insert
-abbrev pub CallSeesRoom : Plan → World → (ℕ → PassPart) → (p : ℕ) → Call → Answer → Type 0
-CallSeesRoom plan w parts p (call.Insert words) a = InsertSeesRoom plan w parts p words a
-CallSeesRoom plan w parts p _ a = Unit {0}
+abbrev pub CallSeesRoom : Plan → Option ℕ → World → (ℕ → PassPart) → (p : ℕ) → Call → Answer → Type 0
+CallSeesRoom plan tag w parts p (call.Insert words) a = InsertSeesRoom plan tag w parts p words a
+CallSeesRoom plan tag w parts p _ a = Unit {0}
 
 -- the answer of each of these lines is by the room in the world before the line
 abbrev pub RoomsAreSeen : (plan : Plan) (early late : List Event) (terms : RunTerms) (tag : Option ℕ)
@@ -141,11 +156,11 @@ RoomsAreSeen plan early late terms tag before [] [] after h = Unit {0}
 RoomsAreSeen plan early late terms tag before [] (a ∷ answers) after h = ⊥
 RoomsAreSeen plan early late terms tag before (l ∷ lines) [] after h = ⊥
 RoomsAreSeen plan early late terms tag before (l ∷ lines) (a ∷ answers) after h =
-    CallSeesRoom plan (run plan early) before.parts l.pass l.call a
+    CallSeesRoom plan tag (run plan early) before.parts l.pass l.call a
     × RoomsAreSeen plan (early ++ h.3) h.4 terms tag h.1 lines answers after h.6
 
 -- In a run of mode heap an insert is ok only if its pass's shard has room for the value's class by the words before the
--- line, and Full only if it has none.
+-- line, and Full only if it has none. A key in a page that had not the class by the words before the line names slot 0.
 abbrev pub LinesSeeRoom : Type 0
 LinesSeeRoom = (asked : Bool) (layout : Layout) (shape : Numbers) (tag : Option ℕ) (lines : List CallLine)
     (output : List ℕ) → IsLayout layout → IsShape shape → Fits layout shape

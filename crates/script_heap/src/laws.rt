@@ -37,6 +37,10 @@ pub fn lines_find_room()
 /// slot of the class was not live, marked or retired, a page was blank, or a page of another class was wholly the
 /// owner's. The insert is `Full` only if the shard had none of these. So it is `Full` exactly if there was no room,
 /// unless memory was refused, and then no page but a blank one had room.
+///
+/// If the page of the key was blank before the line, it was the lowest blank page of the shard. If it was blank or had
+/// another class, the key names its slot 0. So `0 insert 4143` is not the first insert of a fresh heap of layout
+/// `tiny`.
 pub fn lines_see_room()
     ensures room { LinesSeeRoom }
     ensures apart { RoomExcludes }
