@@ -19,7 +19,7 @@ use Rattle.sh_core.specs.declared.accounts.Accounts.{Accounts}
 use Rattle.sh_core.specs.Kept.{KeptWorld, Represents, FromEvents}
 use Rattle.sh_core.specs.Lists.{PutLists, accounts, among, class_named, lists_of, mine_at, in_hand, slots_under}
 use Rattle.sh_core.specs.Lists.{state_of, times}
-use Rattle.sh_core.specs.Refines.{Always, KindsAddUp, ClassesAreKnown, kind_count}
+use Rattle.sh_core.specs.Refines.{Always, OneKind, ClassesAreKnown, kind_count}
 use Rattle.sh_core.specs.Worlds.{World, run}
 use Rattle.sh_core.proofs.Sums.ClassSlots.{under_class}
 use Rattle.sh_accounts.specs.declared.kinds.SlotKind.{SlotKind}
@@ -60,7 +60,7 @@ names_none n e = go (n == 0) refl e where
   go false is e = absurd (let z : None ≡ Some (n - 1) = e in cc)
 
 -- what is kept represents the world, and all that holds of runs holds of this world
-module _ (plan : Plan) (k : KeptWorld) (w : World) (l : PutLists) (stands : Represents k w) (kinds : KindsAddUp w l)
+module _ (plan : Plan) (k : KeptWorld) (w : World) (l : PutLists) (stands : Represents k w) (kinds : OneKind w l)
     (q : ℕ) (there : q < all_pages k.shape) where
   class_is : class_word k q ≡ w.words.class_at q
   class_is = stands.words.at (Class q) there
@@ -115,12 +115,12 @@ class_small layout k q classes reached there =
     let small = (classes layout k.shape reached.is_layout reached.is_shape reached.fits reached.events q).0 in
     let here = reached.stands.words.at (Class q) there in omega arith
 
-module _ (layout : Layout) (k : KeptWorld) (q : ℕ) (kinds : Always (λ plan w l. KindsAddUp w l))
+module _ (layout : Layout) (k : KeptWorld) (q : ℕ) (kinds : Always (λ plan w l. OneKind w l))
     (reached : FromEvents layout k) (there : q < all_pages k.shape) where
   abbrev plan : Plan
   plan = plan_of layout k.shape
 
-  kinds_at : (es : List Event) → KindsAddUp (run plan es) (lists_of plan es)
+  kinds_at : (es : List Event) → OneKind (run plan es) (lists_of plan es)
   kinds_at es = kinds layout k.shape reached.is_layout reached.is_shape reached.fits es
 
   -- a page of a class

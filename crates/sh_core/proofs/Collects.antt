@@ -23,7 +23,7 @@ use Rattle.sh_step.specs.Rows.{Row, point, unpoint, take_page}
 use Rattle.sh_step.proofs.PageLaws.{page_of_name}
 use Rattle.sh_step.proofs.RowLaws.{row_of_may}
 use Rattle.sh_step.proofs.NoteLaws.{noted_now}
-use Rattle.sh_core.specs.LinkWords.{LinksOn}
+use Rattle.sh_core.specs.Follows.{LinksOn}
 use Rattle.sh_core.specs.Lists.{PutLists, times, lists_of, lists_from, list_step, listed, taken, chain_followed}
 use Rattle.sh_core.specs.Lists.{no_lists}
 use Rattle.sh_core.specs.Lists.{accounts, slots_under}
@@ -32,6 +32,7 @@ use Rattle.sh_core.specs.Refines.{Refines}
 use Rattle.sh_core.specs.Stacks.{top, link_to, slot_ref, ties_of}
 use Rattle.sh_core.specs.Words.{read}
 use Rattle.sh_core.specs.Worlds.{World, apply, run, run_from, step, open_world}
+use Rattle.sh_core.proofs.Clauses.LinkFacts.{links_of}
 use Rattle.sh_core.proofs.Clauses.RunTheorem.{theorem}
 use Rattle.sh_core.proofs.Quiet.{none_of, loses_nothing}
 use Rattle.sh_core.proofs.Sums.Totals.{get_set, get_set_here}
@@ -132,7 +133,8 @@ module _ (plan : Plan) (w : World) (l : PutLists) (all : Refines plan w l) (quie
       let free : total (ties_of (slot_ref q s)) w.parts ≡ 0 = none_of (ties_of (slot_ref q s)) w.parts
       (λ b u has. rw (quiet b u has) refl) in
       let on : LinksOn (w.words.link_at q) (λ t. total (ties_of (slot_ref q t)) w.parts) (s ∷ rest) = subst
-      (LinksOn (w.words.link_at q) (λ t. total (ties_of (slot_ref q t)) w.parts)) some (all.links.chain q) in
+      (LinksOn (w.words.link_at q) (λ t. total (ties_of (slot_ref q t)) w.parts)) some
+      ((links_of plan w l all).chain q) in
       let is : w.words.link_at q s ≡ link_to rest = ⊎_elim
       (λ h. let one = h.1 in absurd (omega (arith, one, free))) (λ h. h.0) on.0 in
       let not_0 : (w.words.link_at q s == 0) ≡ false = ap (λ n. n == 0) is ∙ written rest in

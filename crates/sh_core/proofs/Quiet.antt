@@ -10,10 +10,12 @@ use Rattle.sh_step.specs.Plans.{Plan, plan_of, shard_of}
 use Rattle.sh_core.specs.Worlds.{World, run}
 use Rattle.sh_core.specs.Lists.{PutLists, times, lists_of, in_hand}
 use Rattle.sh_core.specs.Stacks.{top, link_to, slot_ref, ties_of}
-use Rattle.sh_core.specs.LinkWords.{LinksOn}
+use Rattle.sh_core.specs.Follows.{LinksOn}
 use Rattle.sh_core.specs.Refines.{in_hands, Refines}
 use Rattle.sh_core.specs.Quiet.{Quiet, walked, WordsLead, NoneLost, LeftIsOnStacks, LosesNothing}
 use Rattle.sh_core.specs.Quiet.{QuietLosesNothing}
+use Rattle.sh_core.proofs.Clauses.Follows.{kinds_of, left_empty}
+use Rattle.sh_core.proofs.Clauses.LinkFacts.{links_of}
 use Rattle.sh_core.proofs.Clauses.RunTheorem.{theorem}
 use Rattle.sh_core.proofs.Sums.ListCounts.{no_first}
 
@@ -68,16 +70,16 @@ module _ (plan : Plan) (w : World) (l : PutLists) (all : Refines plan w l) (quie
   lead = record {
     stack = λ q n few. subst (λ (t : ℕ). walked (w.words.link_at q) n t ≡ Some (l.stack q))
         (sym (all.linked.0.tops q))
-        (leads (w.words.link_at q) (λ s. total (ties_of (slot_ref q s)) w.parts) (l.stack q) (all.links.stack q)
-        (no_ties_now q) n few);
+        (leads (w.words.link_at q) (λ s. total (ties_of (slot_ref q s)) w.parts) (l.stack q)
+        ((links_of plan w l all).stack q) (no_ties_now q) n few);
     chain = λ q n few. leads (w.words.link_at q) (λ s. total (ties_of (slot_ref q s)) w.parts) (l.chain q)
-        (all.links.chain q) (no_ties_now q) n few;
+        ((links_of plan w l all).chain q) (no_ties_now q) n few;
     cursor = all.linked.0.cursors;
   }
 
   none_lost : NoneLost w l
   none_lost x is =
-      let one = (all.one_kind x is.class is.classed).0 is.below in
+      let one = (kinds_of w l all.one_kind x is.class is.classed).0 is.below in
       let no_hand = no_hands_now x in
       let e = is.empty in
       grind (arith, one, no_hand, e)
@@ -85,7 +87,7 @@ module _ (plan : Plan) (w : World) (l : PutLists) (all : Refines plan w l) (quie
   left_on_stacks : LeftIsOnStacks plan w l
   unfolding total
   left_on_stacks x is free =
-      let nothing = all.left (shard_of plan x.page) free in
+      let nothing = left_empty plan w all.owners all.parts (shard_of plan x.page) free in
       let no_mine = nothing.0 x refl in
       let chain = no_first (l.chain x.page)
       (λ s. sym (all.linked.0.cursors x.page s) ∙ nothing.1 x.page s refl) in

@@ -34,6 +34,7 @@ use Rattle.sh_core.specs.Refines.{Refines, KeyMatchesLog, live, marked, retired,
 use Rattle.sh_core.specs.Tallies.{at_slot, current, visits, finishing}
 use Rattle.sh_core.specs.Trails.{trail_of, body_by}
 use Rattle.sh_core.specs.Worlds.{World, run, value_at}
+use Rattle.sh_core.proofs.Clauses.Follows.{kinds_of}
 use Rattle.sh_core.proofs.Clauses.LayoutLaws.{plan_lawful}
 use Rattle.sh_core.proofs.Clauses.RunTheorem.{theorem}
 use Rattle.sh_core.proofs.MapEntries.{or_false, or_true, removed_snoc}
@@ -357,7 +358,7 @@ module _ (layout : Layout) (shape : Numbers) (is_layout : IsLayout layout) (is_s
   pub is_of_class : (c : ℕ) → new.words.class_at n.page ≡ c + 1 → n.slot < slots c
   is_of_class c class = ⊎_elim (λ (lt : n.slot < slots c). lt)
       (λ (ge : slots c ≤ n.slot).
-      let none = (is_now.one_kind (slot_ref_of n) c class).1 ge in
+      let none = (kinds_of new (lists_of the_plan ds) is_now.one_kind (slot_ref_of n) c class).1 ge in
       let one = is_used in
       absurd (omega (arith, none, one)))
       (cases_lt n.slot (slots c))

@@ -9,7 +9,7 @@ pub mod Sums
 pub mod Stacks
 pub mod Bells
 pub mod Placed
-pub mod LinkWords
+pub mod Follows
 pub mod Opening
 pub mod Kept
 pub mod Looks

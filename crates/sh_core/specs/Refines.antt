@@ -1,5 +1,5 @@
 -- What holds after every list of events: the clauses of the theorem, each of a world and of the lists of what was put.
-use Rattle.std.specs.Prelude.{IsSome, ℕ, ◌+◌, ◌-◌, ◌*◌, ◌/◌, ◌%◌, ◌≡◌, ◌≢◌, ◌<◌, ◌≤◌, true, false, nat_lt, not, ◌&&◌}
+use Rattle.std.specs.Prelude.{IsSome, ℕ, ◌+◌, ◌/◌, ◌%◌, ◌≡◌, ◌≢◌, ◌<◌, ◌≤◌, true, false, nat_lt, not, ◌&&◌}
 use Rattle.std.specs.Prelude.{◌||◌, List, [], Some, None, All, length, slice_get, slice_index}
 use Rattle.sh_step.specs.declared.action.Event.{Event}
 use Rattle.sh_slots.specs.declared.hand.SlotRef.{SlotRef}
@@ -7,7 +7,7 @@ use Rattle.sh_slots.specs.declared.hand.KeyRef.{KeyRef}
 use Rattle.sh_step.specs.Fields.{Fields}
 use Rattle.sh_key.specs.Layout.{Layout, IsLayout}
 use Rattle.sh_shape.specs.Shape.{Numbers, IsShape, Fits}
-use Rattle.sh_shape.specs.Places.{slot_places, payload_words}
+use Rattle.sh_shape.specs.Places.{slot_places}
 use Rattle.sh_step.specs.Moves.{row}
 use Rattle.sh_step.specs.Rows.{own, unpoint}
 use Rattle.sh_step.specs.Ends.{HandNames, ComesNearer, HasNext}
@@ -17,13 +17,12 @@ use Rattle.sh_core.specs.InHeap.{StepsWithin, CountsFit, BellsAreSmall, ValuesFi
 use Rattle.sh_slots.specs.declared.hand.Hand.TheVariants.{Idle, Filling}
 use Rattle.sh_slots.specs.Slots.{name_at}
 use Rattle.sh_step.specs.Plans.{plan_of, Plan, heap_pages, shard_of}
-use Rattle.sh_shape.specs.Classes.{class_count, slots, width}
+use Rattle.sh_shape.specs.Classes.{class_count}
 use Rattle.sh_slots.specs.Slots.{slot_ref_of}
 use Rattle.sh_step.specs.Collections.{total, if1, noted}
 use Rattle.sh_step.specs.declared.body.Body.{Body}
 use Rattle.sh_core.specs.Worlds.{World, run, value_at}
-use Rattle.sh_core.specs.Lists.{PutLists, accounts, lists_of, slots_under, times, mine_at, in_hand, state_of}
-use Rattle.sh_core.specs.LinkWords.{EachLinked}
+use Rattle.sh_core.specs.Lists.{PutLists, lists_of, slots_under, times, mine_at, in_hand, state_of}
 use Rattle.sh_core.specs.Tallies.{at_slot, current, visits, finishing}
 use Rattle.sh_history.specs.declared.entry.Entry.{Entry}
 use Rattle.sh_history.specs.History.{Legal, value_of, is_removed, got_count, released_count, got_count_by}
@@ -57,20 +56,9 @@ abbrev pub kind_count : World → PutLists → SlotRef → ℕ
 kind_count w l x = live (state_of w x) + marked (state_of w x) + retired (state_of w x) + mine w x + in_hands w x +
     queued_at l x
 
--- a slot of its page's class has one kind, and only one; another has none
+-- a slot of its page's class has one kind, and only one; another slot, and each of a blank page, has none
 abbrev pub OneKind : World → PutLists → Type 0
-OneKind w l = (x : SlotRef) (c : ℕ) → w.words.class_at x.page ≡ c + 1
-    → (x.slot < slots c → kind_count w l x ≡ 1) × (slots c ≤ x.slot → kind_count w l x ≡ 0)
-
--- the same as one equation for every slot: 1 below the slots of the page's class, otherwise 0; a blank page has no
--- slots
-abbrev pub KindsAddUp : World → PutLists → Type 0
-KindsAddUp w l = (x : SlotRef) → kind_count w l x ≡ if1 (nat_lt x.slot (slots_under (w.words.class_at x.page)))
-
--- the accounts of a page add up to the slots of its class, and those of a blank page to 0
-abbrev pub Filled : World → PutLists → Type 0
-Filled w l = (q : ℕ) → let a = accounts w l q in
-    a.live + (a.marked + (a.retired + (a.mine + (a.hand + a.queued)))) ≡ slots_under (w.words.class_at q)
+OneKind w l = (x : SlotRef) → kind_count w l x ≡ if1 (nat_lt x.slot (slots_under (w.words.class_at x.page)))
 
 -- a class word names a class or is 0, and only pages of the heap have a class
 abbrev pub ClassesAreKnown : Plan → World → Type 0
@@ -91,13 +79,6 @@ pub record KeyIsValid (plan : Plan) (w : World) (k : ℕ) : Type 0 where
 abbrev pub HeldKeysAreValid : Plan → World → Type 0
 HeldKeysAreValid plan w = (a : ℕ) (p : Body) (k : ℕ) → slice_get w.parts a ≡ Some p → 0 < times k p.holds
     → KeyIsValid plan w k
-
--- a payload word that a pass may read of a key is one of the key's value, in its page
-abbrev pub ReadsWithin : Plan → World → Type 0
-ReadsWithin plan w = (a : ℕ) (p : Body) (k : ℕ) (n : KeyRef) (c m i : ℕ) → slice_get w.parts a ≡ Some p
-    → plan.keys.unpack k ≡ Some n → noted k p.class_words ≡ Some c → noted k p.lengths ≡ Some m → i < m →
-    (c ≡ w.words.class_at n.page) × (m ≡ w.words.length_at n.page n.slot)
-    × (n.slot * width (c - 1) + i < payload_words)
 
 -- What a pass noted of a key is about a key that it holds, and true. It notes the class word of the key's page, the
 -- length of its value, and words of the value
@@ -183,20 +164,13 @@ pub record OneOwner (w : World) : Type 0 where
   pub alone : (a b : ℕ) (p r : Body) (n : ℕ) → slice_get w.parts a ≡ Some p → slice_get w.parts b ≡ Some r
       → p.owned ≡ Some n → r.owned ≡ Some n → a ≡ b
 
--- a shard without an owner has no cursor, no armed page and no slot in a pass's `mine`
-abbrev pub LeftEmpty : Plan → World → Type 0
-LeftEmpty plan w = (n : ℕ) → w.words.owner_at n ≡ 0
-    → ((x : SlotRef) → shard_of plan x.page ≡ n → mine w x ≡ 0)
-    × ((q s : ℕ) → shard_of plan q ≡ n → total (cursor_at q s) w.parts ≡ 0)
-    × ((q : ℕ) → shard_of plan q ≡ n → total (armed_at q) w.parts ≡ 0)
-
 -- a pass that owns no shard has no slot, no cursor, no armed page and no bell cursor
 abbrev pub ShardlessHaveNothing : World → Type 0
 ShardlessHaveNothing w = (a : ℕ) (p : Body) → slice_get w.parts a ≡ Some p → p.owned ≡ None
     → (p.mine ≡ []) × (p.cursors ≡ []) × (p.armed ≡ []) × (p.bell_cursor ≡ None)
 
--- What EachLinked says, as sums. Along each list, an item's link plus what the pass that ties it will store names the
--- rest. A head names the first of its stack, and a cursor is at the first of its chain
+-- Along each list, an item's link plus what the pass that ties it will store names the rest. A head names the first of
+-- its stack, and a cursor is at the first of its chain. What follows of each link is EachLinked
 abbrev pub Linked : Plan → World → PutLists → Type 0
 Linked plan w l =
     Chains (λ q. w.words.head_at q / 2) w.words.link_at (λ q s. total (tying (slot_ref q s)) w.parts)
@@ -254,11 +228,8 @@ pub record Refines (plan : Plan) (w : World) (l : PutLists) : Type 0 where
   pub legal : Legal plan.passes plan.keys.guard_max w.log
   pub entries : EntriesAreOurs plan w
   pub one_kind : OneKind w l
-  pub kinds : KindsAddUp w l
-  pub filled : Filled w l
   pub classes : ClassesAreKnown plan w
   pub held : HeldKeysAreValid plan w
-  pub reads : ReadsWithin plan w
   pub notes : NotesAreTrue plan w
   pub looks : LooksAreTrue plan w
   pub holds : HoldsMatchLog w
@@ -272,10 +243,8 @@ pub record Refines (plan : Plan) (w : World) (l : PutLists) : Type 0 where
   pub finished : Finished plan w
   pub owners : OneOwner w
   pub armed : Armed plan w l
-  pub left : LeftEmpty plan w
   pub shardless : ShardlessHaveNothing w
   pub linked : Linked plan w l
-  pub links : EachLinked plan w l
   pub parts : OwnPartsAreValid plan w
   pub fills : FillsAreKeys plan w
   pub places : StepsWithin plan w

@@ -2,14 +2,12 @@
 ghost use Rattle.std.specs.Prelude.{◌≡◌, length};
 ghost use Rattle.sh_history.specs.History.{Legal};
 ghost use Rattle.sh_step.specs.Moves.{row};
-ghost use Rattle.sh_core.specs.LinkWords.{EachLinked};
 ghost use Rattle.sh_core.specs.InHeap.{StepsWithin, CountsFit, BellsAreSmall, ValuesFit, StoresWords, IssuesKeys};
-ghost use Rattle.sh_core.specs.Refines.{Always, OneKind, KindsAddUp, Filled, ClassesAreKnown, HeldKeysAreValid};
-ghost use Rattle.sh_core.specs.Refines.{ReadsWithin};
+ghost use Rattle.sh_core.specs.Refines.{Always, OneKind, ClassesAreKnown, HeldKeysAreValid};
 ghost use Rattle.sh_core.specs.Looks.{LooksAreTrue};
 ghost use Rattle.sh_core.specs.Refines.{NotesAreTrue, HoldsMatchLog, Counted, CountIsFew};
 ghost use Rattle.sh_core.specs.Refines.{PastIsRemoved, KeysMatchLog, EntriesAreOurs, GenerationsEnd, RetiredIsLast};
-ghost use Rattle.sh_core.specs.Refines.{Finished, OneOwner, Armed, LeftEmpty, ShardlessHaveNothing, Linked};
+ghost use Rattle.sh_core.specs.Refines.{Finished, OneOwner, Armed, ShardlessHaveNothing, Linked};
 ghost use Rattle.sh_core.specs.Refines.{OwnPartsAreValid, FillsAreKeys, HoldsAreFew, FlaggedAreEmpty, KeysInHandName};
 ghost use Rattle.sh_core.specs.Refines.{GoesOn};
 
@@ -20,16 +18,13 @@ pub fn refines_map()
     ensures legal { Always (λ plan w l. Legal plan.passes plan.keys.guard_max w.log) }
     ensures entries { Always (λ plan w l. EntriesAreOurs plan w) }
 
-    // Each slot of a page's class is exactly one of live, marked, retired, mine, in hand and queued, and the six fill
-    // the page.
+    // Each slot of a page's class is exactly one of live, marked, retired, mine, in hand and queued, so the six fill
+    // the page (`clauses_imply_more`).
     ensures one_kind { Always (λ plan w l. OneKind w l) }
-    ensures kinds { Always (λ plan w l. KindsAddUp w l) }
-    ensures filled { Always (λ plan w l. Filled w l) }
     ensures classes { Always (λ plan w l. ClassesAreKnown plan w) }
 
     // The value of a held key is in its slot, unchanged, and holds are what the log says.
     ensures held { Always (λ plan w l. HeldKeysAreValid plan w) }
-    ensures reads { Always (λ plan w l. ReadsWithin plan w) }
     ensures notes { Always (λ plan w l. NotesAreTrue plan w) }
     ensures looks { Always (λ plan w l. LooksAreTrue plan w) }
     ensures holds { Always (λ plan w l. HoldsMatchLog w) }
@@ -47,15 +42,13 @@ pub fn refines_map()
     ensures retired { Always (λ plan w l. RetiredIsLast plan w) }
     ensures finished { Always (λ plan w l. Finished plan w) }
 
-    // A shard has one owner at most; the duty to ring for an armed page is at one place; a left shard keeps nothing.
+    // A shard has one owner at most; the duty to ring for an armed page is at one place.
     ensures owners { Always (λ plan w l. OneOwner w) }
     ensures armed { Always (λ plan w l. Armed plan w l) }
-    ensures left { Always (λ plan w l. LeftEmpty plan w) }
     ensures shardless { Always (λ plan w l. ShardlessHaveNothing w) }
 
     // The links of what was put on pages and on bells.
     ensures linked { Always (λ plan w l. Linked plan w l) }
-    ensures links { Always (λ plan w l. EachLinked plan w l) }
     ensures flags { Always (λ plan w l. FlaggedAreEmpty w l) }
 
     // What a pass has of its own is within its shard, and each step is on a place of the heap.

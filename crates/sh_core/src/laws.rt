@@ -5,7 +5,27 @@ ghost use Rattle.sh_core.specs.Trails.{StepsMakeEntries};
 ghost use Rattle.sh_core.specs.AtomicMap.{EventsAreOperations, OpensEmpty, StatesTell};
 ghost use Rattle.sh_core.specs.WaitFree.{WaitFree};
 ghost use Rattle.sh_core.specs.Quiet.{QuietLosesNothing, CollectingFindsAll};
-ghost use Rattle.sh_core.specs.InHeap.{PlansHaveShapesPlaces, CountsLeaveRoom};
+ghost use Rattle.sh_core.specs.InHeap.{PlansHaveShapesPlaces, CountsLeaveRoom, ValuesFit};
+ghost use Rattle.sh_core.specs.Follows.{Filled, ReadsWithin, LeftEmpty, EachLinked};
+ghost use Rattle.sh_core.specs.Lists.{PutLists};
+ghost use Rattle.sh_core.specs.Refines.{OneKind, HeldKeysAreValid, NotesAreTrue, OneOwner, OwnPartsAreValid, Linked};
+ghost use Rattle.sh_core.specs.Refines.{Armed};
+ghost use Rattle.sh_core.specs.Worlds.{World};
+ghost use Rattle.sh_step.specs.Plans.{Plan};
+
+/// What follows from clauses of [`refines_map`](crate::refines_map), in each world in which these hold.
+pub fn clauses_imply_more()
+    // The six kinds of slots fill the page.
+    ensures filled { (w : World) (l : PutLists) → OneKind w l → Filled w l }
+    // What may be read of a held key is of its value, in its page.
+    ensures reads { (plan : Plan) (w : World) → HeldKeysAreValid plan w → NotesAreTrue plan w → ValuesFit plan w
+        → ReadsWithin plan w }
+    // A left shard keeps nothing.
+    ensures left { (plan : Plan) (w : World) → OneOwner w → OwnPartsAreValid plan w → LeftEmpty plan w }
+    // Each link of a list names the next item or the end, or exactly one pass ties it.
+    ensures links { (plan : Plan) (w : World) (l : PutLists) → OneKind w l → Armed plan w l → Linked plan w l
+        → OwnPartsAreValid plan w → EachLinked plan w l }
+{}
 
 /// What one more event adds to the trails of the passes: a step to that of the pass that did it, and nothing to
 /// another's. The part of a pass is what the steps of its trail leave of a newcomer's. A pass has as many entries in

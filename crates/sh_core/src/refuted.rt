@@ -3,8 +3,7 @@ ghost use Rattle.std.specs.Prelude.{◌≡◌, length};
 ghost use Rattle.sh_history.specs.History.{Legal};
 ghost use Rattle.sh_core.specs.Variants.{Table, AlwaysBy};
 ghost use Rattle.sh_core.specs.Refines.{OneKind, HeldKeysAreValid, NotesAreTrue, Counted, GenerationsEnd, Finished};
-ghost use Rattle.sh_core.specs.Refines.{Armed};
-ghost use Rattle.sh_core.specs.Refines.{LeftEmpty, Linked, OwnPartsAreValid, ClassesAreKnown, HoldsAreFew};
+ghost use Rattle.sh_core.specs.Refines.{Armed, Linked, OwnPartsAreValid, ClassesAreKnown, HoldsAreFew};
 ghost use Rattle.sh_core.specs.Refines.{FlaggedAreEmpty, KeysInHandName, GoesOn};
 ghost use Rattle.sh_core.specs.WrongRows.{crowds_at_once, both_remove, marks_and_stays, drops_and_forgets};
 ghost use Rattle.sh_core.specs.WrongRows.{knows_after_hold, keeps_generation, ignores_count, wraps_generation};
@@ -12,11 +11,10 @@ ghost use Rattle.sh_core.specs.WrongRows.{never_retires, ties_first, ends_at_unw
 ghost use Rattle.sh_core.specs.WrongRows.{never_rings, leaves_slots, leaves_bell, forgets_last_slot, gives_any_class};
 ghost use Rattle.sh_core.specs.WrongRows.{ignores_room, never_answers_gone, remembers_generation, tries_again};
 ghost use Rattle.sh_core.specs.WrongRows.{keeps_flag, cannot_ring};
-ghost use Rattle.sh_core.specs.LinkWords.{EachLinked};
+ghost use Rattle.sh_core.specs.Follows.{Filled, ReadsWithin, LeftEmpty, EachLinked};
 ghost use Rattle.sh_core.specs.InHeap.{StepsWithin, CountsFit, BellsAreSmall, ValuesFit, StoresWords, IssuesKeys};
-ghost use Rattle.sh_core.specs.Refines.{KindsAddUp, Filled, HoldsMatchLog, CountIsFew, PastIsRemoved, KeysMatchLog};
-ghost use Rattle.sh_core.specs.Refines.{RetiredIsLast, OneOwner, ShardlessHaveNothing, FillsAreKeys, ReadsWithin};
-ghost use Rattle.sh_core.specs.Refines.{EntriesAreOurs};
+ghost use Rattle.sh_core.specs.Refines.{HoldsMatchLog, CountIsFew, PastIsRemoved, KeysMatchLog};
+ghost use Rattle.sh_core.specs.Refines.{RetiredIsLast, OneOwner, ShardlessHaveNothing, FillsAreKeys, EntriesAreOurs};
 ghost use Rattle.sh_core.specs.MoreWrongRows.{retires_early, skips_generation, adopts_taken, leaves_cursors};
 ghost use Rattle.sh_core.specs.MoreWrongRows.{publishes_next, keeps_hold, fills_any_slot, reads_wrong_class};
 ghost use Rattle.sh_core.specs.MoreWrongRows.{reads_wrong_length, enters_uncounted, fits_any_length, rings_far};
@@ -61,14 +59,12 @@ pub fn refutes_wrong_tables()
     ensures gives_any_class { ¬ AlwaysBy gives_any_class (λ plan w l. ClassesAreKnown plan w) }
 {}
 
-/// More clauses of the theorem, each broken by such a table.
+/// More clauses of the theorem, and what follows from clauses, each broken by such a table.
 pub fn refutes_more_wrong_tables()
     ensures retires_early { ¬ AlwaysBy retires_early (λ plan w l. RetiredIsLast plan w) }
     ensures skips_generation { ¬ AlwaysBy skips_generation (λ plan w l. PastIsRemoved plan w) }
     ensures adopts_taken { ¬ AlwaysBy adopts_taken (λ plan w l. OneOwner w) }
     ensures leaves_slots_shardless { ¬ AlwaysBy leaves_slots (λ plan w l. ShardlessHaveNothing w) }
-    ensures leaves_bell_armed { ¬ AlwaysBy leaves_bell (λ plan w l. LeftEmpty plan w) }
-    ensures leaves_cursors { ¬ AlwaysBy leaves_cursors (λ plan w l. LeftEmpty plan w) }
     ensures publishes_next { ¬ AlwaysBy publishes_next (λ plan w l. KeysMatchLog plan w) }
     ensures keeps_hold { ¬ AlwaysBy keeps_hold (λ plan w l. HoldsMatchLog w) }
     ensures fills_any_slot { ¬ AlwaysBy fills_any_slot (λ plan w l. HeldKeysAreValid plan w) }
@@ -80,13 +76,16 @@ pub fn refutes_more_wrong_tables()
     ensures leaves_elsewhere { ¬ AlwaysBy leaves_elsewhere (λ plan w l. StepsWithin plan w) }
     ensures ties_ring_as_end { ¬ AlwaysBy ties_ring_as_end (λ plan w l. Linked plan w l) }
     ensures ignores_room_count { ¬ AlwaysBy ignores_room (λ plan w l. CountIsFew plan w) }
-    ensures forgets_last_slot_kinds { ¬ AlwaysBy forgets_last_slot (λ plan w l. KindsAddUp w l) }
-    ensures forgets_last_slot_filled { ¬ AlwaysBy forgets_last_slot (λ plan w l. Filled w l) }
     ensures never_retires_fills { ¬ AlwaysBy never_retires (λ plan w l. FillsAreKeys plan w) }
-    ensures ties_first_links { ¬ AlwaysBy ties_first (λ plan w l. EachLinked plan w l) }
-    ensures reads_wrong_class_words { ¬ AlwaysBy reads_wrong_class (λ plan w l. ReadsWithin plan w) }
     ensures never_retires_issues { ¬ AlwaysBy never_retires (λ plan w l. IssuesKeys plan w) }
     ensures ends_whole_word { ¬ AlwaysBy ends_whole_word (λ plan w l. StoresWords plan w) }
+
+    // What follows from clauses (`clauses_imply_more`).
+    ensures leaves_bell_armed { ¬ AlwaysBy leaves_bell (λ plan w l. LeftEmpty plan w) }
+    ensures leaves_cursors { ¬ AlwaysBy leaves_cursors (λ plan w l. LeftEmpty plan w) }
+    ensures forgets_last_slot_filled { ¬ AlwaysBy forgets_last_slot (λ plan w l. Filled w l) }
+    ensures ties_first_links { ¬ AlwaysBy ties_first (λ plan w l. EachLinked plan w l) }
+    ensures reads_wrong_class_words { ¬ AlwaysBy reads_wrong_class (λ plan w l. ReadsWithin plan w) }
 
     // Looks.
     ensures trusts_the_first_load { ¬ AlwaysBy trusts_the_first_load

@@ -16,6 +16,7 @@ use Rattle.sh_core.specs.Lists.{PutLists, accounts, class_named, slots_under, ti
 use Rattle.sh_core.specs.Refines.{Refines, live, marked, retired, kind_count}
 use Rattle.sh_core.specs.Stacks.{Chained, top, slot_ref, tying, cursor_at}
 use Rattle.sh_core.specs.Worlds.{World}
+use Rattle.sh_core.proofs.Clauses.Follows.{filled}
 use Rattle.sh_core.proofs.Sums.ClassSlots.{under_class, under_few}
 use Rattle.sh_core.proofs.Sums.Totals.{total_append, total_plus}
 use Rattle.sh_core.proofs.Sums.ListCounts.{no_first}
@@ -131,11 +132,11 @@ module _ (plan : Plan) (w : World) (l : PutLists) (laws : Lawful plan) (core : R
       × (marked (state_of w (slot_ref q t)) ≡ 0) × (retired (state_of w (slot_ref q t)) ≡ 0) × (times t (l.stack q) ≡ 0)
   past t le =
       let is : nat_lt t (slots_under (w.words.class_at q)) ≡ false = grind (arith, nat_tests) in
-      let none : kind_count w l (slot_ref q t) ≡ 0 = core.kinds (slot_ref q t) ∙ ap if1 is
+      let none : kind_count w l (slot_ref q t) ≡ 0 = core.one_kind (slot_ref q t) ∙ ap if1 is
       in (omega arith, omega arith, omega arith, omega arith)
 
   once : (t : ℕ) → times t (l.stack q) ≤ 1
-  once t = let k = core.kinds (slot_ref q t) in let few = if1_few (nat_lt t (slots_under (w.words.class_at q)))
+  once t = let k = core.one_kind (slot_ref q t) in let few = if1_few (nat_lt t (slots_under (w.words.class_at q)))
       in omega arith
 
   -- the queued slots are those of the stack
@@ -317,7 +318,7 @@ module _ (plan : Plan) (w : World) (l : PutLists) (core : Refines plan w l) (q :
     go : (n : ℕ) → w.words.class_at q ≡ n → FillPage (accounts w l q)
     go zero is = let i = blank_is is in subst FillPage (sym i) refl
     go (suc c) is =
-        let f = core.filled q in
+        let f = filled w l core.one_kind q in
         let under : slots_under (w.words.class_at q) ≡ slots c = ap slots_under
         (let z : suc c ≡ c + 1 = omega arith in is ∙ z) ∙ under_class c in
         let small = (core.classes q).0 in

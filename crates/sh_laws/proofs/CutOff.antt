@@ -8,13 +8,14 @@ use Rattle.sh_core.specs.Body.{Body}
 use Rattle.sh_core.specs.Collections.{total, if1}
 use Rattle.sh_core.specs.Hand.{Hand}
 use Rattle.sh_core.specs.Hand.TheVariants.{Tying, RingTying}
-use Rattle.sh_core.specs.LinkWords.{LinksOn}
+use Rattle.sh_core.specs.Follows.{LinksOn}
 use Rattle.sh_core.specs.Lists.{PutLists, accounts, lists_of, slots_under, state_of, times}
 use Rattle.sh_core.specs.Plans.{Plan, heap_pages, plan_of, shard_of, over_heap}
 use Rattle.sh_core.specs.Refines.{Always, Refines, holds_now, in_hands, marked}
 use Rattle.sh_core.specs.Rows.{idle, hand}
 use Rattle.sh_core.specs.Stacks.{slot_ref, link_to, ties_of, ring_ties, bell_link}
 use Rattle.sh_core.specs.Worlds.{World, run}
+use Rattle.sh_core.proofs.Clauses.LinkFacts.{links_of}
 use Rattle.sh_core.proofs.Clauses.RunTheorem.{theorem}
 use Rattle.sh_core.proofs.Sums.ClassSlots.{under_few}
 use Rattle.sh_core.proofs.Sums.ListCounts.{times_cons}
@@ -123,7 +124,7 @@ module _ (plan : Plan) (w : World) (l : PutLists) (all : Refines plan w l) where
   -- a slot of a page's lists is one of its class, and is there once
   slot_times : (q s : ℕ)
       → times s (l.stack q) + times s (l.chain q) ≤ if1 (nat_lt s (slots_under (w.words.class_at q)))
-  slot_times q s = let kinds = all.kinds (slot_ref q s) in omega (arith, kinds)
+  slot_times q s = let kind = all.one_kind (slot_ref q s) in omega (arith, kind)
 
   queued_few : (q : ℕ) → length (l.stack q) + length (l.chain q) ≤ slots_under (w.words.class_at q)
   queued_few q = two_lists (λ i. i) (slots_under (w.words.class_at q)) (l.stack q) (l.chain q)
@@ -142,8 +143,9 @@ module _ (plan : Plan) (w : World) (l : PutLists) (all : Refines plan w l) where
       let tied : ℕ → ℕ = λ s. total (ties_of (slot_ref q s)) w.parts in
       let no : (s : ℕ) → tied s ≡ 0 = λ s. let less = total_le (ties_of (slot_ref q s)) (ties_on q)
       (λ p. tie_is_on q s p p.hand) w.parts in omega (arith, less, free) in
-      let a = none_cut_off (w.words.link_at q) (w.words.link_at q) tied (l.stack q) (all.links.stack q) no (λ s e. e) in
-      let b = none_cut_off (w.words.link_at q) (w.words.link_at q) tied (l.chain q) (all.links.chain q) no (λ s e. e) in
+      let links = links_of plan w l all in
+      let a = none_cut_off (w.words.link_at q) (w.words.link_at q) tied (l.stack q) (links.stack q) no (λ s e. e) in
+      let b = none_cut_off (w.words.link_at q) (w.words.link_at q) tied (l.chain q) (links.chain q) no (λ s e. e) in
       omega (arith, a, b)
 
   cut_few : (q : ℕ) → slots_cut_off w l q ≤ slots_under (w.words.class_at q)
@@ -159,7 +161,7 @@ module _ (plan : Plan) (w : World) (l : PutLists) (all : Refines plan w l) where
         ≤ 1
     go zero is = omega (arith, is)
     go (suc m) is =
-        let home : shard_of plan q ≡ n = (all.links.home_pages n q (omega (arith, is))).0 in
+        let home : shard_of plan q ≡ n = ((links_of plan w l all).home_pages n q (omega (arith, is))).0 in
         let armed = all.armed q in
         let one : times q (l.bells (shard_of plan q)) + times q (l.bell_chain (shard_of plan q)) ≤ 1 =
         let a = armed.0 in let b = armed.1 in omega (arith, a, b) in
@@ -168,7 +170,8 @@ module _ (plan : Plan) (w : World) (l : PutLists) (all : Refines plan w l) where
   rung_few : (n : ℕ) → length (l.bells n) + length (l.bell_chain n) ≤ plan.pages
   unfolding shard_of
   rung_few n = two_lists (λ i. n * plan.pages + i) plan.pages (l.bells n) (l.bell_chain n)
-      (λ q some. (q % plan.pages, below q (all.links.home_pages n q some).1, place q (all.links.home_pages n q some).0))
+      (λ q some. let home = (links_of plan w l all).home_pages n q some
+      in (q % plan.pages, below q home.1, place q home.0))
       (page_once n) where
         pages_of : (m q : ℕ) → q < plan.shards * m → 0 < m
         pages_of zero q less = absurd (omega (arith, less))
@@ -187,8 +190,9 @@ module _ (plan : Plan) (w : World) (l : PutLists) (all : Refines plan w l) where
       let no : (q : ℕ) → tied q ≡ 0 = λ q. let less = total_le (ring_ties plan n q) (rings_for plan n)
       (λ p. ring_is_for plan n q p p.hand) w.parts in omega (arith, less, free) in
       let same : (q : ℕ) → w.words.page_link_at q ≡ 0 → link q ≡ 0 = no_link plan w.words.page_link_at n in
-      let a = none_cut_off w.words.page_link_at link tied (l.bells n) (all.links.bell n) no same in
-      let b = none_cut_off w.words.page_link_at link tied (l.bell_chain n) (all.links.bell_chain n) no same in
+      let links = links_of plan w l all in
+      let a = none_cut_off w.words.page_link_at link tied (l.bells n) (links.bell n) no same in
+      let b = none_cut_off w.words.page_link_at link tied (l.bell_chain n) (links.bell_chain n) no same in
       omega (arith, a, b)
 
   pages_few : (n : ℕ) → pages_cut_off w l n ≤ plan.pages

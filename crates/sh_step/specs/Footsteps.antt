@@ -1,5 +1,5 @@
 -- What a pass did, step by step, and what is counted over a list of its steps.
-use Rattle.std.specs.Prelude.{ℕ, ◌≡◌, ◌+◌, ◌==◌, Bool, true, false, ◌&&◌, List, [], ◌∷◌, ◌++◌, Some, None, length}
+use Rattle.std.specs.Prelude.{ℕ, ◌≡◌, ◌+◌, ◌==◌, Bool, true, false, ◌&&◌, List, [], ◌∷◌, ◌++◌, Some, None}
 use Rattle.std.specs.Prelude.{count_by}
 use Rattle.sh_shape.specs.declared.places.Place.{Place}
 use Rattle.sh_shape.specs.declared.places.Place.TheVariants.{Head, Link, PageLink, Owner, Bell}
@@ -68,9 +68,6 @@ abbrev pub arms_page : Footstep → Bool
 arms_page t = elim (t.action) [ Arm y ↦ true | _ ↦ false ]
 
 -- how often each of these is in a list of steps
-abbrev pub steps : List Footstep → ℕ
-steps trail = length trail
-
 abbrev pub takes : ℕ → List Footstep → ℕ
 takes q trail = count_by (takes_page q) trail
 

@@ -187,7 +187,3 @@ StoresAreBlind = (plan : Plan) (p : Body) (m : Move) (new : ℕ) → (row_of pla
 
 abbrev pub is_enabled : Plan → Body → Action → Bool
 is_enabled plan p a = is_some (move_of plan p a)
-
--- the step of an action by a pass with this body, if the action's condition holds
-abbrev pub next_step : Plan → Body → Action → Option Step
-next_step plan p a = option_map step_of (row plan p a)

@@ -159,7 +159,7 @@ module _ (plan : Plan) (w : World) (l : PutLists) (laws : Lawful plan) (all : Ag
         let t = total_at (bell_cursor_at n q) w.parts a p at in
         let c = all.lists.bells.cursors n q in
         let f = first_times (l.bell_chain n) q in
-        let at_home = bell_home plan w.words w.parts l n q all.lists (omega arith) in
+        let at_home = bell_home plan w.words w.parts l n q (all.lists.bells.ties n q) (omega arith) in
         let chain : times q (l.bell_chain (shard_of plan q)) ≡ times q (l.bell_chain n) = ap
         (λ (k : ℕ). times q (l.bell_chain k)) at_home in
         let mine : own plan p q ≡ true = ap (λ (o : Option ℕ). owned_by plan o q) owned ∙ ap (λ (k : ℕ). n == k) at_home

@@ -1,31 +1,30 @@
 -- The clauses of the theorem, from what is kept.
-use Rattle.std.proofs.Common.{◌≡◌, ℕ, ◌+◌, ◌-◌, ◌<◌, ◌≤◌, ◌==◌, ◌&&◌, Bool, true, false, cond, List, [], ◌∷◌, sym, refl}
-use Rattle.std.proofs.Common.{◌∙◌, subst, arith, Option, Some, None, slice_get, eqb-true, lt-ltb, le-ltb}
-use Rattle.std.specs.Prelude.{not, nat_lt}
-use Rattle.std.proofs.lemmas.Bool.Decides.{nat_tests}
+use Rattle.std.proofs.Common.{◌≡◌, ℕ, ◌+◌, ◌<◌, ◌≤◌, ◌==◌, ◌&&◌, Bool, true, false, cond, List, [], ◌∷◌, sym, refl}
+use Rattle.std.proofs.Common.{subst, arith, Some, slice_get, eqb-true}
+use Rattle.std.specs.Prelude.{not}
 use Rattle.sh_slots.specs.declared.hand.SlotRef.{SlotRef}
 use Rattle.sh_slots.specs.declared.hand.KeyRef.{KeyRef}
 use Rattle.sh_step.specs.Fields.{Fields, fields_of}
 use Rattle.sh_step.specs.Plans.{Plan, shard_of, Lawful, over_heap}
-use Rattle.sh_slots.specs.Slots.{slot_ref_of, slot_refs}
+use Rattle.sh_slots.specs.Slots.{slot_ref_of}
 use Rattle.sh_step.specs.Collections.{total, if1}
 use Rattle.sh_step.specs.declared.body.Body.{Body}
-use Rattle.sh_core.specs.Lists.{PutLists, times, mine_at, no_lists, state_of, accounts, slots_under}
+use Rattle.sh_core.specs.Lists.{PutLists, times, no_lists, state_of}
 use Rattle.sh_core.specs.Stacks.{slot_ref, ties_of, cursor_at, ring_ties, bell_cursor_at}
 use Rattle.sh_core.specs.Bells.{rings, armed_at, owns}
 use Rattle.sh_core.specs.Placed.{OwnNotesOf, Agreement}
-use Rattle.sh_step.specs.Rows.{owned_by}
 use Rattle.sh_core.specs.Worlds.{World, open_world, value_at}
 use Rattle.sh_core.specs.Tallies.{held, lost, at_slot, current, stale}
 use Rattle.sh_core.specs.Stories.{values}
-use Rattle.sh_core.specs.Refines.{OneKind, KindsAddUp, Filled, Counted, holds_now, LeftEmpty}
+use Rattle.sh_core.specs.Reads.{AllReadsAgree}
+use Rattle.sh_core.specs.Refines.{OneKind, HeldKeysAreValid, Counted, holds_now}
 use Rattle.sh_core.proofs.Sums.Totals.{total_at, total_plus, zero_all, total_le}
 use Rattle.sh_core.proofs.Slots.Slots.{same_slot-refl}
-use Rattle.sh_core.proofs.Slots.CrowdedAndClass.{three, accounts_fill}
-use Rattle.sh_core.proofs.Sums.ClassSlots.{under_class, under_class_word, room_is}
+use Rattle.sh_core.proofs.Slots.CrowdedAndClass.{three}
+use Rattle.sh_core.proofs.Slots.Permits.{value_one}
+use Rattle.sh_core.proofs.Sums.ClassSlots.{room_is}
 use Rattle.sh_core.proofs.Clauses.OpenSums.{sums_open, none_new, part_new}
 use Rattle.sh_core.proofs.Sums.PageNumbers.{over_none}
-use Rattle.sh_core.proofs.Lists.ListsSteps.{owns_none}
 
 pub all_open : (plan : Plan) → Lawful plan → Agreement plan (open_world plan) no_lists
 unfolding total fields_of
@@ -75,36 +74,12 @@ all_open plan laws = record {
   no_link n q true = rw (over_none plan n 2 (omega arith)) refl
   no_link n q false = refl
 
--- a blank page has no slots to count
-blank_fills : (w : World) (l : PutLists) (q : ℕ) → w.words.class_at q ≡ 0 → let a = accounts w l q
-    in a.live + (a.marked + (a.retired + (a.mine + (a.hand + a.queued)))) ≡ slots_under (w.words.class_at q)
-unfolding accounts total slot_refs
-blank_fills w l q e = rw e refl
-
 module _ (plan : Plan) (w : World) (l : PutLists) (all : Agreement plan w l) where
-  pub kinds_add_up : KindsAddUp w l
-  kinds_add_up x =
+  pub one_kind : OneKind w l
+  one_kind x =
       let fine = all.sums.slots x in
       let states = three (state_of w x).present (state_of w x).marked in
       let is = room_is (w.words.class_at x.page) x.slot in omega arith
-
-  pub one_kind : OneKind w l
-  one_kind x c is = (
-    λ small. let sum = kinds_add_up x in let one : if1 (nat_lt x.slot (slots_under (w.words.class_at x.page)))
-        ≡ 1 = rw (is, lt-ltb x.slot (slots_under (c + 1)) (rw (under_class c) small)) refl in omega arith,
-    λ big. let sum = kinds_add_up x in let none : if1 (nat_lt x.slot (slots_under (w.words.class_at x.page)))
-        ≡ 0 = rw (is, le-ltb x.slot (slots_under (c + 1)) (rw (under_class c) big)) refl in omega arith,
-  )
-
-  pub filled : Filled w l
-  filled q = go (w.words.class_at q == 0) refl where
-    go : (b : Bool) → (w.words.class_at q == 0) ≡ b → let a = accounts w l q
-        in a.live + (a.marked + (a.retired + (a.mine + (a.hand + a.queued)))) ≡ slots_under (w.words.class_at q)
-    go true e = blank_fills w l q (eqb-true (w.words.class_at q) 0 e)
-    go false e =
-        let some : w.words.class_at q ≡ w.words.class_at q - 1 + 1 = grind (arith, nat_tests) in
-        accounts_fill plan w l q (w.words.class_at q - 1) all.sums.slots some
-        ∙ sym (under_class_word (w.words.class_at q) e)
 
   some_total : {A : Type 0} (f g : A → ℕ) → ((x : A) → g x ≡ 0 → f x ≡ 0) → (xs : List A) → total g xs ≡ 0 → total f xs
       ≡ 0
@@ -144,6 +119,20 @@ module _ (plan : Plan) (w : World) (l : PutLists) (all : Agreement plan w l) whe
         let d = parts st.present n.generation st.generation c in
         (d.0, d.1, (all.sums.keys k n name).value (sym d.1) (rw d.0 refl))
 
+  pub held_keys : AllReadsAgree plan w → HeldKeysAreValid plan w
+  held_keys know a p k at some =
+      let n = (know a p at).named k some in
+      let h = held_stands a p k n.0 at some n.1 in
+      record {
+        name = n.0;
+        unpacks = n.1;
+        page = n.2;
+        slot = n.3;
+        present = h.0;
+        generation = h.1;
+        value = value_one k w.log (value_at w.words n.0.page n.0.slot) h.2;
+      }
+
   pub counted : Counted plan w
   counted x =
       let f = all.sums.slots x in
@@ -176,20 +165,3 @@ module _ (plan : Plan) (w : World) (l : PutLists) (all : Agreement plan w l) whe
             (λ k. if1 (at_slot x (plan.keys.unpack k)))
             (λ k. let s = split (at_slot x (plan.keys.unpack k)) (current st (plan.keys.unpack k)) in omega arith)
             p.holds
-
-  pub left_empty : LeftEmpty plan w
-  left_empty n free =
-      let d = (all.lists.owned n).0 in
-      let none : total (owns n) w.parts ≡ 0 = omega arith in (
-        λ x h. zero_all (mine_at x) (owns n) w.parts (λ j u at z. (all.lists.own_notes j u at).mines x
-            (no_owner u.owned x.page h z)) none,
-        λ q s h. zero_all (cursor_at q s) (owns n) w.parts (λ j u at z. (all.lists.own_notes j u at).points q s
-            (no_owner u.owned q h z)) none,
-        λ q h. zero_all (armed_at q) (owns n) w.parts (λ j u at z. (all.lists.own_notes j u at).arms q
-            (no_owner u.owned q h z)) none,
-      ) where
-        no_owner : (o : Option ℕ) (q : ℕ) → shard_of plan q ≡ n
-            → (elim o as (λ _. ℕ) [ Some k ↦ if1 (k == n) | None ↦ 0 ])
-            ≡ 0 → owned_by plan o q ≡ false
-        no_owner o q h z = owns_none plan o q (let P : ℕ → Type 0 = λ m.
-            (elim o as (λ _. ℕ) [ Some k ↦ if1 (k == m) | None ↦ 0 ]) ≡ 0 in subst P (sym h) z)

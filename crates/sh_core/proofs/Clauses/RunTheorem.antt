@@ -23,10 +23,9 @@ use Rattle.sh_step.specs.Conditions.{May}
 use Rattle.sh_core.proofs.Moves.ByMove.{lists_after, run_keeps}
 use Rattle.sh_core.proofs.Moves.RunAll.{all_move}
 use Rattle.sh_core.proofs.Kept.ReadNotes.{reads_move}
-use Rattle.sh_core.proofs.Clauses.RunRefines.{all_open, one_kind, kinds_add_up, filled, counted, left_empty}
+use Rattle.sh_core.proofs.Clauses.RunRefines.{all_open, one_kind, held_keys, counted}
 use Rattle.sh_core.proofs.Clauses.KeyFacts.{past, keys_told, holds_told}
 use Rattle.sh_core.proofs.Kept.LastGenerations.{last_move, last_open}
-use Rattle.sh_core.proofs.Clauses.LinkFacts.{each_linked}
 use Rattle.sh_core.proofs.Clauses.OwnerFacts.{one_owner, shardless, own_stands}
 use Rattle.sh_key.specs.Layout.{Layout, IsLayout}
 use Rattle.sh_shape.specs.Shape.{Numbers, IsShape, Fits}
@@ -38,7 +37,6 @@ use Rattle.sh_core.proofs.Clauses.BellWords.{bells_are_small}
 use Rattle.sh_core.proofs.Kept.RowsFit.{stores_words, issues_keys}
 use Rattle.sh_core.specs.Tallies.{visits}
 use Rattle.sh_core.proofs.Clauses.LayoutLaws.{plan_lawful}
-use Rattle.sh_core.proofs.Clauses.HeldKeysAreValid.{held_keys, reads}
 use Rattle.sh_core.proofs.Kept.StaysInHeap.{places_move, places_open, hand_within}
 use Rattle.sh_core.proofs.Kept.PlacesInHeap.{steps_within, counts_fit, moves_count}
 use Rattle.sh_core.proofs.Slots.SlotSums.{visits_few}
@@ -153,11 +151,8 @@ module _ (plan : Plan) (w : World) (l : PutLists) (laws : Lawful plan) (kept : I
     legal = all.sums.legal;
     entries = kept.entries;
     one_kind = one_kind plan w l all;
-    kinds = kinds_add_up plan w l all;
-    filled = filled plan w l all;
     classes = classes;
     held = held_keys plan w l all kept.notes;
-    reads = reads plan w l all kept.notes;
     notes = notes plan w l all kept.notes kept.words;
     looks = kept.looks;
     holds = holds_told plan w l all;
@@ -171,10 +166,8 @@ module _ (plan : Plan) (w : World) (l : PutLists) (laws : Lawful plan) (kept : I
     finished = λ x a b c. (all.sums.slots x).owed a b c;
     owners = one_owner plan w l all;
     armed = all.lists.duty;
-    left = left_empty plan w l all;
     shardless = shardless plan w l all;
     linked = (all.lists.stacks, all.lists.bells);
-    links = each_linked plan w l laws all kept.notes kept.places;
     parts = own_stands plan w l laws all kept.notes kept.places;
     fills = fills;
     places = steps_within plan w l laws all kept.notes kept.places;

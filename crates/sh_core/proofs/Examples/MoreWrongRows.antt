@@ -13,13 +13,12 @@ use Rattle.sh_step.specs.declared.body.Body.{Body}
 use Rattle.sh_step.specs.Parts.{newcomer}
 use Rattle.sh_step.specs.Plans.{Plan}
 use Rattle.sh_step.specs.Rows.{drop_hand, finish, publish}
-use Rattle.sh_core.specs.LinkWords.{EachLinked}
+use Rattle.sh_core.specs.Follows.{Filled, ReadsWithin, LeftEmpty, EachLinked}
 use Rattle.sh_core.specs.InHeap.{StepsWithin, CountsFit, BellsAreSmall, ValuesFit, StoresWords, IssuesKeys}
 use Rattle.sh_core.specs.Lists.{times}
-use Rattle.sh_core.specs.Refines.{KindsAddUp, Filled, HeldKeysAreValid, NotesAreTrue, HoldsMatchLog, CountIsFew}
-use Rattle.sh_core.specs.Refines.{PastIsRemoved}
-use Rattle.sh_core.specs.Refines.{KeysMatchLog, RetiredIsLast, OneOwner, LeftEmpty, ShardlessHaveNothing, Linked}
-use Rattle.sh_core.specs.Refines.{FillsAreKeys, ReadsWithin}
+use Rattle.sh_core.specs.Refines.{HeldKeysAreValid, NotesAreTrue, HoldsMatchLog, CountIsFew, PastIsRemoved}
+use Rattle.sh_core.specs.Refines.{KeysMatchLog, RetiredIsLast, OneOwner, ShardlessHaveNothing, Linked}
+use Rattle.sh_core.specs.Refines.{FillsAreKeys}
 use Rattle.sh_core.specs.Stacks.{slot_ref}
 use Rattle.sh_core.specs.Variants.{step_by, run_from_by, run_by, list_step_by, lists_from_by, AlwaysBy}
 use Rattle.sh_core.specs.Worlds.{World, value_at}
@@ -193,12 +192,6 @@ sixth_count_is_too_many = refuted ignores_room (λ plan w l. CountIsFew plan w) 
     (three_slots ++ inserted 0 ++ ev 0 (EnterGet 4096) ∷ ev 0 (EnterGet 4096) ∷ ev 0 (EnterGet 4096) ∷
     ev 0 (EnterGet 4096) ∷ ev 0 (EnterGet 4096) ∷ ev 0 (EnterGet 4096) ∷ [])
     (λ h. let z : 6 ≤ 5 = h (slot_ref 0 0) in absurd (omega arith))
-
-pub forgotten_slot_adds_up_twice : ¬ AlwaysBy forgets_last_slot (λ plan w l. KindsAddUp w l)
-unfolding more_wrongly
-forgotten_slot_adds_up_twice = refuted forgets_last_slot (λ plan w l. KindsAddUp w l) 1 (omega arith) (omega arith)
-    (three_slots ++ inserted 2 ++ ev 0 (SetClass (page 0 0) 6) ∷ [])
-    (λ h. let z : 2 ≡ 1 = h (slot_ref 0 2) in absurd (omega arith))
 
 pub page_has_a_slot_too_many : ¬ AlwaysBy forgets_last_slot (λ plan w l. Filled w l)
 unfolding more_wrongly

@@ -23,7 +23,8 @@ use Rattle.sh_core.specs.Lists.{PutLists, list_step, lists_from, lists_of, no_li
 use Rattle.sh_core.specs.Stacks.{slot_ref}
 use Rattle.sh_core.specs.Refines.{Always, OneKind, HeldKeysAreValid, NotesAreTrue, Counted, GenerationsEnd, Finished}
 use Rattle.sh_core.specs.Refines.{Armed}
-use Rattle.sh_core.specs.Refines.{LeftEmpty, Linked, OwnPartsAreValid, ClassesAreKnown, HoldsAreFew, FlaggedAreEmpty}
+use Rattle.sh_core.specs.Follows.{LeftEmpty}
+use Rattle.sh_core.specs.Refines.{Linked, OwnPartsAreValid, ClassesAreKnown, HoldsAreFew, FlaggedAreEmpty}
 use Rattle.sh_core.specs.Refines.{KeysInHandName, GoesOn}
 use Rattle.sh_core.specs.Variants.{Table, step_by, run_from_by, run_by, list_step_by, lists_from_by, lists_by, AlwaysBy}
 use Rattle.sh_core.specs.WrongRows.{crowds_at_once, both_remove, marks_and_stays, drops_and_forgets, knows_after_hold}
@@ -197,9 +198,8 @@ leaver_keeps_slots = refuted leaves_slots (λ plan w l. LeftEmpty plan w) 1 (ome
 pub forgotten_slot_has_two_kinds : ¬ AlwaysBy forgets_last_slot (λ plan w l. OneKind w l)
 unfolding wrongly
 forgotten_slot_has_two_kinds = refuted forgets_last_slot (λ plan w l. OneKind w l) 1 (omega arith) (omega arith)
-    (three_slots ++ inserted 2 ++ ev 0 (SetClass (page 0 0) 6) ∷ []) (λ h.
-    let small : 2 < 4 = omega arith in
-    let z : 2 ≡ 1 = (h (slot_ref 0 2) 6 refl).0 small in absurd (omega arith))
+    (three_slots ++ inserted 2 ++ ev 0 (SetClass (page 0 0) 6) ∷ [])
+    (λ h. let z : 2 ≡ 1 = h (slot_ref 0 2) in absurd (omega arith))
 
 -- a key with room for one more hold is not crowded if it may have four
 abbrev getting : List Event
@@ -275,9 +275,7 @@ collected = three_slots ++ inserted 0 ++ put_back 1 4096 ++ ev 0 (Take (page 0 0
 pub followed_twice_is_mine_twice : ¬ AlwaysBy follows_twice (λ plan w l. OneKind w l)
 unfolding wrongly
 followed_twice_is_mine_twice = refuted follows_twice (λ plan w l. OneKind w l) 2 (omega arith) (omega arith) collected
-    (λ h.
-    let small : 0 < 3 = omega arith in
-    let z : 2 ≡ 1 = (h (slot_ref 0 0) 7 refl).0 small in absurd (omega arith))
+    (λ h. let z : 2 ≡ 1 = h (slot_ref 0 0) in absurd (omega arith))
 
 -- no pass follows what was rung for if its owner left
 abbrev pub ringing : List Event

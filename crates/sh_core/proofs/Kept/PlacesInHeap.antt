@@ -1,6 +1,6 @@
 -- Each action whose condition holds steps on a place of the heap, and no count leaves its range.
 use Rattle.std.proofs.Common.{◌≡◌, ℕ, zero, suc, ◌+◌, ◌-◌, ◌*◌, ◌/◌, ◌<◌, ◌≤◌, ◌==◌, true, List, length, drop, refl}
-use Rattle.std.proofs.Common.{◌&&◌, Bool, false}
+use Rattle.std.proofs.Common.{◌&&◌, ◌||◌, Bool, false}
 use Rattle.std.specs.Prelude.{not, nat_lt}
 use Rattle.std.proofs.lemmas.Bool.Decides.{nat_tests}
 use Rattle.std.proofs.Common.{sym, ap, ◌∙◌, subst, arith, Option, Some, None, slice_get, eqb-true, eq-eqb}
@@ -30,7 +30,7 @@ use Rattle.sh_core.specs.InHeap.{AllInHeap, HasPlace, StepsWithin, CountFits, Co
 use Rattle.sh_core.proofs.Sums.Totals.{total_at, total_without, some_part}
 use Rattle.sh_core.proofs.Slots.Slots.{same_slot-refl}
 use Rattle.sh_core.proofs.Slots.SlotSums.{room_to_enter}
-use Rattle.sh_core.proofs.Clauses.HeldKeysAreValid.{reads}
+use Rattle.sh_core.proofs.Clauses.RunRefines.{held_stands}
 use Rattle.sh_step.specs.declared.moves.Move.{Move}
 use Rattle.sh_step.specs.declared.moves.Move.TheVariants.{EnterGet, EnterRemove, Mark, Drop, DropHold, Finish, FillSlot}
 use Rattle.sh_step.specs.declared.moves.Move.TheVariants.{Fill, Publish, ReadClass, ReadLength, ReadWord, ReadPage}
@@ -88,6 +88,23 @@ module _ (plan : Plan) (w : World) (l : PutLists) (laws : Lawful plan) (all : Ag
       let r = room_placed plan w.words x all.bounds (omega arith) in
       rw fine.class_is (slot_words_fit_page (w.words.class_at x.page - 1) x.slot i r.1 (omega arith))
 
+  -- if a word of a held key is read
+  reading : (a : ℕ) (p : Body) (k : ℕ) (x : KeyRef) (c m i : ℕ) → slice_get w.parts a ≡ Some p
+      → plan.keys.unpack k ≡ Some x → noted k p.class_words ≡ Some c → noted k p.lengths ≡ Some m → i < m
+      → x.slot * width (c - 1) + i < 48
+  reading a p k x c m i at name class_is length_is less =
+      let class = (know a p at).classed k c class_is in
+      let size = ((know a p at).measured k m length_is).1 x name in
+      let h = held_stands plan w l all a p k x at class.0 name in
+      let st = fields_of (w.words.state_at x.page x.slot) in
+      let there : (st.present || st.marked) ≡ true = rw h.0 refl in
+      let f = all.sums.slots (slot_ref_of x) in
+      let one : if1 (st.present || st.marked) ≡ 1 = rw there refl in
+      let r = room_placed plan w.words (slot_ref_of x) all.bounds (omega arith) in
+      let short = all.bounds.lengths x.page x.slot there in
+      let P : ℕ → Type 0 = λ z. x.slot * width (z - 1) + i < 48 in
+      subst P (class.1 x name) (slot_words_fit_page (w.words.class_at x.page - 1) x.slot i r.1 (omega arith))
+
   -- what a look loads next
   look_placed : (k : ℕ) (x : KeyRef) (s : Sight) → Named plan k x → is_read x s ≡ false
       → HasPlace plan (look_place x s)
@@ -108,7 +125,7 @@ module _ (plan : Plan) (w : World) (l : PutLists) (laws : Lawful plan) (all : Ag
   -- a page on a bell, or on its chain, is one of the heap
   pub belled : (n q : ℕ) → 0 < times q (l.bells n) + times q (l.bell_chain n) → q < heap_pages plan
   belled n q some =
-      let at_home = bell_home plan w.words w.parts l n q all.lists some in
+      let at_home = bell_home plan w.words w.parts l n q (all.lists.bells.ties n q) some in
       let s : times q (l.bells (shard_of plan q)) + times q (l.bell_chain (shard_of plan q))
       ≡ times q (l.bells n) + times q (l.bell_chain n) = ap
       (λ (k : ℕ). times q (l.bells k) + times q (l.bell_chain k)) at_home in
@@ -157,7 +174,7 @@ module _ (plan : Plan) (w : World) (l : PutLists) (laws : Lawful plan) (all : Ag
   place_of a p (ReadClass k x) at (idle, named, is) = named.page
   place_of a p (ReadLength k x) at (idle, named, is) = (named.page, named.slot)
   place_of a p (ReadWord k x c i) at (n, idle, named, width_is, length_is, is, less) =
-      (named.page, (reads plan w l all know a p k x c n i at named.unpacks width_is length_is less).2)
+      (named.page, reading a p k x c n i at named.unpacks width_is length_is less)
   place_of a p (Peek x) at (idle, inside) = inside
   place_of a p (Look k x) at (idle, named) = (named.page, named.slot)
   place_of a p (LookOn k x s) at (is, more) =

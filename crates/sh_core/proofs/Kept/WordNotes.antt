@@ -24,7 +24,6 @@ use Rattle.sh_core.proofs.Sums.Totals.{get_set}
 use Rattle.sh_core.proofs.Clauses.OpenSums.{part_new}
 use Rattle.sh_core.proofs.Slots.Permits.{value_one}
 use Rattle.sh_core.proofs.Clauses.RunRefines.{held_stands}
-use Rattle.sh_core.proofs.Clauses.HeldKeysAreValid.{reads}
 use Rattle.sh_step.specs.declared.moves.Move.{Move}
 use Rattle.sh_step.specs.declared.moves.Move.TheVariants.{EnterGet, DropHold, ReadClass, ReadLength, ReadWord}
 use Rattle.sh_step.specs.Moves.{row_of}
@@ -156,16 +155,16 @@ module _ (plan : Plan) (w : World) (l : PutLists) (a : ℕ) (p : Body) (all : Ag
   read_told k i n c m name width_is length_is is less =
       let some = has_some (λ j. j == k) p.holds is in
       let h = held_stands plan w l all a p k n at some name in
-      let r = reads plan w l all know a p k n c m i at name width_is length_is less in
+      let class = ((know a p at).classed k c width_is).1 n name in
+      let size = ((know a p at).measured k m length_is).1 n name in
       let f : ℕ → ℕ = w.words.payload_at n.page in
       let s : ℕ = n.slot * width (w.words.class_at n.page - 1) in
       let count : ℕ = w.words.length_at n.page n.slot in
       let v : List ℕ = words_from f s count in
       let many = length-words f s count in
-      let r1 = r.1 in
       let here : slice_index v i ≡ f (s + i) = get-words f s count i (omega arith) in
-      let width_same : f (s + i) ≡ f (n.slot * width (c - 1) + i) = ap (λ (d : ℕ). f (n.slot * width (d - 1) + i))
-      (sym r.0) in
+      let width_same : f (s + i) ≡ f (n.slot * width (c - 1) + i) =
+      ap (λ (d : ℕ). f (n.slot * width (d - 1) + i)) class in
       record {
         held = some;
         value = v;

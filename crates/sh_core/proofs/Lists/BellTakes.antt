@@ -135,13 +135,14 @@ ties_home plan n q h (p ∷ ps) = let one = each (p.hand) in let rest = ties_hom
       all_false false = refl
   each _ = refl
 
-pub bell_home : (plan : Plan) (w : Words) (ps : List Body) (l : PutLists) (n q : ℕ) → ListsAgreeOf plan w ps l
-    → 0 < times q (l.bells n) + times q (l.bell_chain n) → shard_of plan q ≡ n
-bell_home plan w ps l n q old some = go (n == shard_of plan q) refl where
+pub bell_home : (plan : Plan) (w : Words) (ps : List Body) (l : PutLists) (n q : ℕ)
+    → if1 (not (bell_link plan w.page_link_at n q == 0)) + total (ring_ties plan n q) ps
+    ≡ times q (l.bells n) + times q (l.bell_chain n) → 0 < times q (l.bells n) + times q (l.bell_chain n)
+    → shard_of plan q ≡ n
+bell_home plan w ps l n q ties some = go (n == shard_of plan q) refl where
   go : (b : Bool) → (n == shard_of plan q) ≡ b → shard_of plan q ≡ n
   go true e = sym (eqb-true n (shard_of plan q) e)
   go false e = absurd (
-      let ties = old.bells.ties n q in
       let nobody = ties_home plan n q e ps in
       let unwritten : if1 (not (bell_link plan w.page_link_at n q == 0)) ≡ 0 = rw e refl in omega arith
       )
@@ -176,7 +177,7 @@ module _ (plan : Plan) (w : Words) (ps : List Body) (l : PutLists) (a : ℕ) (p 
       in let v = if1_self q in omega arith
 
   page_home : shard_of plan q ≡ n
-  page_home = bell_home plan w ps l n q old (let s = page_stands in omega arith)
+  page_home = bell_home plan w ps l n q (old.bells.ties n q) (let s = page_stands in omega arith)
 
   page_is_home : (n == shard_of plan q) ≡ true
   page_is_home = eq-eqb n (shard_of plan q) (sym page_home)

@@ -1,5 +1,5 @@
 -- SetClass on the slots, and Crowded.
-use Rattle.std.proofs.Common.{◌≡◌, ℕ, zero, suc, ◌+◌, ◌-◌, ◌<◌, ◌≤◌, ◌==◌, ◌&&◌, ◌||◌, Bool, true, false, cond, List}
+use Rattle.std.proofs.Common.{◌≡◌, ℕ, zero, suc, ◌+◌, ◌≤◌, ◌==◌, ◌&&◌, ◌||◌, Bool, true, false, cond, List}
 use Rattle.std.proofs.Common.{[], ◌∷◌, length, sym, refl, ap, ◌∙◌, arith, Option, Some, None, slice_get, eqb-true}
 use Rattle.std.specs.Prelude.{not, nat_lt}
 use Rattle.std.proofs.lemmas.Bool.Decides.{nat_tests}
@@ -15,9 +15,8 @@ use Rattle.sh_step.specs.Collections.{total, if1}
 use Rattle.sh_step.specs.declared.body.Body.{Body}
 use Rattle.sh_step.specs.Rows.{hand}
 use Rattle.sh_core.specs.Worlds.{World, value_at}
-use Rattle.std.proofs.lemmas.Bool.{lt-ltb}
-use Rattle.sh_core.specs.Lists.{slots_under, PutLists, mine_at, in_hand, times, state_of, accounts}
-use Rattle.sh_core.specs.Tallies.{held, visits, lost, room, SlotsAddUp, at_slot, stale}
+use Rattle.sh_core.specs.Lists.{PutLists, times}
+use Rattle.sh_core.specs.Tallies.{held, visits, lost, at_slot, stale}
 use Rattle.sh_core.specs.Stories.{values}
 use Rattle.sh_core.proofs.Slots.Permits.{Permits}
 use Rattle.sh_core.specs.Sums.{Sums}
@@ -105,48 +104,9 @@ crowded_permitted plan w l a p k y laws g at name live under =
           let q = total_plus (λ (j : ℕ). if1 (j == k)) (λ j. stale st (slot_ref_of y) (plan.keys.unpack j)) u.holds
           in omega arith
 
--- Six kinds fill a page: each slot of the class is one of them
+-- the three kinds of a slot that is not empty
 pub three : (p m : Bool) → if1 (p && not m) + (if1 (p && m) + if1 (not p && m)) ≡ if1 (p || m)
 three true true = refl
 three true false = refl
 three false true = refl
 three false false = refl
-
-each_one : (f : SlotRef → ℕ) (q s n : ℕ) → ((t : ℕ) → s ≤ t → t < s + n → f (record { page = q; slot = t }) ≡ 1)
-    → total f (slot_refs q s n) ≡ n
-unfolding total slot_refs
-each_one f q s zero h = refl
-each_one f q s (suc n) h = let one = h s (omega arith) (omega arith)
-    in let rest = each_one f q (s + 1) n (λ t a b. h t (omega arith) (omega arith)) in omega arith
-
-pub accounts_fill : (plan : Plan) (w : World) (l : PutLists) (q c : ℕ) → SlotsAddUp plan w.words w.parts l
-    → w.words.class_at q ≡ c + 1
-    → let a = accounts w l q in a.live + (a.marked + (a.retired + (a.mine + (a.hand + a.queued)))) ≡ slots c
-unfolding accounts
-accounts_fill plan w l q c fine is =
-    let d : w.words.class_at q - 1 ≡ c = omega arith in
-    let n = slots_under (w.words.class_at q) in
-    let under : n ≡ slots (w.words.class_at q - 1) = let z : (w.words.class_at q == 0)
-    ≡ false = grind (arith, nat_tests) in rw z refl in
-    let xs = slot_refs q 0 n in
-    let live : SlotRef → ℕ = λ x. if1 ((state_of w x).present && not (state_of w x).marked) in
-    let marked : SlotRef → ℕ = λ x. if1 ((state_of w x).present && (state_of w x).marked) in
-    let retired : SlotRef → ℕ = λ x. if1 (not (state_of w x).present && (state_of w x).marked) in
-    let mine : SlotRef → ℕ = λ x. total (mine_at x) w.parts in
-    let inhand : SlotRef → ℕ = λ x. total (in_hand x) w.parts in
-    let queue : SlotRef → ℕ = λ x. times x.slot (l.stack q) + times x.slot (l.chain q) in
-    let p1 = total_plus live (λ x. marked x + (retired x + (mine x + (inhand x + queue x)))) xs in
-    let p2 = total_plus marked (λ x. retired x + (mine x + (inhand x + queue x))) xs in
-    let p3 = total_plus retired (λ x. mine x + (inhand x + queue x)) xs in
-    let p4 = total_plus mine (λ x. inhand x + queue x) xs in
-    let p5 = total_plus inhand queue xs in
-    let all : total (λ x. live x + (marked x + (retired x + (mine x + (inhand x + queue x))))) xs
-    ≡ n = each_one (λ x. live x + (marked x + (retired x + (mine x + (inhand x + queue x))))) q 0 n
-    (λ t a b. let f = fine (record { page = q; slot = t }) in
-    let k = three (fields_of (w.words.state_at q t)).present (fields_of (w.words.state_at q t)).marked in
-    let r : room w.words (record { page = q; slot = t }) ≡ 1 = inside (w.words.class_at q) t (omega arith)
-    (let h : t < slots (w.words.class_at q - 1) = omega arith in h) in omega arith) in
-    let e : slots (w.words.class_at q - 1) ≡ slots c = ap slots d in omega arith where
-      inside : (k t : ℕ) → 0 < k → t < slots (k - 1) → if1 (nat_lt 0 k && nat_lt t (slots (k - 1))) ≡ 1
-      inside k t a b = let x : nat_lt 0 k ≡ true = grind (arith, nat_tests) in let y : nat_lt t (slots (k - 1))
-          ≡ true = lt-ltb t (slots (k - 1)) b in rw (x, y) refl

@@ -11,7 +11,7 @@ returns-in-Some-clause-are g c =
     let shards = ap (λ (n : Numbers). n.shards) c.shape-shape.ensures.is in
     let pages = ap (λ (n : Numbers). pages_of n) c.shape-shape.ensures.is in
     are_counted g.L.KeyLayout.layout c.args.world.now (page_number shape c.args.shard c.args.page)
-    c.refines_map.ensures.kinds c.shape-shape.ensures.reached
+    c.refines_map.ensures.one_kind c.shape-shape.ensures.reached
     (page_is_below shape c.args.shard c.args.page (omega arith) (omega arith)) c.in-Some.class c.count_slots.result
     c.in-Some.ensures.is c.count_slots.ensures.is
 
@@ -25,6 +25,6 @@ returns-in-None-clause-are g c =
     let shards = ap (λ (n : Numbers). n.shards) c.shape-shape.ensures.is in
     let pages = ap (λ (n : Numbers). pages_of n) c.shape-shape.ensures.is in
     are_none g.L.KeyLayout.layout c.args.world.now (page_number shape c.args.shard c.args.page)
-    c.refines_map.ensures.kinds c.shape-shape.ensures.reached
+    c.refines_map.ensures.one_kind c.shape-shape.ensures.reached
     (page_is_below shape c.args.shard c.args.page (omega arith) (omega arith)) c.no_slots.result c.in-None.ensures.is
     c.no_slots.ensures

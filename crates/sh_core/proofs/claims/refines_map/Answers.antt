@@ -10,20 +10,11 @@ returns-clause-entries c = λ layout shape a b f es. (theorem layout shape a b f
 pub returns-clause-one_kind : goal.returns-clause-one_kind
 returns-clause-one_kind c = λ layout shape a b f es. (theorem layout shape a b f es).one_kind
 
-pub returns-clause-kinds : goal.returns-clause-kinds
-returns-clause-kinds c = λ layout shape a b f es. (theorem layout shape a b f es).kinds
-
-pub returns-clause-filled : goal.returns-clause-filled
-returns-clause-filled c = λ layout shape a b f es. (theorem layout shape a b f es).filled
-
 pub returns-clause-classes : goal.returns-clause-classes
 returns-clause-classes c = λ layout shape a b f es. (theorem layout shape a b f es).classes
 
 pub returns-clause-held : goal.returns-clause-held
 returns-clause-held c = λ layout shape a b f es. (theorem layout shape a b f es).held
-
-pub returns-clause-reads : goal.returns-clause-reads
-returns-clause-reads c = λ layout shape a b f es. (theorem layout shape a b f es).reads
 
 pub returns-clause-notes : goal.returns-clause-notes
 returns-clause-notes c = λ layout shape a b f es. (theorem layout shape a b f es).notes
@@ -64,17 +55,11 @@ returns-clause-owners c = λ layout shape a b f es. (theorem layout shape a b f 
 pub returns-clause-armed : goal.returns-clause-armed
 returns-clause-armed c = λ layout shape a b f es. (theorem layout shape a b f es).armed
 
-pub returns-clause-left : goal.returns-clause-left
-returns-clause-left c = λ layout shape a b f es. (theorem layout shape a b f es).left
-
 pub returns-clause-shardless : goal.returns-clause-shardless
 returns-clause-shardless c = λ layout shape a b f es. (theorem layout shape a b f es).shardless
 
 pub returns-clause-linked : goal.returns-clause-linked
 returns-clause-linked c = λ layout shape a b f es. (theorem layout shape a b f es).linked
-
-pub returns-clause-links : goal.returns-clause-links
-returns-clause-links c = λ layout shape a b f es. (theorem layout shape a b f es).links
 
 pub returns-clause-parts : goal.returns-clause-parts
 returns-clause-parts c = λ layout shape a b f es. (theorem layout shape a b f es).parts

@@ -15,7 +15,6 @@ use Rattle.sh_core.proofs.Examples.MoreWrongRows.{bell_names_no_page}
 use Rattle.sh_core.proofs.Examples.MoreWrongRows.{step_is_outside}
 use Rattle.sh_core.proofs.Examples.MoreWrongRows.{page_under_it_is_lost}
 use Rattle.sh_core.proofs.Examples.MoreWrongRows.{sixth_count_is_too_many}
-use Rattle.sh_core.proofs.Examples.MoreWrongRows.{forgotten_slot_adds_up_twice}
 use Rattle.sh_core.proofs.Examples.MoreWrongRows.{page_has_a_slot_too_many}
 use Rattle.sh_core.proofs.Examples.MoreWrongRows.{fourth_generation_is_no_key}
 use Rattle.sh_core.proofs.Examples.MoreWrongRows.{early_link_names_nothing}
@@ -76,9 +75,6 @@ returns-clause-ties_ring_as_end c = page_under_it_is_lost
 
 pub returns-clause-ignores_room_count : goal.returns-clause-ignores_room_count
 returns-clause-ignores_room_count c = sixth_count_is_too_many
-
-pub returns-clause-forgets_last_slot_kinds : goal.returns-clause-forgets_last_slot_kinds
-returns-clause-forgets_last_slot_kinds c = forgotten_slot_adds_up_twice
 
 pub returns-clause-forgets_last_slot_filled : goal.returns-clause-forgets_last_slot_filled
 returns-clause-forgets_last_slot_filled c = page_has_a_slot_too_many
