@@ -34,7 +34,8 @@ pub struct PageLists {
     next: [u8; PLACES],
     free: Thread,
     local: Thread,
-    cursor: Option<u32>,
+    // In a byte, so that what is kept of a page is one line of the cache.
+    cursor: Option<u8>,
 }
 
 impl Model for PageLists {
@@ -103,7 +104,10 @@ impl PageLists {
         ensures cursor { result ≡ self.now.cursor }
         ensures small { IfSome result (λ slot. slot < slot_places) }
     {
-        self.cursor
+        match self.cursor {
+            Some(at) => Some(at as u32),
+            None => None,
+        }
     }
 
     /// Sets the slot at which reading the page's stack continues.
@@ -111,7 +115,10 @@ impl PageLists {
         requires { IfSome cursor (λ slot. slot < slot_places) }
         ensures { self.new ≡ record self.old { cursor = cursor } }
     {
-        self.cursor = cursor;
+        self.cursor = match cursor {
+            Some(at) => Some(at as u8),
+            None => None,
+        };
     }
 
     /// Takes the front of `free`. None, with nothing changed, if `free` is empty.

@@ -5,6 +5,7 @@ pub mod PutBefore
 pub mod Rising
 pub mod LinksBeside
 pub mod ChainHolds
+pub mod Pairs
 pub mod Unlinking
 pub mod Linking
 pub mod Growing

@@ -4,7 +4,7 @@ ghost use Rattle.std.specs.Prelude.{false, IfOk, OnOk, OnErr};
 ghost use Rattle.std.specs.Vec.{vec_capacity};
 ghost use Rattle.sh_lists.specs.Numbers.{Distinct, upward};
 ghost use Rattle.sh_queue.specs.Numbers.{has_number, without_number, put_after, put_before, following, preceding};
-ghost use Rattle.sh_queue.specs.Chain.{ChainNumbers};
+ghost use Rattle.sh_queue.specs.Chain.{ChainNumbers, ends};
 
 use std::alloc::{AllocError, Global};
 use std::marker::Model;
@@ -12,13 +12,21 @@ use std::marker::Model;
 // The last number. The first is 0.
 pub const END: u32 = 10;
 
+// The number behind a number, and the one ahead of it: both in one line of the cache.
+#[derive(Clone, Copy)]
+pub struct Link {
+    next: u32,
+    prev: u32,
+}
+
+// What a number has before it is put in. It is that of 0 and of `END` if there is no other number.
+const ENDS: Link = Link { next: END, prev: 0 };
+
 // A list of numbers that begins with 0 and ends with `END`, none twice. A number can be taken out or put in at any
 // place. A contract sees the numbers in order, and the bound below which each number is.
 #[derive(Drop)]
 pub struct Chain {
-    // The number behind each number, and the one ahead of it.
-    next: Vec<u32>,
-    prev: Vec<u32>,
+    links: Vec<Link>,
     // How many numbers come after 0.
     count: usize,
 }
@@ -26,17 +34,17 @@ pub struct Chain {
 impl Model for Chain {
     ghost use Rattle.std.specs.Prelude.{◌∷◌, length, get_or};
     ghost use Rattle.sh_lists.specs.Lists.{walk};
-    ghost use Rattle.sh_queue.specs.Chain.{ChainNumbers, Links};
+    ghost use Rattle.sh_queue.specs.Chain.{ChainNumbers, Links, nexts, prevs};
 
     ghost Value = { ChainNumbers };
 
     ghost view = { λ c. record {
-      numbers = 0 ∷ walk c.next.items (get_or c.next.items 0 0) c.count;
-      size = length
-          c.next.items;
+      numbers = 0 ∷ walk (nexts c.links.items) (get_or (nexts c.links.items) 0 0) c.count;
+      size = length (nexts c.links.items);
     } };
 
-    ghost invariant = { λ c. Links c.next.items c.prev.items (walk c.next.items (get_or c.next.items 0 0) c.count) };
+    ghost invariant = { λ c. Links (nexts c.links.items) (prevs c.links.items)
+        (walk (nexts c.links.items) (get_or (nexts c.links.items) 0 0) c.count) };
 }
 
 impl Chain {
@@ -45,13 +53,8 @@ impl Chain {
         requires { 11 ≤ size }
         ensures { IfOk result (λ chain. chain ≡ record { numbers = 0 ∷ 10 ∷ []; size = size }) }
     {
-        let next = vec![in alloc; END; size]?;
-        let prev = vec![in alloc; 0; size]?;
-        Ok(Chain {
-            next,
-            prev,
-            count: 1,
-        })
+        let links = vec![in alloc; ENDS; size]?;
+        Ok(Chain { links, count: 1 })
     }
 
     // Makes room for the numbers below `size`.
@@ -62,8 +65,7 @@ impl Chain {
         // It asks for no more than is needed.
         ensures lean { self.new.size ≤ max self.old.size size }
     {
-        lengthen(&mut self.prev, size)?;
-        lengthen(&mut self.next, size)
+        lengthen(&mut self.links, size)
     }
 
     // The number behind s.
@@ -72,7 +74,7 @@ impl Chain {
         requires inner { s ≢ 10 }
         ensures { result ≡ following s self.now.numbers }
     {
-        self.next[s as usize]
+        self.links[s as usize].next
     }
 
     // The number ahead of m.
@@ -81,7 +83,7 @@ impl Chain {
         requires inner { m ≢ 0 }
         ensures { result ≡ preceding m self.now.numbers }
     {
-        self.prev[m as usize]
+        self.links[m as usize].prev
     }
 
     // Takes x out.
@@ -91,10 +93,10 @@ impl Chain {
         ensures out { self.new ≡ record self.old { numbers = without_number x self.old.numbers } }
         ensures gone { has_number x self.new.numbers ≡ false }
     {
-        let before = self.prev[x as usize];
-        let behind = self.next[x as usize];
-        self.next[before as usize] = behind;
-        self.prev[behind as usize] = before;
+        let before = self.links[x as usize].prev;
+        let behind = self.links[x as usize].next;
+        self.links[before as usize].next = behind;
+        self.links[behind as usize].prev = before;
         self.count -= 1;
     }
 
@@ -107,7 +109,7 @@ impl Chain {
         ensures put { self.new ≡ record self.old { numbers = put_after s x self.old.numbers } }
         ensures distinct { Distinct self.new.numbers }
     {
-        let behind = self.next[s as usize];
+        let behind = self.links[s as usize].next;
         self.put_between(s, behind, x);
     }
 
@@ -120,7 +122,7 @@ impl Chain {
         ensures put { self.new ≡ record self.old { numbers = put_before m (x ∷ []) self.old.numbers } }
         ensures distinct { Distinct self.new.numbers }
     {
-        let before = self.prev[m as usize];
+        let before = self.links[m as usize].prev;
         self.put_between(before, m, x);
     }
 
@@ -135,10 +137,12 @@ impl Chain {
         ensures put { self.new ≡ record self.old { numbers = put_after s x self.old.numbers } }
         ensures distinct { Distinct self.new.numbers }
     {
-        self.next[s as usize] = x;
-        self.prev[behind as usize] = x;
-        self.next[x as usize] = behind;
-        self.prev[x as usize] = s;
+        self.links[s as usize].next = x;
+        self.links[behind as usize].prev = x;
+        self.links[x as usize] = Link {
+            next: behind,
+            prev: s,
+        };
         self.count += 1;
     }
 
@@ -152,16 +156,16 @@ impl Chain {
         ensures distinct { Distinct self.new.numbers }
     {
         // Reading a field brings in that the numbers differ, also if none is put in.
-        let _known = &self.next;
+        let _known = &self.links;
         for x in first..first + count {
             self.put_before(END, x);
         }
     }
 }
 
-// Adds links of 0 until there are at least this many. If memory is refused, nothing is added.
-fn lengthen(links: &mut Vec<u32>, size: usize) -> Result<(), AllocError>
-    ensures longer { OnOk result (links.new.items ≡ links.old.items ++ replicate (size - length links.old.items) 0) }
+// Adds links until there are at least this many. If memory is refused, nothing is added.
+fn lengthen(links: &mut Vec<Link>, size: usize) -> Result<(), AllocError>
+    ensures longer { OnOk result (links.new.items ≡ links.old.items ++ replicate (size - length links.old.items) ends) }
     ensures same { OnErr result (links.new.items ≡ links.old.items) }
     // It asks for no more room than for these.
     ensures lean { OnErr result (vec_capacity links.old < size) }
@@ -169,5 +173,5 @@ fn lengthen(links: &mut Vec<u32>, size: usize) -> Result<(), AllocError>
     if size <= links.len() {
         return Ok(());
     }
-    links.resize(size, 0)
+    links.resize(size, ENDS)
 }

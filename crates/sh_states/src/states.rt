@@ -20,7 +20,7 @@ pub struct PageState {
     // Its slots that are the owner's, and the slot of its stack to follow next.
     lists: PageLists,
     // 0 if it is blank, c + 1 if it has class c.
-    class_word: u64,
+    class_word: u32,
     armed: bool,
 }
 
@@ -91,7 +91,7 @@ impl PageStates {
         ensures few { result ≤ 8 }
     {
         match self.written(page) {
-            Some(state) => state.class_word,
+            Some(state) => state.class_word as u64,
             None => 0,
         }
     }
@@ -180,5 +180,5 @@ fn is_whole(state: &PageState) -> bool
     if state.class_word == 0 {
         return false;
     }
-    slots >= classes::slots((state.class_word - 1) as u32)
+    slots >= classes::slots(state.class_word - 1)
 }

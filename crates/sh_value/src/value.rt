@@ -82,6 +82,27 @@ impl Value {
         }
     }
 
+    /// Makes it the value of these words, at most 16. If it has as many words already, only these are written.
+    ///
+    /// ```text
+    /// let mut value = Value::of([7]);
+    /// value.set_words(&[8, 9]);
+    /// assert_eq!(value.words(), &[8, 9]);
+    /// ```
+    pub fn set_words(&mut self, words: &[u64])
+        requires { length words.now ≤ 16 }
+        ensures { self.new ≡ words.now }
+    {
+        if self.words.len() == words.len() {
+            self.words.as_mut_slice().copy_from_slice(words);
+            return;
+        }
+        self.clear();
+        let Ok(()) = self.words.try_extend_from_slice(words) else {
+            unreachable!()
+        };
+    }
+
     /// Adds a word after the others, of which there are at most 15.
     pub fn push(&mut self, word: u64)
         requires { length self.old < 16 }
@@ -125,6 +146,7 @@ impl Value {
 
 impl From<u64> for Value {
     /// The value of one word.
+    #[inline(always)]
     fn from(word: u64) -> Value
         ensures { result ≡ word ∷ [] }
     {

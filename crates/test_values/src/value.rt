@@ -40,6 +40,18 @@ fn is_set_to_one_word(rt: HostRuntime) {
     agree(&rt, value, Value::from(11));
 }
 
+// Whether it had fewer words, as many or more.
+#[test]
+fn is_set_to_several_words(rt: HostRuntime) {
+    let mut value = Value::of([7]);
+    value.set_words(&[8, 9]);
+    agree(&rt, value.words(), [8, 9].as_slice());
+    value.set_words(&[10, 11]);
+    agree(&rt, value.words(), [10, 11].as_slice());
+    value.set_words(&[12]);
+    agree(&rt, value, Value::from(12));
+}
+
 #[test]
 fn refusals_have_numbers_and_names(rt: HostRuntime) -> Result<(), Fail> {
     let table = [

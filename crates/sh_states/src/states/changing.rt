@@ -96,7 +96,7 @@ impl PageStates {
         let cursor = state.lists.cursor();
         state.lists = PageLists::full(classes::slots(class));
         state.lists.set_cursor(cursor);
-        state.class_word = class as u64 + 1;
+        state.class_word = class + 1;
         self.bound = bound_with(state, page, self.bound);
     }
 
@@ -115,13 +115,13 @@ impl PageStates {
         if page == self.written.len() as u64 {
             self.written.push_reserved(PageState {
                 lists: PageLists::bare(),
-                class_word,
+                class_word: class_word as u32,
                 armed: false,
             });
             return;
         }
         write_up_to(&mut self.written, page);
-        self.written[page as usize].class_word = class_word;
+        self.written[page as usize].class_word = class_word as u32;
     }
 }
 
