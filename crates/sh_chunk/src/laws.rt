@@ -10,7 +10,8 @@ pub fn chunked_keys_fit()
 {}
 
 /// Legal histories of chunks make one legal history of one map, on keys with the chunk's number above them. In it, the
-/// entries of each chunk are that chunk's history, in order.
+/// entries of each chunk are those of that chunk's history on keys below 2^56, in order. These are all if each is on a
+/// key of `Chunked`.
 ///
 /// It says nothing of a caller's order over several chunks: see `callers_order_is_not_local` of `history_local`.
 pub fn one_history_of_chunks()
