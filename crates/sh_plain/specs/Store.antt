@@ -4,7 +4,7 @@ use Rattle.std.specs.Prelude.{◌≡◌, ℕ, ◌<◌, ◌⊎◌, Bool, List, []
 use Rattle.sh_value.specs.declared.hold.Hold.{Hold}
 use Rattle.sh_value.specs.declared.refusal.Refusal.{Refusal}
 use Rattle.sh_value.specs.declared.refusal.Refusal.TheVariants.{BadKey, Gone as GoneRefusal, Crowded as CrowdedRefusal}
-use Rattle.sh_value.specs.declared.refusal.Refusal.TheVariants.{HoldsFull, NotHeld, Full, Memory}
+use Rattle.sh_value.specs.declared.refusal.Refusal.TheVariants.{HoldsFull, NotHeld, Full, Memory, WrongKind}
 use Rattle.sh_history.specs.declared.entry.Entry.TheVariants.{Insert, Got, Gone, Crowded, Removed, Released, Seen}
 use Rattle.sh_history.specs.declared.log.LogEntry.{LogEntry}
 use Rattle.sh_history.specs.declared.log.LogEntry.TheVariants.{Known}
@@ -78,3 +78,16 @@ ReleaseLeaves s key book (Ok _) after =
 ReleaseLeaves s key book (Err NotHeld) after = (logged_holds_by book s.pass key ≡ 0) × (after ≡ book)
 ReleaseLeaves s key book (Err Memory) after = (0 < logged_holds_by book s.pass key) × (after ≡ book)
 ReleaseLeaves s key book (Err _) after = ⊥
+
+-- what holds of the results of a store that has no book, as it follows from a book: a key that was got can be read, and
+-- then released, unless memory is refused; and no call says that a value is of another kind
+pub record Lends {S : Type 0} (gets : S → ℕ → Result Hold Refusal → S → Type 0)
+    (reads looks : S → ℕ → Result (List ℕ) Refusal → S → Type 0)
+    (releases : S → ℕ → Result (Unit {0}) Refusal → S → Type 0) (old : S) : Type 0 where
+  pub gets_kind : (key : ℕ) (new : S) → gets old key (Err WrongKind) new → ⊥
+  pub looks_kind : (key : ℕ) (new : S) → looks old key (Err WrongKind) new → ⊥
+  pub reads_got : (key : ℕ) (hold : Hold) (got new : S) (why : Refusal) → gets old key (Ok hold) got
+      → reads got hold.key (Err why) new → ⊥
+  pub releases_got : (key : ℕ) (hold : Hold) (value : List ℕ) (got read new : S) (why : Refusal)
+      → gets old key (Ok hold) got → reads got hold.key (Ok value) read → releases read hold.key (Err why) new
+      → why ≡ Memory

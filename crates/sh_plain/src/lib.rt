@@ -2,9 +2,9 @@
 //! keeps the entries of all its passes, and computes each result from them.
 //!
 //! The trait `Lookup` has the calls that get, read, remove and release, and `Store` adds the insert. Each promises that
-//! some legal history has its book, which is the list of what the store has answered. Beside its entries the plain
-//! store has an index: for each issued key its value and whether it was removed, and the holds of each pass. The n-th
-//! insert issues the n-th key of the layout, so a key's number says its place in the index.
+//! some legal history has its book, if it has one: the list of what the store has answered. Beside its entries the
+//! plain store has an index: for each issued key its value and whether it was removed, and the holds of each pass. The
+//! n-th insert issues the n-th key of the layout, so a key's number says its place in the index.
 #![tactic(auto)]
 
 mod index;

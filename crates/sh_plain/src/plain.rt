@@ -1,5 +1,5 @@
 //! The plain store, which keeps its entries, and beside them an index of what they say.
-ghost use Rattle.std.specs.Prelude.{◌≡◌, ◌<◌, ◌≤◌, ◌↔◌, IsTrue, [], IfOk};
+ghost use Rattle.std.specs.Prelude.{◌≡◌, ◌<◌, ◌≤◌, ◌↔◌, IsTrue, [], IfOk, Some};
 ghost use Rattle.std.specs.Option.{option_copied};
 ghost use Rattle.sh_history.specs.declared.entry.Entry.TheVariants.{Got, Removed, Released};
 ghost use Rattle.sh_history.specs.History.{Allowed, Legal, value_of, present_value, hold_count, holds_by, holds_on};
@@ -184,7 +184,9 @@ impl<L: KeyLayout> Lookup for PlainStore<L> {
 
     ghost book = { plain_book };
 
-    ghost setting = { plain_setting L.layout };
+    ghost setting = { λ store. Some (plain_setting L.layout store) };
+
+    ghost lends = { λ _. tt };
 
     ghost gets = { λ old key result new. Replied (get_reply L.layout old key) old result new };
 

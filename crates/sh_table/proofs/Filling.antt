@@ -4,7 +4,7 @@ use Rattle.std.proofs.Common.{Some, None, Option, length, refl, ap, sym, subst, 
 use Rattle.std.specs.Bool.{then_some}
 use Rattle.std.specs.Prelude.{bit_or, not, nat_le, nat_lt, option_map}
 use Rattle.sh_core.specs.Lists.{PutLists, in_hand, slots_under, state_of}
-use Rattle.sh_core.specs.Refines.{KindsAddUp}
+use Rattle.sh_core.specs.Refines.{OneKind}
 use Rattle.sh_core.specs.Words.{read}
 use Rattle.sh_core.specs.Worlds.{World}
 use Rattle.sh_core.proofs.Slots.Slots.{if1_same_slot}
@@ -43,7 +43,7 @@ in_the_hand p x v i e = ap (λ (h : Hand). elim h as (λ _. ℕ)
     ∙ if1_same_slot x
 
 -- a slot that a pass is filling is in its hand, which is its only kind, so it is not present
-pub not_present : (w : World) (l : PutLists) (a : ℕ) (p : Body) (x : SlotRef) (v : List ℕ) (i : ℕ) → KindsAddUp w l
+pub not_present : (w : World) (l : PutLists) (a : ℕ) (p : Body) (x : SlotRef) (v : List ℕ) (i : ℕ) → OneKind w l
     → slice_get w.parts a ≡ Some p → p.hand ≡ Filling x v i → (state_of w x).present ≡ false
 not_present w l a p x v i kinds at is =
     let one = kinds x in
@@ -69,7 +69,7 @@ adds_present n wide e =
     omega arith
 
 -- what a pass finds at the place of the slot that it is filling
-pub finds_no_present : (w : World) (l : PutLists) (a : ℕ) (p : Body) (place : Place) → KindsAddUp w l
+pub finds_no_present : (w : World) (l : PutLists) (a : ℕ) (p : Body) (place : Place) → OneKind w l
     → slice_get w.parts a ≡ Some p → Fills p place → (fields_of (read w.words place)).present ≡ false
 finds_no_present w l a p place kinds at (x, v, i, is, there) =
     let P : Place → Type 0 = λ z. (fields_of (read w.words z)).present ≡ false in

@@ -1,8 +1,9 @@
 -- What a get and its read leave, over any store.
 use Rattle.std.proofs.Common.{◌≡◌, ℕ, ◌<◌, Bool, true, false, cond, List, [], ◌∷◌, ◌++◌, refl, ◌∙◌, ap, subst, arith}
-use Rattle.std.proofs.Common.{map, Ok, Err, eq-eqb}
-use Rattle.std.specs.Prelude.{◌==◌, ◌&&◌, count_by}
+use Rattle.std.proofs.Common.{map, Ok, Err, Option, Some, None, eq-eqb}
+use Rattle.std.specs.Prelude.{◌==◌, ◌&&◌, count_by, IfNone, IfSome}
 use Rattle.std.proofs.lemmas.List.{map-append}
+use Rattle.sh_value.specs.declared.hold.Hold.{Hold}
 use Rattle.sh_value.specs.declared.refusal.Refusal.{Refusal}
 use Rattle.sh_value.specs.declared.refusal.Refusal.TheVariants.{NotHeld}
 use Rattle.sh_plain.specs.Entry.TheVariants.{Insert, Got, Gone, Crowded, Removed, Released, Seen}
@@ -11,8 +12,8 @@ use Rattle.sh_plain.specs.LogEntry.TheVariants.{Known, Unread}
 use Rattle.sh_plain.specs.Log.{IsGotBy, filled, HasValue, AllHaveValue, logged_holds_by, is_logged_got_by}
 use Rattle.sh_plain.specs.Log.{is_logged_release_by}
 use Rattle.sh_plain.proofs.LogLaws.{count_by-cons}
-use Rattle.sh_plain.specs.Store.{Setting, ReadLeaves}
-use Rattle.sh_typed.specs.Typed.{GotValue}
+use Rattle.sh_plain.specs.Store.{Setting, GetLeaves, ReadLeaves}
+use Rattle.sh_typed.specs.Typed.{FetchLeaves, GotValue}
 
 -- a read of a held key is not refused
 pub read_not_refused : (s : Setting) (key : ℕ) (book after : List LogEntry) (refusal : Refusal)
@@ -95,3 +96,24 @@ fetched s s' key k book mid after value same same_key (got, is, mid_is) held (_,
       got = after_is' ∙ ap (λ e. map (filled key value) book ++ e ∷ []) filled_is;
       held = rw (after_is, filled_holds k value mid s.pass key) held;
     }
+
+-- ---- the same of a store that may have no book
+
+-- what was got can be read: by the book, or by what holds without one
+pub got_is_read : (o p : Option Setting) (L : Type 0) (key : ℕ) (hold : Hold) (book mid after : List LogEntry)
+    (why : Refusal)
+    → p ≡ o → IfSome o (λ s. GetLeaves s key book (Ok hold) mid)
+    → IfSome p (λ s. ReadLeaves s hold.key mid (Err why) after) → IfNone o L → (L → ⊥) → ⊥
+got_is_read None p L key hold book mid after why same got read law without = without law
+got_is_read (Some s) p L key hold book mid after why same got read law without =
+    let here = subst (λ (q : Option Setting). IfSome q (λ t. ReadLeaves t hold.key mid (Err why) after)) same read in
+    read_not_refused s hold.key mid after why here (rw got.0 got.2)
+
+pub fetched_there : (o p : Option Setting) (key : ℕ) (hold : Hold) (book mid after : List LogEntry) (value : List ℕ)
+    → p ≡ o → IfSome o (λ s. GetLeaves s key book (Ok hold) mid)
+    → IfSome p (λ s. ReadLeaves s hold.key mid (Ok value) after)
+    → IfSome o (λ s. FetchLeaves s key book (Ok (hold, value)) after)
+fetched_there None p key hold book mid after value same got read = tt
+fetched_there (Some s) p key hold book mid after value same got read =
+    let here = subst (λ (q : Option Setting). IfSome q (λ t. ReadLeaves t hold.key mid (Ok value) after)) same read in
+    (got.0, fetched s s key hold.key book mid after value refl got.0 got.1 got.2 here)

@@ -2,6 +2,7 @@
 use Rattle.std.proofs.Common.{◌≡◌, ℕ, List, [], ◌∷◌, ◌++◌, Option, Some, None, refl, sym, ◌∙◌, ap, subst, arith, Ok}
 use Rattle.std.proofs.Common.{Err, Result, map, append_assoc, inl, inr}
 use Rattle.std.specs.List.{Contains}
+use Rattle.std.specs.Prelude.{IfNone, IfSome, OnSome}
 use Rattle.std.proofs.lemmas.List.{map-append}
 use Rattle.sh_value.specs.declared.hold.Hold.{Hold}
 use Rattle.sh_value.specs.declared.refusal.Refusal.{Refusal}
@@ -16,7 +17,7 @@ use Rattle.sh_plain.proofs.LogLaws.{same_value}
 use Rattle.sh_plain.proofs.SeenValue.{seen_value}
 use Rattle.sh_plain.proofs.Standing.{splits_at}
 use Rattle.sh_plain.specs.Store.{Setting, IsBook, LookLeaves, ReleaseLeaves}
-use Rattle.sh_typed.specs.Typed.{AsRecord, GotValue, GivesBack, RecordLeaves, SeesBack}
+use Rattle.sh_typed.specs.Typed.{AsRecord, FetchLeaves, GotValue, GivesBack, RecordLeaves, SeesBack}
 
 -- an entry that is known stays when a value is read and entries are added behind
 pub kept : (key : ℕ) (value : List ℕ) (book more front rest : List LogEntry) (e : Entry) → book ≡ front
@@ -103,3 +104,48 @@ module _ {R : Type 0} (read : List ℕ → Option R) where
       let same = same_seen s t key pass value leaves.0 book after leaves.1 stands inserted in
       let none : None ≡ Some given = sym leaves.2 ∙ ap read same ∙ reads in absurd (let n : ⊥ = cc in n)
   seen_back s t key pass value given book after (Err _) leaves stands inserted reads = tt
+
+  -- ---- the same of a store that may have no book
+
+  -- the release of a hold on a value that is no record was refused
+  pub refused_there : (o p : Option Setting) (key : ℕ) (hold : Hold) (value : List ℕ) (book mid after : List LogEntry)
+      (why : Refusal)
+      → p ≡ o → IfSome o (λ s. FetchLeaves s key book (Ok (hold, value)) mid) → read value ≡ None
+      → IfSome p (λ s. ReleaseLeaves s hold.key mid (Err why) after)
+      → IfSome o (λ s. RecordLeaves read s key book (Err why) after)
+  refused_there None p key hold value book mid after why same fetched none released = tt
+  refused_there (Some s) p key hold value book mid after why same fetched none released =
+      let here = subst (λ (q : Option Setting). IfSome q (λ t. ReleaseLeaves t hold.key mid (Err why) after)) same
+      released in
+      release_refused s s key hold.key value book mid after why refl fetched.0 fetched.1 none here
+
+  pub given_back_there : (o p : Option Setting) (key : ℕ) (book after : List LogEntry)
+      (result : Result (Hold × R) Refusal)
+      → IfSome o (λ s. RecordLeaves read s key book result after) → IfSome p (λ s. IsBook s after) → p ≡ o
+      → OnSome o ((pass : ℕ) (value : List ℕ) (given : R) → Contains book (Known (Insert pass key value))
+      → read value ≡ Some given → GivesBack given result)
+  given_back_there None p key book after result leaves stands same = tt
+  given_back_there (Some s) p key book after result leaves stands same = λ pass value given inserted reads.
+      given_back s s key pass value given book after result leaves
+      (subst (λ (q : Option Setting). IfSome q (λ t. IsBook t after)) same stands) inserted reads
+
+  pub seen_back_there : (o p : Option Setting) (key : ℕ) (book after : List LogEntry) (result : Result R Refusal)
+      → IfSome o (λ s. AsRecord read (λ answer. LookLeaves s key book answer after) result)
+      → IfSome p (λ s. IsBook s after) → p ≡ o
+      → OnSome o ((pass : ℕ) (value : List ℕ) (given : R) → Contains book (Known (Insert pass key value))
+      → read value ≡ Some given → SeesBack given result)
+  seen_back_there None p key book after result leaves stands same = tt
+  seen_back_there (Some s) p key book after result leaves stands same = λ pass value given inserted reads.
+      seen_back s s key pass value given book after result leaves
+      (subst (λ (q : Option Setting). IfSome q (λ t. IsBook t after)) same stands) inserted reads
+
+-- if a got value was read, a release of its hold is refused for memory only: by the book, or by what holds without one
+pub for_memory_there : (o p : Option Setting) (L : Type 0) (key : ℕ) (hold : Hold) (value : List ℕ)
+    (book mid after : List LogEntry) (why : Refusal)
+    → p ≡ o → IfSome o (λ s. FetchLeaves s key book (Ok (hold, value)) mid)
+    → IfSome p (λ s. ReleaseLeaves s hold.key mid (Err why) after) → IfNone o L → (L → why ≡ Memory) → why ≡ Memory
+for_memory_there None p L key hold value book mid after why same fetched released law without = without law
+for_memory_there (Some s) p L key hold value book mid after why same fetched released law without =
+    let here = subst (λ (q : Option Setting). IfSome q (λ t. ReleaseLeaves t hold.key mid (Err why) after)) same
+    released in
+    refused_for_memory s s key hold.key value book mid after why refl fetched.0 fetched.1 here

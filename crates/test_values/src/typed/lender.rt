@@ -1,5 +1,5 @@
 //! A second store beside the plain one: it knows one pass alone, and a value that it gives is open until it is read.
-ghost use Rattle.std.specs.Prelude.{◌≡◌, ◌==◌, if◌then◌else◌, [], ◌∷◌, Ok, Err};
+ghost use Rattle.std.specs.Prelude.{◌≡◌, ◌==◌, if◌then◌else◌, [], ◌∷◌, Ok, Err, Some};
 ghost use Rattle.sh_value.specs.declared.refusal.Refusal.TheVariants.{Full, Memory, HoldsFull, BadKey, NotHeld};
 ghost use Rattle.sh_plain.specs.Entry.TheVariants.{Got, Released};
 ghost use Rattle.sh_plain.specs.LogEntry.TheVariants.{Known, Unread};
@@ -40,7 +40,9 @@ impl Lookup for Lender {
       | Returned ↦ Known (Got 1 4096 s.value) ∷ Known (Released 1 4096) ∷ []
     ] };
 
-    ghost setting = { λ _. record { passes = 2; guard_max = 4; pass = 1; answers_for = λ pass. pass == 1 } };
+    ghost setting = { λ _. Some (record { passes = 2; guard_max = 4; pass = 1; answers_for = λ pass. pass == 1 }) };
+
+    ghost lends = { λ _. tt };
 
     ghost gets = { λ old key result _. result ≡ (if key == 4096 then elim old.stage [
       | Idle ↦ Ok (record { key = 4096 })

@@ -1,24 +1,18 @@
-use Rattle.std.proofs.Common.{◌<◌}
-use Rattle.sh_plain.specs.Log.{logged_holds_by}
-use Rattle.sh_typed.proofs.Fetched.{read_not_refused, fetched}
+use Rattle.sh_typed.proofs.Fetched.{fetched_there, got_is_read}
 use Rattle.sh_typed.proofs.fetch.fetch.Goals as goal
 
 pub unreachable-requires : goal.unreachable-requires
 unreachable-requires g c =
-    let got = c.in_ok-hold.ensures.leaves in
-    let held : 0 < logged_holds_by (g.S.Lookup.book c.get.new.self) (g.S.Lookup.setting c.get.new.self).pass
-    c.in_ok-hold.hold.key =
-    rw (c.in_ok-hold.ensures.same, got.0) got.2 in
-    read_not_refused (g.S.Lookup.setting c.get.new.self) c.in_ok-hold.hold.key (g.S.Lookup.book c.get.new.self)
-    (g.S.Lookup.book c.read.new.self)
-    c.in-Err.field-0 c.in-Err.ensures.leaves held
+    got_is_read (g.S.Lookup.setting c.args.store.now) (g.S.Lookup.setting c.get.new.self) _ c.args.key
+    c.in_ok-hold.hold (g.S.Lookup.book c.args.store.now) (g.S.Lookup.book c.get.new.self)
+    (g.S.Lookup.book c.read.new.self) c.in-Err.field-0 c.in_ok-hold.ensures.same c.in_ok-hold.ensures.leaves
+    c.in-Err.ensures.leaves (g.met.S.Lookup.lends c.args.store.now)
+    (λ lends. lends.reads_got c.args.key c.in_ok-hold.hold c.get.new.self c.read.new.self c.in-Err.field-0
+    c.in_ok-hold.ensures.exact c.in-Err.ensures.exact)
 
 pub returns-clause-leaves : goal.returns-clause-leaves
 returns-clause-leaves g c =
-    let got = c.in_ok-hold.ensures.leaves in (
-      got.0,
-      fetched (g.S.Lookup.setting c.args.store.now) (g.S.Lookup.setting c.get.new.self) c.args.key c.in_ok-hold.hold.key
-          (g.S.Lookup.book c.args.store.now) (g.S.Lookup.book c.get.new.self) (g.S.Lookup.book c.read.new.self)
-          c.in-Ok.value
-          c.in_ok-hold.ensures.same got.0 got.1 got.2 c.in-Ok.ensures.leaves,
-    )
+    fetched_there (g.S.Lookup.setting c.args.store.now) (g.S.Lookup.setting c.get.new.self) c.args.key
+    c.in_ok-hold.hold (g.S.Lookup.book c.args.store.now) (g.S.Lookup.book c.get.new.self)
+    (g.S.Lookup.book c.read.new.self) c.in-Ok.value c.in_ok-hold.ensures.same c.in_ok-hold.ensures.leaves
+    c.in-Ok.ensures.leaves
