@@ -56,6 +56,7 @@ fetches k value First Last v a b c got read released =
     let then = read.steps in
     let last = released.steps in
     record {
+      heap = released.heap ∙ (read.heap ∙ got.heap);
       same = later_same got.same (later_same read.same released.same);
       log = released.log
           ∙ (ap (λ l. l ++ Known (entry.Released b.view.pass k) ∷ []) log
@@ -68,6 +69,8 @@ fetches k value First Last v a b c got read released =
       holds = released.holds
           ∙ (ap (without (λ n. n == k)) (read.holds ∙ got.holds) ∙ without_first k (holds v));
       steps = omega arith;
+      alone = λ is_such other.
+          released.alone is_such other ∙ (read.alone is_such other ∙ got.alone is_such other);
     }
 
 pub fetch_does : (layout : Layout) (k : ℕ) (hold : Hold) (value : List ℕ) (v a b c : Caller)

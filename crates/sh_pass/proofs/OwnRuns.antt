@@ -19,7 +19,7 @@ use Rattle.sh_step.specs.Plans.{Plan, plan_of, heap_pages, shard_of}
 use Rattle.sh_step.proofs.Truths.{lt_true}
 use Rattle.sh_pass.specs.Passes.{Caller}
 use Rattle.sh_pass.specs.Owners.{MayTouch, OwnerDid, OwnerActs, Aside, OnPage, SamePages, SeenPage, IsKeyIn, IsKeyOn}
-use Rattle.sh_pass.specs.Owners.{heap_page, heap_slot}
+use Rattle.sh_pass.specs.Owners.{IsKeyOfSlot, heap_page, heap_slot}
 use Rattle.sh_pass.proofs.OwnMay.{home_is}
 use Rattle.sh_pass.proofs.SameTales.{later_same}
 
@@ -55,13 +55,13 @@ issued layout shape v w x value n y d same is =
     ((d.fits refl).issues ((plan_of layout v.view.shape).keys.pack (published_name x n)) value x.page x.slot refl
     refl))
 
--- and its key names a slot of the page
-pub key_on : (layout : Layout) (v u w : Caller) (x : PageName) (slot : ℕ) (value : List ℕ) (n : ℕ) (shape : Numbers)
+-- and its key names the slot
+pub key_of_slot : (layout : Layout) (v u w : Caller) (x : PageName) (slot : ℕ) (value : List ℕ) (n : ℕ) (shape : Numbers)
     (k : ℕ) (y : KeyRef) → OwnerDid layout action.Publish (move.Publish (heap_slot v x slot) value) n u w
     → u.view.shape ≡ v.view.shape → shape ≡ u.view.shape
     → y ≡ published_name (heap_slot v x slot) n → k ≡ (plan_of layout shape).keys.pack y
-    → IsKeyOn layout v (heap_page v x) k
-key_on layout v u w x slot value n shape k y d before same is key =
+    → IsKeyOfSlot (plan_of layout v.view.shape) (heap_slot v x slot) k
+key_of_slot layout v u w x slot value n shape k y d before same is key =
     let plan : Plan = plan_of layout v.view.shape in
     let named : KeyRef = published_name (heap_slot v x slot) n in
     let told : plan.keys.unpack (plan.keys.pack named) ≡ Some named = issued layout v.view.shape u w
@@ -77,7 +77,12 @@ key_on layout v u w x slot value n shape k y d before same is key =
       refl,
     )
 
--- so it is a key of the page's shard
+-- so it is a key of the page
+pub key_on : (layout : Layout) (v : Caller) (x : PageName) (slot k : ℕ)
+    → IsKeyOfSlot (plan_of layout v.view.shape) (heap_slot v x slot) k → IsKeyOn layout v (heap_page v x) k
+key_on layout v x slot k h = (h.0, h.1, ap (λ (z : SlotRef). z.page) h.2)
+
+-- and of the page's shard
 pub key_in : (layout : Layout) (v : Caller) (x : PageName) (k : ℕ) → MayTouch v x
     → IsKeyOn layout v (heap_page v x) k → IsKeyIn layout v x.shard k
 key_in layout v x k m on =

@@ -11,17 +11,19 @@ use Rattle.sh_table.specs.Views.{HeardOfInsert}
 use Rattle.sh_value.specs.declared.refusal.Refusal.{Refusal}
 use Rattle.sh_value.specs.declared.refusal.Refusal.TheVariants as refusal
 use Rattle.sh_pass.specs.declared.looking.Glance.TheVariants.{Seen, Gone, Early}
-use Rattle.sh_pass.specs.Growing.{SameTale}
+use Rattle.sh_pass.specs.Growing.{SameTale, CallsAlone}
 use Rattle.sh_pass.specs.Passes.{Caller, holds, GetDoes, LookAdds, IsKeyOfHeap}
 
 -- the value of the key was read, which is then that of each get of the key, and these entries were added, in at most
--- `most` steps; the holds are as they were
+-- `most` steps, of calls alone; heap and holds are as they were
 pub record ReadsAndAdds (key : ℕ) (value : List ℕ) (es : List LogEntry) (most : ℕ) (v w : Caller) : Type 0 where
+  pub heap : w.heap ≡ v.heap
   pub same : SameTale v.view w.view
   pub log : w.view.own.log ≡ map (filled key value) v.view.own.log ++ es
   pub value_is : AllHaveValue key value w.view.own.log
   pub holds : holds w ≡ holds v
   pub steps : length w.view.own.trail ≤ length v.view.own.trail + most
+  pub alone : CallsAlone v.view w.view
 
 -- there is room for a hold on a key of the heap
 abbrev pub MayGet : Layout → ℕ → Caller → Type 0

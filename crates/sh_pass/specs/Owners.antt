@@ -197,10 +197,6 @@ pub record OwnerActs (begun : Hand) (es : List LogEntry) (n : ℕ) (v w : Caller
 abbrev pub SameBells : Layout → Caller → Caller → Type 0
 SameBells layout v w = (n : ℕ) → seen_bell layout w n ≡ seen_bell layout v n
 
--- the bell of shard n is now this
-abbrev pub OnBell : Layout → ℕ → SeenBell → Caller → Caller → Type 0
-OnBell layout n b v w = seen_bell layout w n ≡ b
-
 -- page q is now this, and no other page changed
 pub record OnPage (q : ℕ) (g : SeenPage) (v w : Caller) : Type 0 where
   pub here : seen_page w q ≡ g
@@ -269,10 +265,6 @@ IsKeyOn layout v q key = (x : KeyRef) × (place_named (plan_of layout v.view.sha
 -- the key names this slot
 abbrev pub IsKeyOfSlot : Plan → SlotRef → (key : ℕ) → Type 0
 IsKeyOfSlot plan slot_ref key = (x : KeyRef) × (place_named plan key ≡ Some x) × (slot_ref_of x ≡ slot_ref)
-
--- the same in the heap of the pass
-abbrev pub IsKeyAt : Layout → Caller → SlotRef → (key : ℕ) → Type 0
-IsKeyAt layout v slot_ref key = IsKeyOfSlot (plan_of layout v.view.shape) slot_ref key
 
 -- ---- calls
 

@@ -3,11 +3,9 @@ ghost use Rattle.std.specs.Prelude.{◌≡◌};
 ghost use Rattle.sh_table.specs.Together.{LeadsTogether};
 ghost use Rattle.sh_pass.specs.Bundles.{bundle_by, bundled};
 
-use crate::heap::Heap;
 use crate::keeping::KeepsHeap;
 use crate::owner::OwnerOn;
 use crate::pass::PassOn;
-use crate::state::PassState;
 use sh_key::KeyLayout;
 use sh_table::PassSeat;
 use std::marker::Model;
@@ -37,37 +35,15 @@ impl Model for Bundle {
     ghost invariant = { λ b. IsBundle (heap_of b.seat) b.seat };
 }
 
-impl<L: KeyLayout> PassState<L> {
-    /// A bundle of no passes yet: one load.
-    pub fn bundle(&mut self, heap: &Heap<L>) -> Bundle
-        requires { self.old.heap ≡ heap.now }
-        ensures same { self.new ≡ self.old }
-        ensures opens { result ≡ bundle_by self.old }
-    {
-        Bundle {
-            seat: heap.table.bundle(&mut self.seated.seat),
-        }
-    }
-
-    /// Ends the pass in the bundle: two loads.
-    pub fn bind(self, heap: &Heap<L>, bundle: &mut Bundle)
-        requires own { self.heap ≡ heap.now }
-        requires bundle { bundle.old.heap ≡ heap.now }
-        ensures binds { bundle.new ≡ bundled bundle.old self }
-        ensures leads { LeadsTogether L.layout bundle.new.view }
-    {
-        let PassState { seated } = self;
-        heap.table.bind(&mut bundle.seat, seated.seat);
-    }
-}
-
 impl<L: KeyLayout, H: KeepsHeap<L>> PassOn<L, H> {
     /// A bundle of no passes yet: one load.
     pub fn bundle(&mut self) -> Bundle
         ensures same { self.new ≡ self.old }
         ensures opens { result ≡ bundle_by self.old }
     {
-        self.state.bundle(self.heap.kept())
+        Bundle {
+            seat: self.heap.kept().table.bundle(&mut self.seated.seat),
+        }
     }
 
     /// Ends the pass in the bundle: two loads.
@@ -76,8 +52,8 @@ impl<L: KeyLayout, H: KeepsHeap<L>> PassOn<L, H> {
         ensures binds { bundle.new ≡ bundled bundle.old self }
         ensures leads { LeadsTogether L.layout bundle.new.view }
     {
-        let PassOn { heap, state } = self;
-        state.bind(heap.kept(), bundle);
+        let PassOn { heap, seated } = self;
+        heap.kept().table.bind(&mut bundle.seat, seated.seat);
     }
 }
 

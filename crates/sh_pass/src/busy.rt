@@ -6,7 +6,6 @@ ghost use Rattle.sh_pass.specs.Busy.{Acts, Ends};
 use crate::by_hand::BusyState;
 use crate::keeping::KeepsHeap;
 use crate::pass::PassOn;
-use crate::state::PassState;
 use sh_key::KeyLayout;
 use sh_slots::Hand;
 use sh_step::Action;
@@ -47,7 +46,7 @@ impl<L: KeyLayout, H: KeepsHeap<L>> PassOn<L, H> {
         BusyOn {
             heap: self.heap,
             state: BusyState {
-                seated: self.state.seated,
+                seated: self.seated,
                 hand: Hand::Idle,
             },
         }
@@ -73,10 +72,7 @@ impl<L: KeyLayout, H: KeepsHeap<L>> BusyOn<L, H> {
         let BusyOn { heap, state } = self;
         let BusyState { seated, hand } = state;
         match hand {
-            Hand::Idle => Ok(PassOn {
-                heap,
-                state: PassState { seated },
-            }),
+            Hand::Idle => Ok(PassOn { heap, seated }),
             hand => Err(BusyOn {
                 heap,
                 state: BusyState { seated, hand },

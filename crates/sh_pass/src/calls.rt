@@ -3,7 +3,7 @@
 ghost use Rattle.std.specs.Prelude.{◌≡◌, None, OnOk};
 ghost use Rattle.sh_slots.specs.declared.hand.Hand.TheVariants.{Idle};
 ghost use Rattle.sh_table.specs.Seats.{IsSeat};
-ghost use Rattle.sh_pass.specs.Passes.{GetDoes, ReadDoes, ReadIntoDoes, RemoveDoes, ReleaseDoes, HoldsKept, caller_of};
+ghost use Rattle.sh_pass.specs.Passes.{GetDoes, ReadIntoDoes, RemoveDoes, ReleaseDoes, HoldsKept, caller_of};
 ghost use Rattle.sh_pass.specs.Passes.{GlanceDoes};
 ghost use Rattle.sh_pass.specs.Owners.{CallLeaves};
 
@@ -19,7 +19,7 @@ use sh_key::KeyLayout;
 use sh_slots::{GetAnswer, SlotRef};
 use sh_step::operands::place_of_key;
 use sh_table::{HeapTable, PassSeat};
-use sh_value::{HOLDS_MAX, Hold, Refusal, Value};
+use sh_value::{HOLDS_MAX, Refusal, Value};
 
 /// Takes a hold on a key, and returns it with the key's place.
 #[inline(always)]
@@ -54,32 +54,6 @@ pub(crate) fn get_guard_of<L: KeyLayout>(
         }
         GetAnswer::Crowded => (Err(Refusal::Crowded), got.1),
         GetAnswer::Gone => (Err(Refusal::Gone), got.1),
-    }
-}
-
-/// Takes a hold on a key.
-#[inline(always)]
-pub(crate) fn get_key<L: KeyLayout>(
-    table: &HeapTable<L>,
-    seat: &mut PassSeat,
-    held: &mut ArrayVec<u64, HOLDS_MAX>,
-    key: u64,
-    owned: Option<u64>,
-) -> (Result<Hold, Refusal>, Option<SlotRef>)
-    requires seat { IsSeat L.layout table.now seat.old }
-    requires idle { seat.old.me.0.own.body.hand ≡ Idle }
-    requires owned { seat.old.me.0.own.body.owned ≡ owned }
-    requires kept { HoldsKept held.old.items seat.old.me.0.own.body.holds }
-    ensures seat { IsSeat L.layout table.now seat.new }
-    ensures kept { HoldsKept held.new.items seat.new.me.0.own.body.holds }
-    ensures does { GetDoes L.layout key (caller_of seat.old) result.0 (caller_of seat.new) }
-    ensures leaves { CallLeaves L.layout result.1 (caller_of seat.old) (caller_of seat.new) }
-    ensures none { OnOk result.0 (result.1 ≡ None) }
-{
-    let (answer, slot) = get_guard_of(table, seat, held, key, owned);
-    match answer {
-        Ok(guard) => (Ok(guard.hold()), slot),
-        Err(refusal) => (Err(refusal), slot),
     }
 }
 
@@ -164,28 +138,6 @@ pub(crate) fn read_key<L: KeyLayout, K: Holding<L>>(
     let name = hold.place_in(table.shape());
     read_at(table, seat, key, name, value);
     Ok(())
-}
-
-/// The same into a value of its own, which is returned.
-#[inline(always)]
-pub(crate) fn read_value<L: KeyLayout, K: Holding<L>>(
-    table: &HeapTable<L>,
-    seat: &mut PassSeat,
-    held: &ArrayVec<u64, HOLDS_MAX>,
-    hold: &K,
-) -> Result<Value, Refusal>
-    requires seat { IsSeat L.layout table.now seat.old }
-    requires idle { seat.old.me.0.own.body.hand ≡ Idle }
-    requires kept { HoldsKept held.now.items seat.old.me.0.own.body.holds }
-    ensures seat { IsSeat L.layout table.now seat.new }
-    ensures kept { seat.new.me.0.own.body.holds ≡ seat.old.me.0.own.body.holds }
-    ensures does { ReadDoes (K.key_of hold.now) (caller_of seat.old) result (caller_of seat.new) }
-    ensures leaves { CallLeaves L.layout None (caller_of seat.old) (caller_of seat.new) }
-{
-    // (It begins with one word, as most values have: reading a value of one word into it is one store.)
-    let mut value = Value::from(0);
-    read_key(table, seat, held, hold, &mut value)?;
-    Ok(value)
 }
 
 /// Looks at a key once: its value is put into the caller's room, without a hold.

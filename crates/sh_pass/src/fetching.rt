@@ -7,7 +7,7 @@ ghost use Rattle.sh_pass.specs.Owners.{CallLeaves};
 ghost use Rattle.sh_pass.specs.Passes.{HoldsKept, caller_of};
 ghost use Rattle.sh_pass.specs.Rooms.{FillsRoom};
 
-use crate::calls::{get_key, look_key, read_key, release_key};
+use crate::calls::{get_guard_of, look_key, read_key, release_key};
 use crate::looking::Glance;
 use crate::room::Room;
 use arrayvec::ArrayVec;
@@ -38,7 +38,7 @@ fn get_and_read<L: KeyLayout, M: Room>(
         (caller_of seat.new)) room.old result.0 room.new }
     ensures leaves { CallLeaves L.layout result.1 (caller_of seat.old) (caller_of seat.new) }
 {
-    let (got, slot) = get_key(table, seat, held, key, owned);
+    let (got, slot) = get_guard_of(table, seat, held, key, owned);
     let hold = match got {
         Ok(hold) => hold,
         Err(refusal) => return (Err(refusal), slot),

@@ -6,13 +6,16 @@ use sh_plain::Lookup;
 use sh_value::{Hold, Refusal, Value};
 
 impl<L: KeyLayout, H: KeepsHeap<L>> Lookup for PassOn<L, H> {
+    ghost use Rattle.std.specs.Prelude.{Some};
     ghost use Rattle.sh_pass.specs.Passes.{GetDoes, ReadDoes, RemoveDoes, ReleaseDoes};
     ghost use Rattle.sh_pass.specs.Fetching.{FetchDoes};
     ghost use Rattle.sh_pass.specs.Lookups.{caller_book, caller_setting};
 
     ghost book = { caller_book };
 
-    ghost setting = { caller_setting L.layout };
+    ghost setting = { λ pass. Some (caller_setting L.layout pass) };
+
+    ghost lends = { λ _. tt };
 
     ghost gets = { λ old key result new. GetDoes L.layout key old result new };
 

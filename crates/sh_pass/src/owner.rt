@@ -11,7 +11,6 @@ ghost use Rattle.sh_pass.specs.Owners.{heap_page, own_body, seen_page};
 use crate::keeping::KeepsHeap;
 use crate::pass::PassOn;
 use crate::seated::Seated;
-use crate::state::PassState;
 use sh_key::KeyLayout;
 use sh_shape::Shape;
 use sh_step::PageName;
@@ -54,7 +53,7 @@ impl<L: KeyLayout, H: KeepsHeap<L>> OwnerOn<L, H> {
     {
         OwnerOn {
             heap: pass.heap,
-            seated: pass.state.seated,
+            seated: pass.seated,
             owned: None,
         }
     }
@@ -65,10 +64,9 @@ impl<L: KeyLayout, H: KeepsHeap<L>> OwnerOn<L, H> {
         requires left { (own_body self).owned ≡ None }
         ensures { result ≡ self }
     {
-        let seated = self.seated;
         PassOn {
             heap: self.heap,
-            state: PassState { seated },
+            seated: self.seated,
         }
     }
 

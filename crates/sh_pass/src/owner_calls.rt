@@ -7,7 +7,7 @@ ghost use Rattle.sh_pass.specs.Passes.{GetDoes, ReadDoes, ReadIntoDoes, RemoveDo
 ghost use Rattle.sh_pass.specs.Owners.{CallLeaves, own_body};
 ghost use Rattle.sh_pass.specs.Remaining.{Remains};
 
-use crate::calls::{get_guard_of, get_key, read_key, read_value, release_key, remove_key};
+use crate::calls::{get_guard_of, read_key, release_key, remove_key};
 use crate::fetching::fetch_key;
 use crate::guard::Guard;
 use crate::keeping::KeepsHeap;
@@ -31,7 +31,11 @@ impl<L: KeyLayout, H: KeepsHeap<L>> OwnerOn<L, H> {
     {
         let heap = self.heap.kept();
         let Seated { seat, held, .. } = &mut self.seated;
-        get_key(&heap.table, seat, held, key, self.owned)
+        let (answer, slot) = get_guard_of(&heap.table, seat, held, key, self.owned);
+        match answer {
+            Ok(guard) => (Ok(guard.hold()), slot),
+            Err(refusal) => (Err(refusal), slot),
+        }
     }
 
     /// Loads the state word of a key's slot, so that the memory is on its way when a call of this key needs it. It does
@@ -107,8 +111,9 @@ impl<L: KeyLayout, H: KeepsHeap<L>> OwnerOn<L, H> {
         ensures leaves { CallLeaves L.layout None self.old self.new }
         ensures remains { Remains L.layout self.old self.new }
     {
-        let heap = self.heap.kept();
-        read_value(&heap.table, &mut self.seated.seat, &self.seated.held, &hold)
+        let mut value = Value::from(0);
+        self.read_into(hold, &mut value)?;
+        Ok(value)
     }
 
     /// Reads the value of a key that the owner holds into a value of the caller's, replacing what that was, so that it

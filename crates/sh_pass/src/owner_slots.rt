@@ -14,7 +14,7 @@ ghost use Rattle.sh_stack.specs.Stack.{link_over};
 ghost use Rattle.sh_table.specs.Tales.{ViewIsValid};
 ghost use Rattle.sh_pass.specs.Owners.{MayTouch, OwnerDid, OwnerActs, OnPage, SamePages, SameBells, NonePut, heap_page};
 ghost use Rattle.sh_pass.specs.Owners.{own_body, seen_page, published, slot_in, heap_slot, page_without, IsKeyIn};
-ghost use Rattle.sh_pass.specs.Owners.{IsKeyOn};
+ghost use Rattle.sh_pass.specs.Owners.{IsKeyOn, IsKeyOfSlot};
 
 use crate::keeping::KeepsHeap;
 use crate::owner::OwnerOn;
@@ -122,6 +122,7 @@ impl<L: KeyLayout, H: KeepsHeap<L>> OwnerOn<L, H> {
             (length value.now + 2) self.old self.new }
         ensures key { IsKeyIn L.layout self.old name.shard result }
         ensures on { IsKeyOn L.layout self.old (heap_page self.old name) result }
+        ensures slot { IsKeyOfSlot (plan_of L.layout self.old.view.shape) (heap_slot self.old name slot) result }
         ensures bells { SameBells L.layout self.old self.new }
         ensures page { OnPage (heap_page self.old name) (page_without (seen_page self.old (heap_page self.old name))
             slot) self.old self.new }

@@ -14,12 +14,10 @@ ghost use Rattle.sh_pass.specs.Remaining.{Remains};
 ghost use Rattle.sh_pass.specs.Rooms.{becomes};
 
 use crate::calls::look_key;
-use crate::heap::Heap;
 use crate::keeping::KeepsHeap;
 use crate::looking::Glance;
 use crate::owner::OwnerOn;
 use crate::pass::PassOn;
-use crate::state::PassState;
 use sh_bell::{local_of, shard_of_page};
 use sh_key::{KeyLayout, Parts};
 use sh_shape::{SLOT_PLACES, Shape};
@@ -110,29 +108,6 @@ fn peek_slot<L: KeyLayout>(table: &HeapTable<L>, seat: &mut PassSeat, place: u64
     live_key::<L>(table.shape(), slot_ref, word)
 }
 
-impl<L: KeyLayout> PassState<L> {
-    /// Looks at a key once, as `PassOn` says.
-    #[inline(always)]
-    pub fn glance(&mut self, heap: &Heap<L>, key: u64, value: &mut Value) -> Result<Glance, Refusal>
-        requires { self.old.heap ≡ heap.now }
-        ensures does { GlanceDoes becomes L.layout key self.old value.old result value.new self.new }
-        ensures remains { Remains L.layout self.old self.new }
-    {
-        look_key(&heap.table, &mut self.seated.seat, key, value)
-    }
-
-    /// The key that is live at a place of the heap, as `PassOn` says.
-    #[inline(always)]
-    pub fn peek_at(&mut self, heap: &Heap<L>, place: u64) -> Option<u64>
-        requires heap { self.old.heap ≡ heap.now }
-        requires place { place < all_pages heap.now.shape * slot_places }
-        ensures does { PeekDoes L.layout place self.old result self.new }
-        ensures remains { Remains L.layout self.old self.new }
-    {
-        peek_slot(&heap.table, &mut self.seated.seat, place)
-    }
-}
-
 impl<L: KeyLayout, H: KeepsHeap<L>> PassOn<L, H> {
     /// Looks at a key once: reads its value without a hold, if the key is live. If the look comes before the value was
     /// there, it decides nothing. Refused as `BadKey`. Only a value that is seen replaces the caller's.
@@ -141,7 +116,7 @@ impl<L: KeyLayout, H: KeepsHeap<L>> PassOn<L, H> {
         ensures does { GlanceDoes becomes L.layout key self.old value.old result value.new self.new }
         ensures remains { Remains L.layout self.old self.new }
     {
-        self.state.glance(self.heap.kept(), key, value)
+        look_key(&self.heap.kept().table, &mut self.seated.seat, key, value)
     }
 
     /// The key that is live at a place of the heap, or `None` if none is: one load of the slot's state word, which is a
@@ -152,7 +127,7 @@ impl<L: KeyLayout, H: KeepsHeap<L>> PassOn<L, H> {
         ensures does { PeekDoes L.layout place self.old result self.new }
         ensures remains { Remains L.layout self.old self.new }
     {
-        self.state.peek_at(self.heap.kept(), place)
+        peek_slot(&self.heap.kept().table, &mut self.seated.seat, place)
     }
 }
 

@@ -10,7 +10,6 @@ use crate::heap::Heap;
 use crate::keeping::KeepsHeap;
 use crate::owner::OwnerOn;
 use crate::pass::PassOn;
-use crate::state::PassState;
 use sh_key::KeyLayout;
 use sh_table::PassSeat;
 use std::marker::Model;
@@ -54,31 +53,6 @@ impl Receipt {
     }
 }
 
-impl<L: KeyLayout> PassState<L> {
-    /// A receipt of all results of the pass, and of all that it heard of others: one load.
-    pub fn receipt(&mut self, heap: &Heap<L>) -> Receipt
-        requires { self.old.heap ≡ heap.now }
-        ensures same { self.new ≡ self.old }
-        ensures tells { result ≡ receipt_by self.old }
-        ensures remains { Remains L.layout self.old self.new }
-    {
-        Receipt {
-            seat: heap.table.receipt(&mut self.seated.seat),
-        }
-    }
-
-    /// Everything that the receipt covers happens before all later results of the pass: two loads.
-    pub fn heed(&mut self, heap: &Heap<L>, receipt: Receipt)
-        requires own { self.old.heap ≡ heap.now }
-        requires receipt { receipt.heap ≡ heap.now }
-        ensures heeds { self.new ≡ heeded self.old receipt }
-        ensures remains { Remains L.layout self.old self.new }
-    {
-        let Receipt { seat } = receipt;
-        heap.table.heed(&mut self.seated.seat, seat);
-    }
-}
-
 impl<L: KeyLayout, H: KeepsHeap<L>> PassOn<L, H> {
     /// A receipt of all results of the pass, and of all that it heard of others: one load.
     pub fn receipt(&mut self) -> Receipt
@@ -86,7 +60,9 @@ impl<L: KeyLayout, H: KeepsHeap<L>> PassOn<L, H> {
         ensures tells { result ≡ receipt_by self.old }
         ensures remains { Remains L.layout self.old self.new }
     {
-        self.state.receipt(self.heap.kept())
+        Receipt {
+            seat: self.heap.kept().table.receipt(&mut self.seated.seat),
+        }
     }
 
     /// Everything that the receipt covers happens before all later results of the pass: two loads.
@@ -95,7 +71,8 @@ impl<L: KeyLayout, H: KeepsHeap<L>> PassOn<L, H> {
         ensures heeds { self.new ≡ heeded self.old receipt }
         ensures remains { Remains L.layout self.old self.new }
     {
-        self.state.heed(self.heap.kept(), receipt);
+        let Receipt { seat } = receipt;
+        self.heap.kept().table.heed(&mut self.seated.seat, seat);
     }
 }
 

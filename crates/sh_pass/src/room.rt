@@ -31,9 +31,6 @@ impl Room for Value {
     }
 
     fn put(&mut self, words: &[u64]) {
-        match Value::new(words) {
-            Ok(value) => *self = value,
-            Err(_) => unreachable!(),
-        }
+        self.set_words(words);
     }
 }

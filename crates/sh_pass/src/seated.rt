@@ -5,8 +5,8 @@ use sh_table::PassSeat;
 use sh_value::HOLDS_MAX;
 use std::marker::PhantomData;
 
-/// The seat of a pass at the table of its heap, with what the pass keeps beside it. `PassState` and `OwnerOn` have one
-/// each, and their invariants say what holds of it.
+/// The seat of a pass at the table of its heap, with what the pass keeps beside it. `PassOn`, `PassState`, `OwnerOn` and
+/// `BusyOn` have one each, and their invariants say what holds of it.
 #[derive(Drop)]
 pub(crate) struct Seated<L: KeyLayout> {
     pub(crate) seat: PassSeat,

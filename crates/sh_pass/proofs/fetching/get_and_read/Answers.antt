@@ -15,9 +15,9 @@ pub unreachable-requires : goal.unreachable-requires
 unreachable-requires g c =
     let layout = g.L.KeyLayout.layout in
     let v = caller_of c.args.seat.now in
-    let a = caller_of c.get_key-got.new.seat in
+    let a = caller_of c.get_guard_of-got.new.seat in
     let b = caller_of c.read_key.new.seat in
-    let got = subst (λ (r : Result Hold Refusal). GetDoes layout c.args.key v r a) c.in-Ok.is c.get_key-got.ensures.does
+    let got = subst (λ (r : Result Hold Refusal). GetDoes layout c.args.key v r a) c.in-Ok.is c.get_guard_of-got.ensures.does
     in
     let read = subst (λ (r : Result (Unit {0}) Refusal). ReadIntoDoes c.in-Ok.hold.key a c.from-value.result r
     c.read_key.new.value b) c.in_default.is c.read_key.ensures.does in
@@ -31,11 +31,11 @@ pub returns-clause-does : goal.returns-clause-does
 returns-clause-does g c =
     let layout = g.L.KeyLayout.layout in
     let v = caller_of c.args.seat.now in
-    let a = caller_of c.get_key-got.new.seat in
+    let a = caller_of c.get_guard_of-got.new.seat in
     let b = caller_of c.read_key.new.seat in
     let w = caller_of c.release_key-released.new.seat in
     let P : List ℕ → Type 0 = λ ws. GetsAndReads layout c.args.key v (Ok ws) w in
-    let got = subst (λ (r : Result Hold Refusal). GetDoes layout c.args.key v r a) c.in-Ok.is c.get_key-got.ensures.does
+    let got = subst (λ (r : Result Hold Refusal). GetDoes layout c.args.key v r a) c.in-Ok.is c.get_guard_of-got.ensures.does
     in
     let released = subst (λ (r : Result (Unit {0}) Refusal). ReleaseDoes layout c.in-Ok.hold.key b r w)
     c.in-Ok-released.is c.release_key-released.ensures.does in (
@@ -49,12 +49,12 @@ pub returns-clause-leaves : goal.returns-clause-leaves
 returns-clause-leaves g c =
     let layout = g.L.KeyLayout.layout in
     let v = caller_of c.args.seat.now in
-    let a = caller_of c.get_key-got.new.seat in
+    let a = caller_of c.get_guard_of-got.new.seat in
     let b = caller_of c.read_key.new.seat in
     let w = caller_of c.release_key-released.new.seat in
     let slot = c.release_key-released.result.1 in
-    let none = subst (λ (r : Result Hold Refusal). OnOk r (c.get_key-got.result.1 ≡ None)) c.in-Ok.is
-    c.get_key-got.ensures.none in
-    let got = subst (λ (r : Option SlotRef). CallLeaves layout r v a) none c.get_key-got.ensures.leaves in
+    let none = subst (λ (r : Result Hold Refusal). OnOk r (c.get_guard_of-got.result.1 ≡ None)) c.in-Ok.is
+    c.get_guard_of-got.ensures.none in
+    let got = subst (λ (r : Option SlotRef). CallLeaves layout r v a) none c.get_guard_of-got.ensures.leaves in
     leaves_then layout v a w slot c.requires.idle got
     (leaves_then layout a b w slot got.idle c.read_key.ensures.leaves c.release_key-released.ensures.leaves)

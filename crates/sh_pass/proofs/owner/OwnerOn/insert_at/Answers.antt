@@ -10,7 +10,8 @@ use Rattle.sh_slots.specs.declared.hand.Hand.TheVariants.{Filling}
 use Rattle.sh_step.specs.declared.action.Action.TheVariants as action
 use Rattle.sh_step.specs.declared.moves.Move.TheVariants as move
 use Rattle.sh_slots.specs.Slots.{published_name}
-use Rattle.sh_pass.proofs.OwnRuns.{acts_on, page_on, issued, key_on, key_in}
+use Rattle.sh_pass.proofs.OwnRuns.{acts_on, page_on, issued, key_of_slot, key_on}
+use Rattle.sh_pass.proofs.OwnRuns.{key_in}
 use Rattle.sh_pass.proofs.owner.OwnerOn.insert_at.Goals as goal
 
 pub loop-i-preserved : goal.loop-i-preserved
@@ -68,8 +69,8 @@ key_on_page-requires-clause-page g c =
     ∙ c.loop-i.invariant.0.aside.same.shape) in
     subst (λ (s : Numbers). c.args.name.page < pages_of s) (sym at) c.requires.touch.page
 
-pub returns-clause-on : goal.returns-clause-on
-returns-clause-on g c =
+pub returns-clause-slot : goal.returns-clause-slot
+returns-clause-slot g c =
     let layout = g.L.KeyLayout.layout in
     let v = c.args.self.now in
     let p = c.publish-found.ensures in
@@ -81,10 +82,14 @@ returns-clause-on g c =
     let x = c.fill_slot-slot_ref.ensures.slot_ref in
     let P : SlotRef → Type 0 = λ z. OwnerDid layout action.Publish (move.Publish z c.args.value.now)
     c.publish-found.result c.loop-i.self c.publish-found.new.self in
-    key_on layout v c.loop-i.self c.publish-found.new.self c.args.name c.args.slot c.args.value.now
+    key_of_slot layout v c.loop-i.self c.publish-found.new.self c.args.name c.args.slot c.args.value.now
     c.publish-found.result c.shape.result.now c.key_on_page.result c.published_name-stored.result
     (subst P x p.does) before at (c.published_name-stored.ensures
     ∙ ap (λ (z : SlotRef). published_name z c.publish-found.result) x) c.key_on_page.ensures
+
+pub returns-clause-on : goal.returns-clause-on
+returns-clause-on g c = key_on g.L.KeyLayout.layout c.args.self.now c.args.name c.args.slot c.key_on_page.result
+    (returns-clause-slot g c)
 
 pub returns-clause-key : goal.returns-clause-key
 returns-clause-key g c = key_in g.L.KeyLayout.layout c.args.self.now c.args.name c.key_on_page.result c.requires.touch
