@@ -128,7 +128,7 @@ reading_keeps shard n v w states r all size = record {
 
 pub reading_adopts : (layout : Layout) (shard n : ℕ) (v w : Caller) (states : List PageState)
     → Reading layout shard n v w states → length states ≡ n → n ≡ pages_of v.view.shape
-    → AdoptsShard v shard (paged_of layout w shard (length states))
+    → AdoptsShard v shard (paged_of layout w shard states)
 reading_adopts layout shard n v w states r all size = record {
   heap = r.aside.heap;
   same = r.aside.same;

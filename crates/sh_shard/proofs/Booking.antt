@@ -88,7 +88,7 @@ remains_aside layout o n before after aside = record {
 
 -- what is kept of the pages says how many there are, and the class word of each
 pub knows_words : {layout : Layout} {v : Caller} {shard : ℕ} {rings : Option ℕ} {states : List PageState}
-    → KeepsPages layout v shard rings states → KnowsWords (paged_of layout v shard (length states))
+    → KeepsPages layout v shard rings states → KnowsWords (paged_of layout v shard states)
 knows_words {states = states} keeps = record {
   count = keeps.few;
   words = λ p l. ((get_or states p blank_state).class_word, (keeps.pages p l).class);
@@ -106,7 +106,7 @@ keeps_heeded {layout} {v} {w} {shard} {rings} {states} r is stands k =
 pub holds_after : {layout : Layout} {v w : Caller} {shard : ℕ} {rings : Option ℕ} {states : List PageState}
     → KeepsPages layout w shard rings states → Remains layout v w
     → (own_body v).owned ≡ Some shard → w.view.shape ≡ v.view.shape
-    → HoldsPages layout (paged_of layout w shard (length states))
+    → HoldsPages layout (paged_of layout w shard states)
 holds_after keeps remains owned shape = record {
   stands = remains.stands;
   idle = remains.idle;

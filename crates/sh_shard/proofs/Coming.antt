@@ -1,5 +1,6 @@
 -- A slot that the owner gained is in its page's lists.
-use Rattle.std.proofs.Common.{◌≡◌, ◌≢◌, ℕ, suc, ◌+◌, ◌*◌, ◌^◌, ◌<◌, ◌≤◌, ⊎_elim, Option, Some, None, IfSome, List}
+use Rattle.std.proofs.Common.{◌≡◌, ◌≢◌, ℕ, suc, ◌+◌, ◌*◌, ◌^◌, ◌<◌, ◌≤◌, ⊎_elim, Option, Some, None, IfSome}
+use Rattle.std.proofs.Common.{MatchOption, List}
 use Rattle.std.proofs.Common.{length, get_or, set, refl, ap, ◌∙◌, sym, subst, arith}
 use Rattle.std.proofs.lemmas.Bool.{cases_eq}
 use Rattle.std.proofs.Math.Nat.{mul-le-mul_right}
@@ -12,13 +13,14 @@ use Rattle.sh_pass.specs.Tales.{ViewIsValid}
 use Rattle.sh_pass.specs.Passes.{Caller}
 use Rattle.sh_pass.specs.Owners.{SeenBell, CallLeaves, SlotCame, MayTouch, OnPage, heap_page, seen_page, page_with}
 use Rattle.sh_states.specs.declared.states.PageState.{PageState}
-use Rattle.sh_states.specs.States.{blank_state, with_local}
+use Rattle.sh_states.specs.States.{blank_state, state_at, with_local}
 use Rattle.sh_queue.proofs.Numbers.{Misses-from_has}
-use Rattle.sh_shard.specs.Pages.{shard_page, GainsSlot}
+use Rattle.sh_shard.specs.Pages.{SameLists, GainsFirst, shard_page, GainsSlot}
 use Rattle.sh_shard.specs.Kept.{KeepsPage, KeepsPages, MayGain, PushesGained}
 use Rattle.sh_shard.proofs.PageLaws.{kept_with}
 use Rattle.sh_shard.proofs.Keeping.{page_of, here_at, others_at, all_at, rings_at_same}
 use Rattle.sh_shard.proofs.PageSteps.{paged_of}
+use Rattle.sh_shard.proofs.Slots.{same_is, lists_set, lists_beside}
 
 -- the pages of a shard are among those of the heap
 pub few_pages : {layout : Layout} {v : Caller} {shard : ℕ} {rings : Option ℕ} {states : List PageState}
@@ -60,7 +62,7 @@ may_gain {layout} {v} {shard} {rings} {states} (Some x) w k s =
 pub record KeptAfter (layout : Layout) (v w : Caller) (shard : ℕ) (rings : Option ℕ) (old new : List PageState)
     (page : Option ℕ) : Type 0 where
   pub keeps : KeepsPages layout w shard rings new
-  pub comes : GainsSlot page (paged_of layout v shard (length old)) (paged_of layout w shard (length new))
+  pub comes : GainsSlot page (paged_of layout v shard old) (paged_of layout w shard new)
 
 pub kept_after : {layout : Layout} {v : Caller} {shard : ℕ} {rings : Option ℕ} {states : List PageState}
     (gained : Option SlotRef) (page : Option ℕ) (w : Caller) (after : List PageState)
@@ -88,6 +90,10 @@ kept_after {layout} {v} {shard} {rings} {states} None page w after k h stands c 
         here = subst (λ (z : Option ℕ). IfSome z (λ p. (s : ℕ) × (page_of w shard p ≡ page_with (page_of v shard p) s)))
             (sym c.0) tt;
         others = λ q ne. same q;
+        lists = subst (λ (z : Option ℕ). MatchOption z (SameLists (paged_of layout v shard states)
+            (paged_of layout w shard after))
+            (λ p. GainsFirst p (paged_of layout v shard states) (paged_of layout w shard after))) (sym c.0)
+            (λ q. same_is _ _ (ap (λ (z : List PageState). (state_at z q).lists) c.1));
       };
     }
 kept_after {layout} {v} {shard} {rings} {states} (Some x) page w after k h stands c =
@@ -128,5 +134,14 @@ kept_after {layout} {v} {shard} {rings} {states} (Some x) page w after k h stand
         here = subst (λ (z : Option ℕ). IfSome z (λ p. (s : ℕ) × (page_of w shard p ≡ page_with (page_of v shard p) s)))
             (sym c.1) (x.slot, here);
         others = λ q ne. others q (λ (is : q ≡ p). ne (c.1 ∙ ap Some (sym is)));
+        lists = subst (λ (z : Option ℕ). MatchOption z (SameLists (paged_of layout v shard states)
+            (paged_of layout w shard after))
+            (λ p. GainsFirst p (paged_of layout v shard states) (paged_of layout w shard after))) (sym c.1)
+            (record {
+              slot = x.slot;
+              here = here;
+              lists = lists_set p states after st c.4 c.2;
+              beside = lists_beside p states after st c.4;
+            });
       };
     }

@@ -15,6 +15,7 @@ use Rattle.sh_shard.specs.Searches.{ReadsRing, ReadsRings}
 use Rattle.sh_shard.specs.Works.{WorksThroughout, ReadFromBell}
 use Rattle.sh_shard.proofs.ClassWords.{word_of}
 use Rattle.sh_shard.proofs.Sides.{aside_none}
+use Rattle.sh_shard.proofs.Slots.{lists_none, lists_then}
 use Rattle.sh_shard.proofs.Works.{through_none, through_reads, through_stops, read_more, read_of}
 use Rattle.sh_shard.proofs.BellOrder.{stays_there, comes_there, each_same, any_same, each_append, any_append}
 use Rattle.sh_shard.proofs.BellOrder.{alone_none, alone_stops, reads_then, reads_last}
@@ -41,6 +42,7 @@ hears_none c o = record {
   rings = record { reads = alone_none o.pages; queues = refl };
   heard = refl;
   gained = λ p h. inl h;
+  lists = lists_none o.pages;
   aside = aside_none _;
   put = refl;
   log = refl;
@@ -87,6 +89,7 @@ hears_more c word read read' o n m l h once d either = record {
       (let z = once.classes in let t1 = t.1 in let t2 = t.2 in omega arith)
       (sym (ap (λ (z : PageQueues). has_number q (class_queue z c)) t.0) ∙ e)))
       d.queues;
+  lists = lists_then o.pages n.pages m.pages h.lists d.reads.lists;
   aside = aside_then h.aside d.reads.aside;
   put = d.reads.put ∙ h.put;
   log = d.reads.log ∙ h.log;
@@ -172,6 +175,7 @@ hears_stops c read o n m h same s = record {
       (λ (f : ReadFromBell q o.pages n.pages). inr (read_more q o.pages n.pages m.pages f (through_stops n.pages m.pages
       s)))
       (h.gained q (sym (ap (λ (z : PageQueues). has_number q (class_queue z c)) same) ∙ e));
+  lists = lists_then o.pages n.pages m.pages h.lists s.lists;
   aside = aside_then h.aside s.aside;
   put = s.put ∙ h.put;
   log = s.log ∙ h.log;

@@ -1,5 +1,6 @@
 pub mod Sides
 pub mod Bounding
+pub mod Slots
 pub mod Works
 pub mod Counts
 pub mod ClassWords

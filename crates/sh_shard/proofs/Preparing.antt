@@ -13,7 +13,9 @@ use Rattle.sh_queue.proofs.ClassQueues.{class_queue-at_front_same}
 use Rattle.sh_key.specs.Layout.{Layout}
 use Rattle.sh_pass.specs.Owners.{SeenPage}
 use Rattle.sh_shard.specs.Pages.{Paged, page_at, NothingMine, NamesSlot, PageInserts, GivesClass}
-use Rattle.sh_shard.specs.Pages.{TakesSteps}
+use Rattle.sh_queue.specs.Lists.{Lists}
+use Rattle.sh_shard.specs.Slots.{SameSlots, OwnFirst, AllFree}
+use Rattle.sh_shard.specs.Pages.{UsesFirst, lists_at, TakesSteps}
 use Rattle.sh_shard.specs.Works.{WorksThroughout}
 use Rattle.sh_shard.specs.Steps.{StepsAtMost}
 use Rattle.sh_shard.specs.Bounds.{PrepareIsBounded, InsertIsBounded}
@@ -25,7 +27,7 @@ use Rattle.sh_shard.specs.Finding.{StoresAtFront, InsertsElsewhere}
 use Rattle.sh_shard.specs.Searches.{Tried}
 use Rattle.sh_shard.proofs.Works.{through_none}
 use Rattle.sh_shard.proofs.Bounding.{steps_none}
-use Rattle.sh_shard.proofs.Working.{names_before}
+use Rattle.sh_shard.proofs.Working.{names_before, first_since, first_from, begins_first}
 use Rattle.sh_shard.proofs.Storing.{added_since, added_given, stored}
 use Rattle.sh_shard.proofs.Turning.{front_split}
 use Rattle.sh_shard.proofs.Searching.{front_has}
@@ -44,6 +46,12 @@ not_in_class v q c p sorted other = go (has_number p (class_queue q c)) refl whe
 
 pub blank_other : (c : ℕ) (g : SeenPage) → IsBlank g → g.class ≢ Some (c + 1)
 blank_other c g blank is = let e : Some 0 ≡ Some (c + 1) = sym blank ∙ is in let f : 0 ≡ c + 1 = cc in omega arith
+
+-- the next page for the class has another class, or none
+next_other : (c p : ℕ) (o : Sharded) → IsNextFor c p o → (page_at o.pages p).class ≢ Some (c + 1)
+next_other c p o (inl k) = blank_other c (page_at o.pages p) k.1.here
+next_other c p o (inr (inl k)) = k.1.here.other
+next_other c p o (inr (inr k)) = blank_other c (page_at o.pages p) k.2.here
 
 pub prepared : (v w : Paged) (q q' : PageQueues) (c p : ℕ) → SortedPages v q → EachOnce q → c < 8 → p < q.opened
     → IsNextFor c p (record { pages = v; queues = q }) → (page_at v p).class ≢ Some (c + 1) → GivesClass p c v w
@@ -147,16 +155,17 @@ spare_next c k o below here p inside = ⊎_elim
 pub used_at_front : (layout : Layout) (c p : ℕ) (value : List ℕ) (o n : Sharded) (r : Option ℕ)
     → SortedPages o.pages o.queues → slice_get (class_queue o.queues c) 0 ≡ Some p → p < o.queues.opened
     → MatchOption r ((n ≡ o) × NothingMine (page_at o.pages p)) (λ key. PageInserts p value key o.pages n.pages)
-    → IfSome r (λ key. NamesSlot layout p key o.pages) → n.queues ≡ o.queues
+    → IfSome r (λ key. NamesSlot layout p key o.pages)
+    → IfSome r (λ key. UsesFirst layout (SameSlots (lists_at o.pages p)) p key o.pages n.pages) → n.queues ≡ o.queues
     → IfSome r (λ _. TakesSteps (length value + 2) o.pages n.pages)
     → MatchOption r ((n ≡ o) × ((q : ℕ) → slice_get (class_queue o.queues c) 0 ≡ Some q
     → NothingMine (page_at o.pages q))) (λ key. StoresAtFront layout c key value o n)
-used_at_front layout c p value o n None sorted front inside used names same steps = (
+used_at_front layout c p value o n None sorted front inside used names first same steps = (
   used.0,
   λ q e. let is : Some p ≡ Some q = sym front ∙ e in
       let f : p ≡ q = cc in subst (λ z. NothingMine (page_at o.pages z)) f used.1,
 )
-used_at_front layout c p value o n (Some key) sorted front inside used names same steps = record {
+used_at_front layout c p value o n (Some key) sorted front inside used names first same steps = record {
   steps = steps;
   page = p;
   front = front;
@@ -166,6 +175,7 @@ used_at_front layout c p value o n (Some key) sorted front inside used names sam
   class = sorted.classes c p (front_has c p o.queues front);
   names = names;
   inserts = used;
+  first = first;
 }
 
 -- no page is ahead of the front page
@@ -189,8 +199,9 @@ served_at_front layout c key value o n s = stored layout c s.page key value o n 
   tried = o.pages;
   through = through_none o.pages;
   inserts = s.inserts;
-}) s.inside (ap (λ (q : PageQueues). q.opened) s.queues) (inl (front_has c s.page o.queues s.front))
-    (inl (found_at_front c s.page o n s.front s.queues))
+  first = first_from layout (SameSlots (lists_at o.pages s.page)) (OwnFirst (lists_at o.pages s.page)) s.page key o.pages
+      n.pages (λ (l : Lists) come. inl come) s.first;
+}) s.inside (ap (λ (q : PageQueues). q.opened) s.queues) (inl (found_at_front c s.page o n s.front s.queues))
 
 module _ (layout : Layout) (c : ℕ) (value : List ℕ) where
   pub elsewhere_refused : (o n : Sharded) (r : Refusal) → PrepareServes c o (Err r) n
@@ -221,6 +232,11 @@ module _ (layout : Layout) (c : ℕ) (value : List ℕ) where
         given = n;
         prepares = k;
         inserts = subst (λ z. PageInserts z value key n.pages m.pages) is s.inserts;
+        first = first_since layout (SameSlots (lists_at n.pages p)) (AllFree c) p key o.pages n.pages m.pages
+            k.gives.aside k.gives.shard
+            (λ (l : Lists) come. record { free = come.free ∙ k.gives.free.free; local = come.local ∙ k.gives.free.local })
+            k.gives.beside
+            (subst (λ z. UsesFirst layout (SameSlots (lists_at n.pages z)) z key n.pages m.pages) is s.first);
         queues = s.queues;
         steps = let a = k.gives.steps in let b = s.steps in omega arith;
       }
@@ -240,7 +256,12 @@ module _ (layout : Layout) (c : ℕ) (value : List ℕ) where
         prepares = k.prepares;
         queues = k.queues;
         inserts = k.inserts;
-      } in (
+      } in
+      let other : (page_at o.pages k.page).class ≢ Some (c + 1) = λ is. next_other c k.page n k.prepares.next
+      (t.through.classes k.page ∙ is) in
+      let first : UsesFirst layout (AllFree c) k.page key o.pages m.pages = first_since layout (AllFree c) (AllFree c)
+      k.page key o.pages n.pages m.pages t.through.aside t.through.shard (λ (l : Lists) come. come)
+      (λ q ne. t.looks.lists q) k.first in (
         added_since key value o.pages n.pages m.pages t.through (added_given k.page c k.page key value n.pages
             k.given.pages m.pages gives k.inserts),
         names.shard,
@@ -254,13 +275,17 @@ module _ (layout : Layout) (c : ℕ) (value : List ℕ) where
           opened = let same : m.queues.opened ≡ k.given.queues.opened = ap (λ (q : PageQueues). q.opened) k.queues in
               let P : ℕ × ℕ → Type 0 = λ z. ((k.page < z.0) × (z.1 ≡ z.0))
               ⊎ ((k.page ≡ z.0) × (z.1 ≡ z.0 + 8)) in subst P (λ i. (t.opened i, sym same i)) k.prepares.opened;
-          had = inr next;
-          gained = inr (inr next);
-          turned = inr (inr (record {
-            looked = n;
-            looks = t.looks;
-            queues = subst (ComesInFront c k.page n.queues) (sym k.queues) k.prepares.queues;
-          }));
+          found = inr (
+            other,
+            first,
+            begins_first layout c k.page key o.pages m.pages first,
+            next,
+            record {
+              looked = n;
+              looks = t.looks;
+              queues = subst (ComesInFront c k.page n.queues) (sym k.queues) k.prepares.queues;
+            },
+          );
         },
       )
   served_after o n m class t sorted once (Err refusal.Full) k = subst (NoRoom c o) (sym k.0)

@@ -15,7 +15,7 @@ use Rattle.sh_queue.proofs.ClassQueues.{class_queue-at_back_front, class_queue-a
 use Rattle.sh_queue.proofs.PagePlaces.{class_distinct, length-class_queue}
 use Rattle.sh_queue.proofs.ClassQueues.{has_number-at_back, has_number-among_full}
 use Rattle.sh_pass.specs.Owners.{SeenPage}
-use Rattle.sh_shard.specs.Pages.{Paged, page_at, WorksOn, PageDone}
+use Rattle.sh_shard.specs.Pages.{Paged, SameLists, page_at, WorksOn, PageDone}
 use Rattle.sh_shard.specs.Shards.{Sharded, SortedPages}
 use Rattle.sh_shard.specs.Steps.{StepsAtMost}
 use Rattle.sh_shard.specs.Turning.{set_aside, turned_past}
@@ -25,11 +25,12 @@ use Rattle.sh_shard.proofs.Turning.{aside_either, turned_last, turned_same, apar
 use Rattle.sh_shard.proofs.Works.{through_none, through_more, through_works}
 use Rattle.sh_shard.proofs.Bounding.{steps_none, plain_then}
 use Rattle.sh_shard.proofs.Waits.{waits_since}
+use Rattle.sh_shard.proofs.Slots.{lists_none, lists_then}
 
 -- ---- work on pages, one after the other
 
 pub since_none : (c : ℕ) (o : Paged) → WorkedSince c o o
-since_none c o = record { through = through_none o; bell = refl; kept = λ q ne x. refl }
+since_none c o = record { through = through_none o; bell = refl; kept = λ q ne x. refl; lists = lists_none o }
 
 -- work on a page of class c leaves the slots of the pages of other classes
 kept_works : (c p : ℕ) (o n m : Paged) → WorkedSince c o n → WorksOn p n m → (page_at n p).class ≡ Some (c + 1)
@@ -41,11 +42,12 @@ kept_works c p o n m s w class q ne x = ⊎_elim
     (cases_eq q p)
 
 pub since_works : (c p : ℕ) (o n m : Paged) → WorkedSince c o n → WorksOn p n m
-    → (page_at n p).class ≡ Some (c + 1) → WorkedSince c o m
-since_works c p o n m s w class = record {
+    → (page_at n p).class ≡ Some (c + 1) → SameLists n m → WorkedSince c o m
+since_works c p o n m s w class lists = record {
   through = through_more o n m s.through (through_works p n m w);
   bell = w.bell ∙ s.bell;
   kept = kept_works c p o n m s w class;
+  lists = lists_then o n m s.lists lists;
 }
 
 done_here : (c p : ℕ) (o n m : Paged) → WorkedSince c o n → PageDone n m p → PageDone o m p
@@ -147,12 +149,12 @@ pub record Turned (c last : ℕ) (o z : Sharded) (p : ℕ) (ys : List ℕ) : Typ
 turned : (c p turn last : ℕ) (o n m z : Sharded) (s : Searching c turn last o n) (ys : List ℕ) → s.rest ≡ p ∷ ys
     → EachOnce n.queues → c < 8 → m.queues ≡ n.queues
     → WorksOn p n.pages m.pages → PageDone n.pages m.pages p → SetsAside c p m z
-    → (page_at n.pages p).class ≡ Some (c + 1) → Turned c last o z p ys
-turned c p turn last o n m z s ys is once l same w d st class =
+    → (page_at n.pages p).class ≡ Some (c + 1) → SameLists n.pages m.pages → Turned c last o z p ys
+turned c p turn last o n m z s ys is once l same w d st class lists =
     let q : class_queue n.queues c ≡ p ∷ (ys ++ s.waited) = s.queue ∙ ap (λ xs. xs ++ s.waited) is in
     let q' : class_queue m.queues c ≡ p ∷ (ys ++ s.waited) = ap (λ (k : PageQueues). class_queue k c) same ∙ q in
     let since : WorkedSince c o.pages z.pages = subst (WorkedSince c o.pages) (sym st.pages)
-    (since_works c p o.pages n.pages m.pages s.since w class) in
+    (since_works c p o.pages n.pages m.pages s.since w class lists) in
     let old : (r : ℕ) → has_number r s.waited ≡ true → PageDone o.pages z.pages r = λ r h. subst
     (λ k. PageDone o.pages k r) (sym st.pages) (done_kept c p o.pages n.pages m.pages r s.since w d (s.done r h)) in
     let new : PageDone o.pages z.pages p = subst (λ k. PageDone o.pages k p) (sym st.pages)
@@ -216,12 +218,12 @@ past_more c p turn last o n m z s ys is same w st =
 pub searching_more : (c p turn last : ℕ) (o n m z : Sharded) → Searching c turn last o n
     → slice_get (class_queue n.queues c) 0 ≡ Some p → EachOnce n.queues → c < 8 → m.queues ≡ n.queues
     → WorksOn p n.pages m.pages → PageDone n.pages m.pages p → SetsAside c p m z → z.queues.opened ≡ n.queues.opened
-    → StepsAtMost 4 n.pages.owner m.pages.owner → SortedPages n.pages n.queues → p ≢ last
+    → StepsAtMost 4 n.pages.owner m.pages.owner → SortedPages n.pages n.queues → SameLists n.pages m.pages → p ≢ last
     → Searching c (turn + 1) last o z
-searching_more c p turn last o n m z s e once l same w d st opened four sorted ne =
+searching_more c p turn last o n m z s e once l same w d st opened four sorted lists ne =
     let f = front_is c p turn last o n s e in
     let class = sorted.classes c p (front_has c p n.queues e) in
-    let t = turned c p turn last o n m z s f.0 f.1 once l same w d st class in
+    let t = turned c p turn last o n m z s f.0 f.1 once l same w d st class lists in
     let some : f.0 ≢ [] = λ k. ne (let is : Some p ≡ Some last = sym (ap (last_or None) (f.1 ∙ ap (λ ys. p ∷ ys) k))
     ∙ s.ends in let j : p ≡ last = cc in j) in
     let i = last_in p last f.0 some (sym (ap (last_or None) f.1) ∙ s.ends) in record {
@@ -251,11 +253,12 @@ none_behind p (y ∷ ys) w d e = absurd (false≢true (sym (has_number-from_Miss
 pub ended : (c p turn last : ℕ) (o n m z : Sharded) → Searching c turn last o n → slice_get (class_queue n.queues c) 0
     ≡ Some p → EachOnce n.queues → c < 8 → m.queues ≡ n.queues
     → WorksOn p n.pages m.pages → PageDone n.pages m.pages p → SetsAside c p m z
-    → StepsAtMost 4 n.pages.owner m.pages.owner → SortedPages n.pages n.queues → p ≡ last → Searched c o z
-ended c p turn last o n m z s e once l same w d st four sorted is =
+    → StepsAtMost 4 n.pages.owner m.pages.owner → SortedPages n.pages n.queues → SameLists n.pages m.pages → p ≡ last
+    → Searched c o z
+ended c p turn last o n m z s e once l same w d st four sorted lists is =
     let f = front_is c p turn last o n s e in
     let class = sorted.classes c p (front_has c p n.queues e) in
-    let t = turned c p turn last o n m z s f.0 f.1 once l same w d st class in
+    let t = turned c p turn last o n m z s f.0 f.1 once l same w d st class lists in
     let q : class_queue n.queues c ≡ p ∷ (f.0 ++ s.waited) = s.queue ∙ ap (λ xs. xs ++ s.waited) f.1 in
     let none : f.0 ≡ [] = none_behind p f.0 s.waited (subst Distinct q (class_distinct n.queues once c))
     (sym (ap (last_or None) f.1) ∙ (s.ends ∙ ap (λ (k : ℕ). Some k) (sym is))) in

@@ -9,14 +9,17 @@ use Rattle.sh_pass.specs.Entry.TheVariants as entry
 use Rattle.sh_pass.specs.LogEntry.TheVariants.{Known}
 use Rattle.sh_key.specs.Layout.{Layout}
 use Rattle.sh_pass.specs.Owners.{SeenPage}
-use Rattle.sh_shard.specs.Pages.{Paged, page_at, PageInserts, GivesClass, NamesSlot}
-use Rattle.sh_shard.specs.Shards.{Sharded, SortedPages, Added, InsertServes, CameByBell, NextAfterSearch}
-use Rattle.sh_shard.specs.Shards.{FoundInQueue, TurnsTo}
+use Rattle.sh_queue.specs.Lists.{Lists}
+use Rattle.sh_shard.specs.Slots.{OwnFirst}
+use Rattle.sh_shard.specs.Pages.{Paged, page_at, lists_at, PageInserts, UsesFirst, GivesClass, NamesSlot}
+use Rattle.sh_shard.specs.Shards.{Sharded, SortedPages, Added, InsertServes, CameByBell}
+use Rattle.sh_shard.specs.Shards.{FoundAfterBell, FoundInQueue}
 use Rattle.sh_shard.specs.Steps.{StepsAtMost}
 use Rattle.sh_shard.specs.Works.{WorksThroughout}
 use Rattle.sh_shard.specs.Finding.{StoresIn, StoresInQueue}
 use Rattle.sh_shard.specs.Searches.{Searching}
-use Rattle.sh_shard.proofs.Working.{names_before}
+use Rattle.sh_shard.proofs.Working.{names_before, first_since}
+use Rattle.sh_shard.proofs.Slots.{own_since}
 use Rattle.sh_shard.proofs.Turning.{turned_same, apart_ahead}
 use Rattle.sh_shard.proofs.Searching.{front_is, front_has, done_still}
 use Rattle.sh_pass.proofs.OwnRuns.{aside_then}
@@ -64,9 +67,10 @@ found_ahead c p key turn last value o n m s front i same =
 -- a search found page p of the class, where the value is now
 pub found : (layout : Layout) (c p key turn last : ℕ) (value : List ℕ) (o n m : Sharded) → Searching c turn last o n
     → SortedPages n.pages n.queues → slice_get (class_queue n.queues c) 0 ≡ Some p → p < n.queues.opened
-    → NamesSlot layout p key n.pages → PageInserts p value key n.pages m.pages → m.queues ≡ n.queues
+    → NamesSlot layout p key n.pages → PageInserts p value key n.pages m.pages
+    → UsesFirst layout (OwnFirst (lists_at n.pages p)) p key n.pages m.pages → m.queues ≡ n.queues
     → StoresInQueue layout c key value o m
-found layout c p key turn last value o n m s sorted front inside names i same = record {
+found layout c p key turn last value o n m s sorted front inside names i first same = record {
   page = p;
   here = s.stood p (front_has c p n.queues front);
   inside = let e = s.opened in omega arith;
@@ -79,6 +83,10 @@ found layout c p key turn last value o n m s sorted front inside names i same = 
     tried = n.pages;
     through = s.since.through;
     inserts = i;
+    first = first_since layout (OwnFirst (lists_at n.pages p)) (OwnFirst (lists_at o.pages p)) p key o.pages n.pages
+        m.pages s.since.through.aside s.since.through.shard
+        (λ (l : Lists) come. own_since (lists_at o.pages p) (lists_at n.pages p) l (s.since.lists p) come)
+        (λ q ne. s.since.lists q) first;
   };
 }
 
@@ -100,10 +108,9 @@ found_in c p turn last w o n m s sorted e t =
 -- page p of class c has the value: the insert was served, wherever the page came from
 pub stored : (layout : Layout) (c p key : ℕ) (value : List ℕ) (o n : Sharded)
     → StoresIn layout c p key value o.pages n.pages → p < o.queues.opened → n.queues.opened ≡ o.queues.opened
-    → (has_number p (class_queue o.queues c) ≡ true)
-    ⊎ (CameByBell c p key value o.pages n.pages ⊎ NextAfterSearch c p key value o n)
-    → TurnsTo c p o n → InsertServes layout c value o (Ok key) n
-stored layout c p key value o n s inside same gained turned = (
+    → FoundInQueue c p o n ⊎ (FoundAfterBell c p o n × ((has_number p (class_queue o.queues c) ≡ true)
+    ⊎ CameByBell c p key value o.pages n.pages)) → InsertServes layout c value o (Ok key) n
+stored layout c p key value o n s inside same where_it_was = (
   added_since key value o.pages s.tried n.pages s.through (added_here p key value s.tried n.pages s.inserts),
   s.names.shard,
   record {
@@ -113,8 +120,6 @@ stored layout c p key value o n s inside same gained turned = (
     class = s.inserts.class ∙ (s.through.classes p ∙ s.class);
     others = λ q ne. ap (λ (g : SeenPage). g.class) (s.inserts.others q ne) ∙ s.through.classes q;
     opened = inl (inside, same);
-    had = inl s.class;
-    gained = gained;
-    turned = turned;
+    found = inl (s.class, s.first, where_it_was);
   },
 )

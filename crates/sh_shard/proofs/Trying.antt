@@ -8,7 +8,9 @@ use Rattle.sh_queue.specs.Queues.{PageQueues, EachOnce, class_queue}
 use Rattle.sh_pass.specs.Owners.{SeenPage, SeenBell}
 use Rattle.sh_shard.specs.Steps.{StepsAtMost}
 use Rattle.sh_shard.specs.Bounds.{InsertIsBounded}
-use Rattle.sh_shard.specs.Pages.{Paged, page_at, PageDone, BellTakes, StepsForRings}
+use Rattle.sh_queue.specs.Lists.{Lists}
+use Rattle.sh_shard.specs.Slots.{OwnFirst}
+use Rattle.sh_shard.specs.Pages.{Paged, SameLists, page_at, lists_at, PageDone, BellTakes, StepsForRings}
 use Rattle.sh_shard.specs.Turning.{come_back_each, any_of_class}
 use Rattle.sh_shard.specs.Shards.{Sharded, SortedPages, InsertServes, SearchedInVain}
 use Rattle.sh_shard.specs.Works.{WorksThroughout, BellDone, ReadFromBell}
@@ -19,7 +21,8 @@ use Rattle.sh_shard.proofs.Bounding.{rings_then, rings_most}
 use Rattle.sh_shard.proofs.BellOrder.{each_same, any_same, each_append, any_append, alone_takes, reads_then, reads_both}
 use Rattle.sh_shard.proofs.BellOrder.{reads_keep}
 use Rattle.sh_shard.proofs.Hearing.{through_hears}
-use Rattle.sh_shard.proofs.Working.{names_before}
+use Rattle.sh_shard.proofs.Working.{names_before, first_since}
+use Rattle.sh_shard.proofs.Slots.{lists_then, own_since}
 use Rattle.sh_shard.proofs.Waits.{waits_since}
 use Rattle.sh_shard.proofs.Searching.{done_still}
 use Rattle.sh_shard.proofs.Storing.{stored}
@@ -36,6 +39,7 @@ rings_first c read o n h t w some = record {
   rings = h.rings;
   heard = h.heard;
   gained = h.gained;
+  lists = h.lists;
   bell = go n.pages.bell.cursor w some;
   pages = h.pages;
   queue = h.queue;
@@ -78,6 +82,7 @@ rings_both c a b read o n m z is h x t same k y w = record {
       (λ (r : ReadFromBell p m.pages z.pages). inr (read_later p o.pages m.pages z.pages (through_more o.pages n.pages
       m.pages (through_hears c a o n h) (through_takes n.pages m.pages t)) r))
       (k.gained p e);
+  lists = lists_then o.pages n.pages z.pages h.lists (lists_then n.pages m.pages z.pages t.lists k.lists);
   bell = go z.pages.bell.cursor w;
   pages = λ r q e. let f = either_none a b (sym is ∙ r) in k.pages f.1 q
       (ap (λ (g : SeenPage). g.class) (t.pages q) ∙ (h.classes q ∙ e)) ∙ (t.pages q ∙ h.pages f.0 q e);
@@ -126,6 +131,7 @@ tried_once c o n m s k r = record {
     heard = m;
     rings = r.rings;
     again = subst (λ (b : Bool). MatchBool b (SearchedInVain c m m) (m ≡ m)) r.heard refl;
+    lists = lists_then o.pages n.pages m.pages s.since.lists r.lists;
   };
   bell = bell_since o.pages n.pages m.pages s.since.through r.bell;
   done = λ p h. let there = r.queue refl p h in done_still o.pages n.pages m.pages p
@@ -150,6 +156,8 @@ tried_twice c read o n m z did s r t =
         heard = m;
         rings = r.rings;
         again = subst (λ (b : Bool). MatchBool b (SearchedInVain c m z) (z ≡ m)) (sym did ∙ r.heard) t.vain;
+        lists = lists_then o.pages n.pages z.pages s.since.lists
+            (lists_then n.pages m.pages z.pages r.lists t.since.lists);
       };
       bell = let d : BellDone o.pages m.pages = bell_since o.pages n.pages m.pages
           s.since.through r.bell in
@@ -162,7 +170,7 @@ tried_twice c read o n m z did s r t =
 pub looked_once : (layout : Layout) (c key : ℕ) (value : List ℕ) (o n : Sharded)
     → StoresInQueue layout c key value o n → InsertServes layout c value o (Ok key) n
 looked_once layout c key value o n s = stored layout c s.page key value o n s.stores s.inside s.opened
-    (inl s.here) (inl s.finds)
+    (inl s.finds)
 
 -- the second search found a page, which was in the queue or was read from the bell
 found_again : (layout : Layout) (c key : ℕ) (value : List ℕ) (read : Bool) (o n m z : Sharded) → read ≡ true
@@ -178,32 +186,38 @@ found_again layout c key value read o n m z did s sorted once r t =
       tried = t.stores.tried;
       through = through_more o.pages m.pages t.stores.tried before t.stores.through;
       inserts = t.stores.inserts;
+      first = let same : SameLists o.pages m.pages = lists_then o.pages n.pages m.pages s.since.lists r.lists in
+          first_since layout (OwnFirst (lists_at m.pages t.page)) (OwnFirst (lists_at o.pages t.page)) t.page key
+          o.pages m.pages z.pages before.aside before.shard
+          (λ (l : Lists) come. own_since (lists_at o.pages t.page) (lists_at m.pages t.page) l (same t.page) come)
+          (λ q ne. same q) t.stores.first;
     } in
     stored layout c t.page key value o z stores
     (let a = t.inside in let e = r.opened in let f = s.opened in omega arith)
-    (t.opened ∙ (r.opened ∙ s.opened)) (⊎_elim
-    (λ (h : has_number t.page (class_queue n.queues c) ≡ true). inl (s.stood t.page h))
-    (λ (h : ReadFromBell t.page n.pages m.pages). inr (inl (record {
-      class = class;
-      searched = n.pages;
-      done = class_done c o n s.since.through s.done sorted once;
-      heard = m.pages;
-      reads = h;
-      bell = bell_since o.pages n.pages m.pages s.since.through r.bell;
-      tried = t.stores.tried;
-      again = t.stores.through;
-      inserts = t.stores.inserts;
-    })))
-    (r.gained t.page t.here))
-    (inr (inl (record {
-      searched = n;
-      first = s.vain;
-      rung = r.rung;
-      heard = m;
-      rings = r.rings;
-      some = sym r.heard ∙ did;
-      finds = t.finds;
-    })))
+    (t.opened ∙ (r.opened ∙ s.opened)) (inr (
+      record {
+        searched = n;
+        first = s.vain;
+        rung = r.rung;
+        heard = m;
+        rings = r.rings;
+        some = sym r.heard ∙ did;
+        finds = t.finds;
+      },
+      ⊎_elim
+          (λ (h : has_number t.page (class_queue n.queues c) ≡ true). inl (s.stood t.page h))
+          (λ (h : ReadFromBell t.page n.pages m.pages). inr (record {
+            searched = n.pages;
+            done = class_done c o n s.since.through s.done sorted once;
+            heard = m.pages;
+            reads = h;
+            bell = bell_since o.pages n.pages m.pages s.since.through r.bell;
+            tried = t.stores.tried;
+            again = t.stores.through;
+            inserts = t.stores.inserts;
+          }))
+          (r.gained t.page t.here),
+    ))
 
 pub looked_again : (layout : Layout) (c : ℕ) (value : List ℕ) (read : Bool) (o n m z : Sharded) (r : Option ℕ)
     → read ≡ true → Searched c o n → SortedPages n.pages n.queues → EachOnce n.queues → RingsOut c read n m

@@ -16,6 +16,7 @@ use Rattle.sh_pass.specs.Passes.{Caller}
 use Rattle.sh_pass.specs.Owners.{SeenPage}
 use Rattle.sh_states.specs.declared.states.PageState.{PageState}
 use Rattle.sh_states.specs.States.{state_at, WholeState, NoneWholeBelow, FirstWhole}
+use Rattle.sh_shard.specs.Slots.{NoSlots}
 use Rattle.sh_shard.specs.Kept.{KeepsPage, KeepsPages}
 use Rattle.sh_shard.specs.Pages.{count_below, NothingMine, WhollyMine}
 use Rattle.sh_shard.proofs.Keeping.{page_of, below_class}
@@ -55,6 +56,21 @@ some_slot st g n a e = go (st.lists.free ++ st.lists.local) a.mine (length-appen
       go [] h l false t = λ s. sym (h s)
       go (x ∷ xs) h l true t = (x, sym (h x) ∙ has_number-here x xs)
       go (x ∷ xs) h l false t = absurd (let z : n ≤ 0 = grind (arith, nat_tests) in omega arith)
+
+-- whether they have none
+pub none_kept : (st : PageState) (n : ℕ) → n ≡ length st.lists.free + length st.lists.local
+    → MatchBool (nat_lt 0 n) (Unit {0}) (NoSlots st.lists)
+none_kept st n e = go (nat_lt 0 n) refl where
+  empty : (xs : List ℕ) → length xs ≡ 0 → xs ≡ []
+  empty [] l = refl
+  empty (x ∷ xs) l = absurd (omega arith)
+
+  go : (b : Bool) → nat_lt 0 n ≡ b → MatchBool b (Unit {0}) (NoSlots st.lists)
+  go true t = tt
+  go false t = let z : n ≤ 0 = grind (arith, nat_tests) in record {
+    free = empty st.lists.free (omega arith);
+    local = empty st.lists.local (omega arith);
+  }
 
 -- a page whose lists have all slots of its class
 pub wholly : (st : PageState) (g : SeenPage) → KeepsPage st g → SlotsOnce st.lists

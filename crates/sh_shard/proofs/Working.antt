@@ -1,5 +1,6 @@
 -- Work on one page, over one piece of work after another.
-use Rattle.std.proofs.Common.{◌≡◌, ℕ, ◌+◌, ◌*◌, ◌<◌, ◌≤◌, ◌⊎◌, inr, ⊎_elim, true, Option, Some, None, MatchOption, List}
+use Rattle.std.proofs.Common.{◌≡◌, ◌≢◌, ℕ, zero, suc, ◌+◌, ◌*◌, ◌<◌, ◌≤◌, ◌⊎◌, inr, ⊎_elim, true, Option, Some, None}
+use Rattle.std.proofs.Common.{MatchOption, List}
 use Rattle.std.proofs.Common.{[], ◌∷◌, ◌++◌, refl, ap, ◌∙◌, sym, subst, arith}
 use Rattle.sh_pass.specs.Entry.TheVariants as entry
 use Rattle.sh_pass.specs.LogEntry.TheVariants.{Known}
@@ -11,14 +12,19 @@ use Rattle.sh_slots.specs.declared.hand.KeyRef.{KeyRef}
 use Rattle.sh_step.specs.Moves.{place_named}
 use Rattle.sh_step.specs.Plans.{plan_of, shard_of}
 use Rattle.sh_states.specs.declared.states.PageState.{PageState}
-use Rattle.sh_pass.specs.Owners.{SeenPage, Aside, NoneArmed}
+use Rattle.sh_queue.specs.Lists.{Lists, refilled, refilled_by}
+use Rattle.sh_queue.specs.ListNumbers.{upward}
+use Rattle.sh_shape.specs.Classes.{slots}
+use Rattle.sh_pass.specs.Owners.{SeenPage, Aside, NoneArmed, IsKeyOfSlot}
 use Rattle.sh_shard.specs.Kept.{KeepsPage}
 use Rattle.sh_shard.specs.Pages.{Paged, page_at, own_slots, NothingMine, WorksOn, TakesPage, CursorStops, CollectsPage}
-use Rattle.sh_shard.specs.Pages.{ArmsAndFollows, PageDone, PageInserts, NamesSlot, StepsForSlots}
+use Rattle.sh_shard.specs.Pages.{ArmsAndFollows, PageDone, PageInserts, NamesSlot, StepsForSlots, UsesFirst, lists_at}
+use Rattle.sh_shard.specs.Slots.{SameSlots, AllFree}
 use Rattle.sh_shard.proofs.Sides.{aside_none}
 use Rattle.sh_shard.proofs.Bounding.{slots_none, slots_then}
 use Rattle.sh_shard.proofs.Counts.{own_few}
 use Rattle.sh_shard.proofs.Waits.{waits_since}
+use Rattle.sh_shard.proofs.Slots.{same_none, same_then}
 use Rattle.sh_pass.proofs.OwnRuns.{aside_then}
 
 pub works_none : (p : ℕ) (o : Paged) → WorksOn p o o
@@ -33,6 +39,7 @@ works_none p o = record {
   takes = omega arith;
   met = omega arith;
   others = λ q ne. refl;
+  beside = λ q ne. same_none (lists_at o q);
 }
 
 pub works_more : (p : ℕ) (o m n : Paged) → WorksOn p o m → WorksOn p m n → WorksOn p o n
@@ -47,6 +54,7 @@ works_more p o m n g h = record {
   takes = omega (arith, g.takes, h.takes);
   met = omega (arith, g.met, h.met);
   others = λ q ne. h.others q ne ∙ g.others q ne;
+  beside = λ q ne. same_then (lists_at o q) (lists_at m q) (lists_at n q) (g.beside q ne) (h.beside q ne);
 }
 
 -- ---- the cursor is followed
@@ -159,3 +167,49 @@ names_before layout p key o m aside shard h =
 pub names_after : (layout : Layout) (p q key : ℕ) (o m : Paged) → WorksOn q o m → NamesSlot layout p key m
     → NamesSlot layout p key o
 names_after layout p q key o m g h = names_before layout p key o m g.aside g.shard h
+
+-- the slot that it names, it named before; and the slots were taken from what the page had before
+pub first_since : (layout : Layout) (from from' : Lists → Type 0) (p key : ℕ) (o m n : Paged) → Aside o.owner m.owner
+    → m.shard ≡ o.shard → ((l : Lists) → from l → from' l)
+    → ((q : ℕ) → q ≢ p → SameSlots (lists_at o q) (lists_at m q)) → UsesFirst layout from p key m n
+    → UsesFirst layout from' p key o n
+first_since layout from from' p key o m n aside shard came beside u =
+    let P : Numbers × ℕ → Type 0 = λ z. IsKeyOfSlot (plan_of layout z.0)
+    (record { page = z.1 * pages_of z.0 + p; slot = u.slot }) key in record {
+      lists = u.lists;
+      come = came u.lists u.come;
+      slot = u.slot;
+      front = u.front;
+      names = subst P (λ i. (aside.same.shape i, shard i)) u.names;
+      beside = λ q ne. same_then (lists_at o q) (lists_at m q) (lists_at n q) (beside q ne) (u.beside q ne);
+    }
+
+-- the same with less said of the lists
+pub first_from : (layout : Layout) (from from' : Lists → Type 0) (p key : ℕ) (o n : Paged)
+    → ((l : Lists) → from l → from' l) → UsesFirst layout from p key o n → UsesFirst layout from' p key o n
+first_from layout from from' p key o n came u = record {
+  lists = u.lists;
+  come = came u.lists u.come;
+  slot = u.slot;
+  front = u.front;
+  names = u.names;
+  beside = u.beside;
+}
+
+-- ---- the first slot of a page that was given a class
+
+first_zero : (k s : ℕ) (l m : Lists) → l.free ≡ upward 0 k → l.local ≡ []
+    → refilled l ≡ record m { free = s ∷ m.free } → s ≡ 0
+first_zero zero s l m free local front =
+    let is : refilled_by [] l ≡ record m { free = s ∷ m.free } = subst
+    (λ (f : List ℕ). refilled_by f l ≡ record m { free = s ∷ m.free }) free front in
+    let none : [] ≡ s ∷ m.free = sym local ∙ ap (λ (z : Lists). z.free) is in absurd (let z : ⊥ = cc in z)
+first_zero (suc k) s l m free local front =
+    let is : refilled_by (0 ∷ upward 1 k) l ≡ record m { free = s ∷ m.free } = subst
+    (λ (f : List ℕ). refilled_by f l ≡ record m { free = s ∷ m.free }) free front in
+    let some : s ∷ m.free ≡ 0 ∷ upward 1 k = sym (ap (λ (z : Lists). z.free) is) ∙ free in cc
+
+-- a page whose slots are all free begins with slot 0
+pub begins_first : (layout : Layout) (c p key : ℕ) (o n : Paged) (u : UsesFirst layout (AllFree c) p key o n)
+    → u.slot ≡ 0
+begins_first layout c p key o n u = first_zero (slots c) u.slot u.lists (lists_at n p) u.come.free u.come.local u.front

@@ -6,7 +6,8 @@ use Rattle.sh_queue.specs.Queues.{class_queue}
 use Rattle.sh_value.specs.declared.refusal.Refusal.{Refusal}
 use Rattle.sh_value.specs.declared.refusal.Refusal.TheVariants as refusal
 use Rattle.sh_shard.specs.Steps.{StepsAtMost}
-use Rattle.sh_shard.specs.Pages.{Paged, page_at, NamesSlot, PageInserts, TakesSteps}
+use Rattle.sh_shard.specs.Slots.{SameSlots, OwnFirst, AllFree}
+use Rattle.sh_shard.specs.Pages.{Paged, page_at, lists_at, NamesSlot, PageInserts, UsesFirst, TakesSteps}
 use Rattle.sh_shard.specs.Works.{WorksThroughout}
 use Rattle.sh_shard.specs.Shards.{Sharded, FoundInQueue, PreparesPage, NoPageFor, NeedsSegment}
 
@@ -18,6 +19,7 @@ pub record StoresIn (layout : Layout) (c p key : ℕ) (value : List ℕ) (o n : 
   pub tried : Paged
   pub through : WorksThroughout o tried
   pub inserts : PageInserts p value key tried n
+  pub first : UsesFirst layout (OwnFirst (lists_at o p)) p key o n
 
 -- the value is in the front page of the class, and the queues are as they were
 pub record StoresAtFront (layout : Layout) (c key : ℕ) (value : List ℕ) (o n : Sharded) : Type 0 where
@@ -29,6 +31,7 @@ pub record StoresAtFront (layout : Layout) (c key : ℕ) (value : List ℕ) (o n
   pub class : (page_at o.pages page).class ≡ Some (c + 1)
   pub names : NamesSlot layout page key o.pages
   pub inserts : PageInserts page value key o.pages n.pages
+  pub first : UsesFirst layout (SameSlots (lists_at o.pages page)) page key o.pages n.pages
   pub steps : TakesSteps (length value + 2) o.pages n.pages
 
 -- the value is in a page of the queue of the class
@@ -47,6 +50,7 @@ pub record StoresInNext (layout : Layout) (c key : ℕ) (value : List ℕ) (o n 
   pub given : Sharded
   pub prepares : PreparesPage c page o given
   pub inserts : PageInserts page value key given.pages n.pages
+  pub first : UsesFirst layout (AllFree c) page key o.pages n.pages
   pub queues : n.queues ≡ given.queues
   pub steps : StepsAtMost (length value + 3) o.pages.owner n.pages.owner
 

@@ -1,4 +1,5 @@
 pub mod Steps
+pub mod Slots
 pub mod Pages
 pub mod Turning
 pub mod Places
@@ -13,7 +14,6 @@ pub mod Finding
 pub mod Searches
 pub mod Returning
 pub mod Stores
-pub mod QuietShards
 pub use Rattle.sh_pass.specs.Growing
 pub use Rattle.sh_pass.specs.Own
 pub use Rattle.sh_pass.specs.Owners

@@ -17,18 +17,32 @@ use Rattle.sh_pass.specs.Growing.{SameTale}
 use Rattle.sh_pass.specs.Passes.{Caller}
 use Rattle.sh_pass.specs.Receipts.{heeded}
 use Rattle.sh_pass.specs.Owners.{SeenPage, SeenBell, Aside, NonePut, NoneArmed, HasNothing, heap_page, own_body}
-use Rattle.sh_pass.specs.Owners.{page_given, page_with, seen_bell, seen_page, IsKeyIn, IsKeyOn, FoundFree}
+use Rattle.sh_pass.specs.Owners.{page_given, page_with, seen_bell, seen_page, heap_slot, IsKeyIn, IsKeyOn, IsKeyOfSlot}
+use Rattle.sh_pass.specs.Owners.{FoundFree}
+use Rattle.sh_queue.specs.Lists.{Lists, refilled}
+use Rattle.sh_states.specs.declared.states.PageState.{PageState}
+use Rattle.sh_states.specs.States.{state_at}
+use Rattle.sh_step.specs.Plans.{plan_of}
+use Rattle.sh_shard.specs.Slots.{SameSlots, AllFree}
 
--- what the owner knows, its shard, the number of its pages, and its bell as the owner sees it
+-- what the owner knows, its shard, the number of its pages, its bell as the owner sees it, and what is kept of the
+-- pages
 pub record Paged : Type 0 where
   pub owner : Caller
   pub shard : ℕ
   pub count : ℕ
   pub bell : SeenBell
+  pub kept : List PageState
 
 -- the pages, once their owner has heeded the receipt
 abbrev pub pages_heeded : Paged → Caller → Paged
-pages_heeded v r = record { owner = heeded v.owner r; shard = v.shard; count = v.count; bell = v.bell }
+pages_heeded v r = record {
+  owner = heeded v.owner r;
+  shard = v.shard;
+  count = v.count;
+  bell = v.bell;
+  kept = v.kept;
+}
 
 -- page p of the shard
 abbrev pub shard_page : ℕ → ℕ → PageName
@@ -37,6 +51,14 @@ shard_page shard p = record { shard = shard; page = p }
 -- page p of the shard as the owner sees it
 abbrev pub page_at : Paged → ℕ → SeenPage
 page_at v p = seen_page v.owner (heap_page v.owner (shard_page v.shard p))
+
+-- the lists of the slots of page p that are its owner's
+abbrev pub lists_at : Paged → ℕ → Lists
+lists_at v p = (state_at v.kept p).lists
+
+-- each page has the slots that it had, in the order in which it had them
+abbrev pub SameLists : Paged → Paged → Type 0
+SameLists o n = (q : ℕ) → SameSlots (lists_at o q) (lists_at n q)
 
 -- The shard has as many pages as its heap's shape says, and the class word of each is known.
 pub record KnowsWords (v : Paged) : Type 0 where
@@ -150,6 +172,7 @@ pub record WorksOn (p : ℕ) (o n : Paged) : Type 0 where
   pub takes : (page_at o p).takes ≤ (page_at n p).takes
   pub met : (page_at o p).met ≤ (page_at n p).met
   pub others : (q : ℕ) → q ≢ p → page_at n q ≡ page_at o q
+  pub beside : (q : ℕ) → q ≢ p → SameSlots (lists_at o q) (lists_at n q)
 
 -- what was put on the page was taken: the page is armed as before, or no longer armed
 pub record TakesPage (p : ℕ) (o n : Paged) : Type 0 where
@@ -210,6 +233,17 @@ pub record NamesSlot (layout : Layout) (p key : ℕ) (v : Paged) : Type 0 where
   pub shard : IsKeyIn layout v.owner v.shard key
   pub page : IsKeyOn layout v.owner (heap_page v.owner (shard_page v.shard p)) key
 
+-- The key names the first slot of page p: the front of `free`, or of `local` if that was empty. The page has the slots
+-- behind it, in their order, and each other page has those that it had. `from` says what is known of the lists from
+-- which the slot was taken.
+pub record UsesFirst (layout : Layout) (from : Lists → Type 0) (p key : ℕ) (o n : Paged) : Type 0 where
+  pub lists : Lists
+  pub come : from lists
+  pub slot : ℕ
+  pub front : refilled lists ≡ record (lists_at n p) { free = slot ∷ (lists_at n p).free }
+  pub names : IsKeyOfSlot (plan_of layout o.owner.view.shape) (heap_slot o.owner (shard_page o.shard p) slot) key
+  pub beside : (q : ℕ) → q ≢ p → SameSlots (lists_at o q) (lists_at n q)
+
 -- page p was given class c: all its slots are its owner's
 pub record GivesClass (p c : ℕ) (o n : Paged) : Type 0 where
   pub aside : Aside o.owner n.owner
@@ -221,6 +255,8 @@ pub record GivesClass (p c : ℕ) (o n : Paged) : Type 0 where
   pub count : n.count ≡ o.count
   pub here : page_at n p ≡ page_given (page_at o p) c
   pub others : (q : ℕ) → q ≢ p → page_at n q ≡ page_at o q
+  pub free : AllFree c (lists_at n p)
+  pub beside : (q : ℕ) → q ≢ p → SameSlots (lists_at o q) (lists_at n q)
   pub steps : TakesSteps 1 o n
 
 -- ---- the bell
@@ -236,6 +272,7 @@ pub record BellTakes (o n : Paged) : Type 0 where
   pub takes : n.bell.takes ≡ o.bell.takes + 1
   pub met : n.bell.met ≡ o.bell.met
   pub pages : (q : ℕ) → page_at n q ≡ page_at o q
+  pub lists : SameLists o n
   pub steps : StepsForRings 1 o n
 
 -- the bell's cursor is at its end, or met a link that was not written
@@ -250,6 +287,7 @@ pub record BellStops (o n : Paged) : Type 0 where
   pub met : o.bell.met ≤ n.bell.met
   pub waits : MatchOption n.bell.cursor (Unit {0}) (λ _. o.bell.met < n.bell.met)
   pub pages : (q : ℕ) → page_at n q ≡ page_at o q
+  pub lists : SameLists o n
   pub steps : StepsForRings 1 o n
 
 -- page p was read from the bell: it was armed, and no longer is
@@ -266,9 +304,17 @@ pub record BellReads (p : ℕ) (o n : Paged) : Type 0 where
   pub was : (page_at o p).armed ≡ true
   pub here : page_at n p ≡ record (page_at o p) { armed = false }
   pub others : (q : ℕ) → q ≢ p → page_at n q ≡ page_at o q
+  pub lists : SameLists o n
   pub steps : TakesSteps 1 o n
 
 -- ---- the four calls
+
+-- page p gained this slot, which is in front of `local`
+pub record GainsFirst (p : ℕ) (o n : Paged) : Type 0 where
+  pub slot : ℕ
+  pub here : page_at n p ≡ page_with (page_at o p) slot
+  pub lists : lists_at n p ≡ record (lists_at o p) { local = slot ∷ (lists_at o p).local }
+  pub beside : (q : ℕ) → q ≢ p → SameSlots (lists_at o q) (lists_at n q)
 
 -- if the owner gained a slot, its page has one more; all other pages and the bell are as they were
 pub record GainsSlot (gained : Option ℕ) (o n : Paged) : Type 0 where
@@ -280,6 +326,7 @@ pub record GainsSlot (gained : Option ℕ) (o n : Paged) : Type 0 where
   pub inside : IfSome gained (λ p. p < n.count)
   pub here : IfSome gained (λ p. (s : ℕ) × (page_at n p ≡ page_with (page_at o p) s))
   pub others : (q : ℕ) → gained ≢ Some q → page_at n q ≡ page_at o q
+  pub lists : MatchOption gained (SameLists o n) (λ p. GainsFirst p o n)
 
 -- ---- becoming the owner
 

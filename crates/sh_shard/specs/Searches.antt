@@ -7,7 +7,7 @@ use Rattle.sh_queue.specs.ListNumbers.{Distinct}
 use Rattle.sh_queue.specs.Queues.{class_queue, at_back}
 use Rattle.sh_pass.specs.Owners.{Aside, NonePut}
 use Rattle.sh_shard.specs.Steps.{StepsAtMost}
-use Rattle.sh_shard.specs.Pages.{Paged, page_at, PageDone, BellReads, StepsForRings}
+use Rattle.sh_shard.specs.Pages.{Paged, SameLists, page_at, PageDone, BellReads, StepsForRings}
 use Rattle.sh_shard.specs.Works.{WorksThroughout, BellDone, KeepsOthers, ReadFromBell}
 use Rattle.sh_shard.specs.Turning.{set_aside, turned_past, come_back, any_of_class}
 use Rattle.sh_shard.specs.Shards.{Sharded, SearchedInVain, RingsReadInTurn, LooksInVain}
@@ -17,6 +17,7 @@ pub record WorkedSince (c : ℕ) (o n : Paged) : Type 0 where
   pub through : WorksThroughout o n
   pub bell : n.bell ≡ o.bell
   pub kept : KeepsOthers c o n
+  pub lists : SameLists o n
 
 -- a page was tried in vain, and went to the back or to the full queue
 pub record SetsAside (c p : ℕ) (o n : Sharded) : Type 0 where
@@ -68,6 +69,7 @@ pub record RingsOut (c : ℕ) (read : Bool) (o n : Sharded) : Type 0 where
   pub rings : RingsReadInTurn rung o n
   pub heard : read ≡ any_of_class c n.pages rung
   pub gained : StoodOrRead c o n
+  pub lists : SameLists o.pages n.pages
   pub bell : BellDone o.pages n.pages
   pub pages : read ≡ false → (q : ℕ) → (page_at o.pages q).class ≡ Some (c + 1) → page_at n.pages q ≡ page_at o.pages q
   pub queue : read ≡ false → (q : ℕ) → has_number q (class_queue n.queues c) ≡ true
@@ -99,6 +101,7 @@ pub record ReadsRings (c : ℕ) (read : Bool) (o n : Sharded) : Type 0 where
   pub rings : RingsReadInTurn rung o n
   pub heard : read ≡ any_of_class c n.pages rung
   pub gained : StoodOrRead c o n
+  pub lists : SameLists o.pages n.pages
   pub aside : Aside o.pages.owner n.pages.owner
   pub put : NonePut o.pages.owner n.pages.owner
   pub log : n.pages.owner.view.own.log ≡ o.pages.owner.view.own.log

@@ -16,6 +16,8 @@ use Rattle.sh_pass.specs.Growing.{SameTale}
 use Rattle.sh_pass.specs.Remaining.{Remains}
 use Rattle.sh_pass.specs.Owners.{SeenPage, Aside, NonePut, IsKeyIn, IsKeyOn, heap_page}
 use Rattle.sh_shard.specs.Pages.{Paged, shard_page, page_at, seen_class, NothingMine, WhollyMine, GivesClass, PageDone}
+use Rattle.sh_shard.specs.Slots.{OwnFirst, AllFree}
+use Rattle.sh_shard.specs.Pages.{SameLists, UsesFirst, lists_at}
 use Rattle.sh_shard.specs.Pages.{PageInserts, TakesSteps, GainsSlot, HoldsPages, AdoptsShard, AdoptRefused, ShardLeft}
 use Rattle.sh_shard.specs.Turning.{turned_past, come_back_each, any_of_class, gained_back}
 use Rattle.sh_shard.specs.Works.{WorksThroughout, BellDone, ClassDone, KeepsOthers, ReadFromBell, ReadInTurn}
@@ -179,6 +181,7 @@ pub record LooksInVain (c : ℕ) (o n : Sharded) : Type 0 where
   pub heard : Sharded
   pub rings : RingsReadInTurn rung searched heard
   pub again : MatchBool (any_of_class c heard.pages rung) (SearchedInVain c heard n) (n ≡ heard)
+  pub lists : SameLists o.pages n.pages
 
 -- the queue of class c was searched in vain; then the bell was read, and a page of the class was among those read; then
 -- page p was found in the queue
@@ -206,14 +209,9 @@ pub record NoRoom (c : ℕ) (o n : Sharded) : Type 0 where
   pub whole : (p : ℕ) → p < n.pages.count → ¬ WhollyMine (page_at n.pages p)
   pub unopened : n.queues.unopened ≡ 0
 
--- how the queues were turned until page p was found for class c
-abbrev pub TurnsTo : (c p : ℕ) → Sharded → Sharded → Type 0
-TurnsTo c p o n = FoundInQueue c p o n ⊎ (FoundAfterBell c p o n ⊎ FoundNext c p o n)
-
--- each page of class c was searched in vain; then page p, which has the class, was read from the bell and was searched
--- again, and the value is there
+-- each page of class c was searched in vain; then page p was read from the bell and was searched again, and the value
+-- is there
 pub record CameByBell (c p key : ℕ) (value : List ℕ) (o n : Paged) : Type 0 where
-  pub class : (page_at o p).class ≡ Some (c + 1)
   pub searched : Paged
   pub done : ClassDone c o searched
   pub heard : Paged
@@ -234,9 +232,18 @@ pub record NextAfterSearch (c p key : ℕ) (value : List ℕ) (o n : Sharded) : 
   pub queues : n.queues ≡ given.queues
   pub inserts : PageInserts p value key given.pages n.pages
 
--- A value of class c went to a page that has the class, and no other page changed its class. The page had the class, or
--- got it as the next one after a search in vain. It was in the queue of the class, came back by the bell, or was that
--- next one.
+-- Where page p was found for class c, and from which of its slots the insert takes. It had the class, and was found in
+-- the queue, or after the bell, if it was in the queue before or came by the bell. The slots are those that it had; if
+-- it had none, they were put on it by others. Or it was given the class after all that, and its slot 0 is taken.
+abbrev pub FoundFor : Layout → (c p key : ℕ) → (value : List ℕ) → Sharded → Sharded → Type 0
+FoundFor layout c p key value o n = (((page_at o.pages p).class ≡ Some (c + 1))
+    × UsesFirst layout (OwnFirst (lists_at o.pages p)) p key o.pages n.pages
+    × (FoundInQueue c p o n ⊎ (FoundAfterBell c p o n × ((has_number p (class_queue o.queues c) ≡ true)
+    ⊎ CameByBell c p key value o.pages n.pages))))
+    ⊎ (((page_at o.pages p).class ≢ Some (c + 1)) × (first : UsesFirst layout (AllFree c) p key o.pages n.pages)
+    × (first.slot ≡ 0) × NextAfterSearch c p key value o n × FoundNext c p o n)
+
+-- a value of class c went to a page that has the class, and no other page changed its class
 pub record FindsPage (layout : Layout) (c key : ℕ) (value : List ℕ) (o n : Sharded) : Type 0 where
   pub page : ℕ
   pub inside : page < n.pages.count
@@ -244,10 +251,7 @@ pub record FindsPage (layout : Layout) (c key : ℕ) (value : List ℕ) (o n : S
   pub class : (page_at n.pages page).class ≡ Some (c + 1)
   pub others : (q : ℕ) → q ≢ page → (page_at n.pages q).class ≡ (page_at o.pages q).class
   pub opened : OpensFor page o.queues n.queues
-  pub had : ((page_at o.pages page).class ≡ Some (c + 1)) ⊎ NextAfterSearch c page key value o n
-  pub gained : (has_number page (class_queue o.queues c) ≡ true)
-      ⊎ (CameByBell c page key value o.pages n.pages ⊎ NextAfterSearch c page key value o n)
-  pub turned : TurnsTo c page o n
+  pub found : FoundFor layout c page key value o n
 
 -- An insert of a value of class c. The value is added to the log, or there is no room. Or nothing of the class is left,
 -- and the growth of the segment that has the next page was refused.

@@ -1,7 +1,8 @@
 //! The pages of an owner's shard. What is kept of each page is what the owner knows about it.
 ghost use Rattle.std.specs.Prelude.{◌≡◌, ℕ, ◌^◌, ◌<◌, ◌≤◌, None, Some, MatchOption, MatchBool, true};
 ghost use Rattle.sh_shard.specs.Pages.{page_at, HasCursor, NothingMine, WhollyMine, NoneWhollyMine, BlankHasNothing};
-ghost use Rattle.sh_shard.specs.Pages.{seen_class};
+ghost use Rattle.sh_shard.specs.Pages.{seen_class, lists_at};
+ghost use Rattle.sh_shard.specs.Slots.{NoSlots};
 
 mod adopting;
 mod bell;
@@ -9,10 +10,10 @@ mod between_calls;
 mod calls;
 mod collecting;
 mod counting;
-mod hinting;
 mod insert;
 mod leaving;
 mod peeking;
+mod places;
 mod receipts;
 mod stack;
 
@@ -47,6 +48,7 @@ impl<L: KeyLayout, H: KeepsHeap<L>> Model for PagesOn<L, H> {
       count = length p.states;
       bell = seen_bell
           L.layout p.owner p.shard;
+      kept = p.states;
     } };
 
     ghost invariant = { λ p. KeepsPages L.layout p.owner p.shard p.rings p.states };
@@ -91,8 +93,9 @@ impl<L: KeyLayout, H: KeepsHeap<L>> PagesOn<L, H> {
     /// Whether a slot of the page is the owner's.
     pub(crate) fn has_slot(&self, page: u64) -> bool
         requires { page < self.now.count }
-        ensures { MatchBool result ((s : ℕ) × ((page_at self.now page).mine s ≡ true))
+        ensures mine { MatchBool result ((s : ℕ) × ((page_at self.now page).mine s ≡ true))
             (NothingMine (page_at self.now page)) }
+        ensures none { MatchBool result (Unit {0}) (NoSlots (lists_at self.now page)) }
     {
         self.states.slots(page) > 0
     }

@@ -4,6 +4,8 @@ ghost use Rattle.std.specs.Prelude.{true};
 ghost use Rattle.sh_shape.specs.Classes.{width};
 ghost use Rattle.sh_shard.specs.Pages.{page_at, seen_class, WorksOn, PageDone, NothingMine, WhollyMine, PageInserts};
 ghost use Rattle.sh_shard.specs.Pages.{TakesSteps, StepsForSlots, GivesClass, NamesSlot};
+ghost use Rattle.sh_shard.specs.Pages.{UsesFirst, SameLists, lists_at};
+ghost use Rattle.sh_shard.specs.Slots.{SameSlots, OwnFirst};
 ghost use Rattle.sh_shard.specs.Steps.{StepsAtMost};
 
 use crate::pages::PagesOn;
@@ -21,6 +23,8 @@ impl<L: KeyLayout, H: KeepsHeap<L>> PagesOn<L, H> {
         ensures used { MatchOption result ((self.new ≡ self.old) × NothingMine (page_at self.old page))
             (λ key. PageInserts page value.now key self.old self.new) }
         ensures key { IfSome result (λ key. NamesSlot L.layout page key self.old) }
+        ensures first { IfSome result (λ key. UsesFirst L.layout (SameSlots (lists_at self.old page)) page key self.old
+            self.new) }
         ensures steps { IfSome result (λ _. TakesSteps (length value.now + 2) self.old self.new) }
     {
         let name = PageName {
@@ -41,6 +45,8 @@ impl<L: KeyLayout, H: KeepsHeap<L>> PagesOn<L, H> {
         ensures tried { MatchOption result (WorksOn page self.old self.new × PageDone self.old self.new page)
             (λ key. PageInserts page value.now key self.old self.new) }
         ensures key { IfSome result (λ key. NamesSlot L.layout page key self.old) }
+        ensures first { MatchOption result (SameLists self.old self.new)
+            (λ key. UsesFirst L.layout (OwnFirst (lists_at self.old page)) page key self.old self.new) }
         ensures steps { MatchOption result (StepsAtMost 4 self.old.owner self.new.owner)
             (λ _. StepsAtMost (length value.now + 54) self.old.owner self.new.owner) }
     {
@@ -58,6 +64,8 @@ impl<L: KeyLayout, H: KeepsHeap<L>> PagesOn<L, H> {
         ensures works { WorksOn page self.old self.new }
         ensures found { MatchBool result ((s : ℕ) × ((page_at self.new page).mine s ≡ true))
             (PageDone self.old self.new page) }
+        ensures lists { MatchBool result (OwnFirst (lists_at self.old page) (lists_at self.new page))
+            (SameSlots (lists_at self.old page) (lists_at self.new page)) }
         ensures steps { StepsForSlots 4 page self.old self.new }
     {
         if self.has_slot(page) {

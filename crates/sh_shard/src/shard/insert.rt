@@ -3,7 +3,8 @@ ghost use Rattle.std.specs.Prelude.{◌≡◌, ℕ, ◌+◌, ◌<◌, ◌≤◌,
 ghost use Rattle.sh_shape.specs.Classes.{width};
 ghost use Rattle.sh_queue.specs.Numbers.{has_number};
 ghost use Rattle.sh_queue.specs.Queues.{class_queue};
-ghost use Rattle.sh_shard.specs.Pages.{page_at, NothingMine, NamesSlot, PageInserts, TakesSteps};
+ghost use Rattle.sh_shard.specs.Slots.{SameSlots};
+ghost use Rattle.sh_shard.specs.Pages.{page_at, lists_at, NothingMine, NamesSlot, PageInserts, UsesFirst, TakesSteps};
 ghost use Rattle.sh_shard.specs.Shards.{SortedPages, InsertServes, IsQuick, DoneIn, StaysOwner, value_class};
 ghost use Rattle.sh_shard.specs.Bounds.{InsertIsBounded};
 ghost use Rattle.sh_shard.specs.Finding.{StoresAtFront, InsertsElsewhere};
@@ -104,6 +105,8 @@ impl<L: KeyLayout, H: KeepsHeap<L>> ShardOn<L, H> {
         ensures used { MatchOption result ((self.new ≡ self.old) × NothingMine (page_at self.old.pages page))
             (λ key. PageInserts page value.now key self.old.pages self.new.pages) }
         ensures key { IfSome result (λ key. NamesSlot L.layout page key self.old.pages) }
+        ensures first { IfSome result (λ key. UsesFirst L.layout (SameSlots (lists_at self.old.pages page)) page key
+            self.old.pages self.new.pages) }
         ensures queues { self.new.queues ≡ self.old.queues }
         ensures steps { IfSome result (λ _. TakesSteps (length value.now + 2) self.old.pages self.new.pages) }
     {

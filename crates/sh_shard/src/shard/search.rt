@@ -3,7 +3,9 @@ ghost use Rattle.std.specs.Prelude.{◌≡◌, ℕ, ◌+◌, ◌*◌, ◌<◌, �
 ghost use Rattle.sh_queue.specs.Numbers.{has_number};
 ghost use Rattle.sh_queue.specs.Queues.{class_queue};
 ghost use Rattle.sh_shape.specs.Classes.{width};
-ghost use Rattle.sh_shard.specs.Pages.{page_at, NothingMine, WorksOn, PageDone, PageInserts, NamesSlot};
+ghost use Rattle.sh_shard.specs.Slots.{OwnFirst};
+ghost use Rattle.sh_shard.specs.Pages.{page_at, lists_at, SameLists, NothingMine, WorksOn, PageDone, PageInserts};
+ghost use Rattle.sh_shard.specs.Pages.{NamesSlot, UsesFirst};
 ghost use Rattle.sh_shard.specs.Shards.{InsertServes};
 ghost use Rattle.sh_shard.specs.Steps.{StepsAtMost};
 ghost use Rattle.sh_shard.specs.Bounds.{InsertIsBounded};
@@ -71,6 +73,9 @@ impl<L: KeyLayout, H: KeepsHeap<L>> ShardOn<L, H> {
             × PageDone self.old.pages self.new.pages page) (λ key. PageInserts page value.now key self.old.pages
             self.new.pages) }
         ensures key { IfSome result (λ key. NamesSlot L.layout page key self.old.pages) }
+        ensures first { MatchOption result (SameLists self.old.pages self.new.pages)
+            (λ key. UsesFirst L.layout (OwnFirst (lists_at self.old.pages page)) page key self.old.pages
+            self.new.pages) }
         ensures steps { MatchOption result (StepsAtMost 4 self.old.pages.owner self.new.pages.owner)
             (λ _. StepsAtMost (length value.now + 54) self.old.pages.owner self.new.pages.owner) }
     {

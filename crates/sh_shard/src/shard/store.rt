@@ -6,13 +6,16 @@ use sh_plain::{Lookup, Store};
 use sh_value::{Hold, Refusal, Value};
 
 impl<L: KeyLayout, H: KeepsHeap<L>> Lookup for ShardOn<L, H> {
+    ghost use Rattle.std.specs.Prelude.{Some};
     ghost use Rattle.sh_pass.specs.Passes.{GetDoes, ReadDoes, RemoveDoes, ReleaseDoes};
     ghost use Rattle.sh_pass.specs.Fetching.{FetchDoes};
     ghost use Rattle.sh_shard.specs.Stores.{shard_book, shard_setting};
 
     ghost book = { shard_book };
 
-    ghost setting = { shard_setting L.layout };
+    ghost setting = { λ shard. Some (shard_setting L.layout shard) };
+
+    ghost lends = { λ _. tt };
 
     ghost gets = { λ old key result new. GetDoes L.layout key old.pages.owner result new.pages.owner };
 

@@ -1,5 +1,4 @@
-use Rattle.std.proofs.Common.{◌<◌, arith, length, refl, ap, ◌∙◌, sym, subst}
-use Rattle.std.proofs.lemmas.List.{length-set}
+use Rattle.std.proofs.Common.{◌<◌, arith, length, refl, ◌∙◌, sym, subst}
 use Rattle.sh_stack.specs.Stack.{top_item}
 use Rattle.sh_pass.specs.Owners.{page_armed}
 use Rattle.sh_states.specs.declared.states.PageState.{PageState}
@@ -8,7 +7,8 @@ use Rattle.sh_shard.specs.Kept.{KeepsPages}
 use Rattle.sh_shard.specs.Pages.{Paged, WorksOn, StepsForSlots, page_at, seen_class}
 use Rattle.sh_shard.proofs.PageLaws.{kept_armed}
 use Rattle.sh_shard.proofs.Keeping.{keeps_set, cursor_number, page_of}
-use Rattle.sh_shard.proofs.PageSteps.{paged_of, works_on, arming}
+use Rattle.sh_shard.proofs.PageSteps.{paged_of, works_on, set_size, arming}
+use Rattle.sh_shard.proofs.Slots.{lists_beside}
 use Rattle.sh_shard.proofs.pages.PagesOn.arm.Goals as goal
 
 pub slot_number-cursor-requires : goal.slot_number-cursor-requires
@@ -40,17 +40,17 @@ invariant_of-self g c =
 pub returns-clause-works : goal.returns-clause-works
 returns-clause-works g c =
     let P : Paged → Type 0 = λ z. WorksOn c.args.page z (paged_of g.L.KeyLayout.layout c.arm-found.new.self
-    c.self.inside.shard (length c.begin_reading.new.self)) in
+    c.self.inside.shard c.begin_reading.new.self) in
     subst P c.self.view_is (works_on g.L.KeyLayout.layout c.args.page c.self.inside.shard _ _ c.self.inside.owner
     c.arm-found.new.self (page_armed (page_of c.self.inside.owner c.self.inside.shard c.args.page)
     c.arm-found.result) c.arm-found.ensures.acts c.arm-found.ensures.bells c.arm-found.ensures.page
-    c.arm-found.ensures.put (ap length c.begin_reading.ensures ∙ length-set c.self.inside.states c.args.page _) refl
-    (omega arith) (omega arith))
+    c.arm-found.ensures.put (set_size c.args.page _ _ _ c.begin_reading.ensures)
+    (lists_beside c.args.page _ _ _ c.begin_reading.ensures) refl (omega arith) (omega arith))
 
 pub returns-clause-steps : goal.returns-clause-steps
 returns-clause-steps g c =
     let P : Paged → Type 0 = λ z. StepsForSlots 1 c.args.page z (paged_of g.L.KeyLayout.layout c.arm-found.new.self
-    c.self.inside.shard (length c.begin_reading.new.self)) in
+    c.self.inside.shard c.begin_reading.new.self) in
     subst P c.self.view_is (arming g.L.KeyLayout.layout c.args.page c.arm-found.result c.self.inside.shard
-    (length c.self.inside.states) (length c.begin_reading.new.self) c.self.inside.owner c.arm-found.new.self
+    c.self.inside.states c.begin_reading.new.self c.self.inside.owner c.arm-found.new.self
     c.arm-found.ensures.acts c.arm-found.ensures.page)

@@ -1,5 +1,4 @@
-use Rattle.std.proofs.Common.{◌≡◌, ◌<◌, Some, refl, [], ◌∷◌, ◌++◌, length, ap, ◌∙◌, sym, subst}
-use Rattle.std.proofs.lemmas.List.{length-set}
+use Rattle.std.proofs.Common.{◌≡◌, ◌<◌, Some, [], ◌∷◌, ◌++◌, length, ◌∙◌, sym, subst}
 use Rattle.sh_states.specs.declared.states.PageState.{PageState}
 use Rattle.sh_states.specs.States.{state_at}
 use Rattle.sh_shard.specs.Kept.{KeepsPages}
@@ -12,11 +11,11 @@ use Rattle.sh_shard.proofs.pages.PagesOn.follow.Goals as goal
 pub returns-then-found-eq0 : goal.returns-then-found-eq0
 returns-then-found-eq0 g c =
     let P : Paged → Type 0 = λ z. CursorStops c.args.page z (paged_of g.L.KeyLayout.layout c.follow-found.new.self
-    c.self.inside.shard (length c.self.inside.states)) in
+    c.self.inside.shard c.self.inside.states) in
     subst P c.self.view_is (stopped g.L.KeyLayout.layout c.args.page c.in-Some.slot c.follow-found.result
-    c.self.inside.shard _ _ c.self.inside.owner c.follow-found.new.self c.follow-found.ensures.acts
+    c.self.inside.shard c.self.inside.states c.self.inside.owner c.follow-found.new.self c.follow-found.ensures.acts
     c.follow-found.ensures.bells c.follow-found.ensures.page c.follow-found.ensures.put c.follow-found.ensures.arm
-    c.if-found-eq0.true refl)
+    c.if-found-eq0.true)
 
 pub slot_number-cursor-requires : goal.slot_number-cursor-requires
 slot_number-cursor-requires g c =
@@ -72,8 +71,8 @@ returns g c =
     ≡ Some c.in-Some.slot = (k.pages c.args.page l).cursor ∙ (sym c.cursor.ensures.cursor ∙ c.in-Some.is) in
     let h = k.stands.owner.cursors _ c.in-Some.slot cursor in
     let P : Paged → Type 0 = λ z. CursorMoves c.args.page z (paged_of g.L.KeyLayout.layout c.follow-found.new.self
-    c.self.inside.shard (length c.add_read.new.self)) in
+    c.self.inside.shard c.add_read.new.self) in
     subst P c.self.view_is (moved g.L.KeyLayout.layout c.args.page c.in-Some.slot c.follow-found.result
-    c.self.inside.shard _ _ c.self.inside.owner c.follow-found.new.self c.follow-found.ensures.acts
+    c.self.inside.shard _ _ _ c.self.inside.owner c.follow-found.new.self c.follow-found.ensures.acts
     c.follow-found.ensures.bells c.follow-found.ensures.page c.follow-found.ensures.put c.follow-found.ensures.arm
-    c.if-found-eq0.false (ap length c.add_read.ensures ∙ length-set c.self.inside.states c.args.page _) h.2 h.3)
+    c.if-found-eq0.false c.add_read.ensures h.2 h.3)

@@ -1,5 +1,4 @@
-use Rattle.std.proofs.Common.{length, ap, ◌∙◌, sym, subst}
-use Rattle.std.proofs.lemmas.List.{length-set}
+use Rattle.std.proofs.Common.{refl, sym, subst}
 use Rattle.sh_states.specs.declared.states.PageState.{PageState}
 use Rattle.sh_states.specs.States.{state_at}
 use Rattle.sh_shard.specs.Kept.{KeepsPages}
@@ -20,9 +19,9 @@ disarm-requires g c = (at_bell c.in-Some.page c.self.invariant c.in-Some.is).ins
 pub returns-then-found-eq0 : goal.returns-then-found-eq0
 returns-then-found-eq0 g c =
     let P : Paged → Type 0 = λ z. BellStops z (paged_of g.L.KeyLayout.layout c.follow_bell-found.new.self
-    c.self.inside.shard (length c.self.inside.states)) in
+    c.self.inside.shard c.self.inside.states) in
     subst P c.self.view_is (bell_stopped g.L.KeyLayout.layout c.in-Some.page c.follow_bell-found.result
-    c.self.inside.shard (length c.self.inside.states) c.self.inside.owner c.follow_bell-found.new.self
+    c.self.inside.shard c.self.inside.states c.self.inside.owner c.follow_bell-found.new.self
     c.follow_bell-found.ensures.acts c.follow_bell-found.ensures.bell c.follow_bell-found.ensures.page
     c.follow_bell-found.ensures.put c.follow_bell-found.ensures.arm c.if-found-eq0.true)
 
@@ -43,9 +42,9 @@ returns g c =
     let k = c.self.invariant in
     let b = at_bell c.in-Some.page k c.in-Some.is in
     let P : Paged → Type 0 = λ z. BellReads c.in-Some.page z
-    (paged_of g.L.KeyLayout.layout c.follow_bell-found.new.self c.self.inside.shard (length c.disarm.new.self)) in
+    (paged_of g.L.KeyLayout.layout c.follow_bell-found.new.self c.self.inside.shard c.disarm.new.self) in
     subst P c.self.view_is (bell_read g.L.KeyLayout.layout c.in-Some.page c.follow_bell-found.result c.self.inside.shard
-    (length c.self.inside.states) _ c.self.inside.owner c.follow_bell-found.new.self
+    c.self.inside.states _ _ c.self.inside.owner c.follow_bell-found.new.self
     c.follow_bell-found.ensures.acts c.follow_bell-found.ensures.bell c.follow_bell-found.ensures.page
     c.follow_bell-found.ensures.put c.follow_bell-found.ensures.arm c.if-found-eq0.false
-    (ap length c.disarm.ensures ∙ length-set c.self.inside.states c.in-Some.page _) b.inside b.armed)
+    c.disarm.ensures refl b.inside b.armed)

@@ -1,5 +1,4 @@
-use Rattle.std.proofs.Common.{◌<◌, [], length, refl, ap, ◌∙◌, sym, subst}
-use Rattle.std.proofs.lemmas.List.{length-set}
+use Rattle.std.proofs.Common.{◌<◌, [], length, refl, sym, subst}
 use Rattle.sh_queue.specs.ListNumbers.{upward}
 use Rattle.sh_shape.specs.Classes.{slots}
 use Rattle.sh_states.specs.declared.states.PageState.{PageState}
@@ -27,9 +26,11 @@ invariant_of-self g c =
 
 pub returns : goal.returns
 returns g c =
+    let l : c.args.page < length c.self.inside.states = subst (λ (z : Paged). c.args.page < z.count)
+    (sym c.self.view_is) c.requires.inside in
     let P : Paged → Type 0 = λ z. GivesClass c.args.page c.args.class z
-    (paged_of g.L.KeyLayout.layout c.set_class.new.self c.self.inside.shard (length c.give_class.new.self)) in
-    subst P c.self.view_is (gave_class g.L.KeyLayout.layout c.args.page c.self.inside.shard c.args.class _ _
+    (paged_of g.L.KeyLayout.layout c.set_class.new.self c.self.inside.shard c.give_class.new.self) in
+    subst P c.self.view_is (gave_class g.L.KeyLayout.layout c.args.page c.self.inside.shard c.args.class _ _ _
     c.self.inside.owner c.set_class.new.self c.set_class.ensures.acts c.set_class.ensures.bells
-    c.set_class.ensures.page c.set_class.ensures.put c.set_class.ensures.arm
-    (ap length c.give_class.ensures ∙ length-set c.self.inside.states c.args.page _))
+    c.set_class.ensures.page c.set_class.ensures.put c.set_class.ensures.arm c.give_class.ensures l
+    (record { free = refl; local = refl }))

@@ -1,4 +1,4 @@
-use Rattle.std.proofs.Common.{length, subst}
+use Rattle.std.proofs.Common.{subst}
 use Rattle.sh_pass.specs.Fetching.{FetchDoes}
 use Rattle.sh_pass.specs.Rooms.{FillsRoom}
 use Rattle.sh_shard.specs.Pages.{Paged, GainsSlot}
@@ -22,7 +22,7 @@ invariant_of-self g c = (kept_after c.look_into-answer.result.1 c.push_gained-pa
 pub returns-clause-gained : goal.returns-clause-gained
 returns-clause-gained g c =
     let P : Paged → Type 0 = λ z. GainsSlot c.push_gained-page.result z
-    (paged_of g.L.KeyLayout.layout c.look_into-answer.new.self c.self.inside.shard (length c.push_gained-page.new.states))
+    (paged_of g.L.KeyLayout.layout c.look_into-answer.new.self c.self.inside.shard c.push_gained-page.new.states)
     in
     subst P c.self.view_is (kept_after c.look_into-answer.result.1 c.push_gained-page.result c.look_into-answer.new.self
     c.push_gained-page.new.states c.self.invariant c.look_into-answer.ensures.leaves c.look_into-answer.ensures.remains.stands

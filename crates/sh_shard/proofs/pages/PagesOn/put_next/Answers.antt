@@ -47,9 +47,9 @@ returns g c =
     let n = c.in-Some.ensures.used in
     let u = uses_slot c.in-Some.slot st.lists n.lists n.front n.apart in
     let o : Paged = paged_of g.L.KeyLayout.layout c.self.inside.owner c.self.inside.shard
-    (length c.self.inside.states) in
+    c.self.inside.states in
     let then : Paged = paged_of g.L.KeyLayout.layout c.tie.new.self c.self.inside.shard
-    (length c.next_slot.new.self) in
+    c.next_slot.new.self in
     let P : Paged → Type 0 = λ z. PutsOne c.args.page z then in
     subst P c.self.view_is (puts_one o then c.args.page c.in-Some.slot acts.aside
     (c.tie.ensures.bells c.self.inside.shard ∙ c.put_slot-head.ensures.bells c.self.inside.shard)

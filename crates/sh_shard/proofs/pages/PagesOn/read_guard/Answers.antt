@@ -1,4 +1,4 @@
-use Rattle.std.proofs.Common.{None, refl, length, subst}
+use Rattle.std.proofs.Common.{None, refl, subst}
 use Rattle.sh_shard.specs.Pages.{Paged, GainsSlot}
 use Rattle.sh_shard.proofs.Booking.{holds_after}
 use Rattle.sh_shard.proofs.Coming.{kept_after}
@@ -12,7 +12,7 @@ invariant_of-self g c = (kept_after None None c.read_guard.new.self c.self.insid
 pub returns-clause-gained : goal.returns-clause-gained
 returns-clause-gained g c =
     let P : Paged → Type 0 = λ z. GainsSlot None z (paged_of g.L.KeyLayout.layout c.read_guard.new.self
-    c.self.inside.shard (length c.self.inside.states)) in
+    c.self.inside.shard c.self.inside.states) in
     subst P c.self.view_is (kept_after None None c.read_guard.new.self c.self.inside.states c.self.invariant
     c.read_guard.ensures.leaves c.read_guard.ensures.remains.stands (refl, refl)).comes
 

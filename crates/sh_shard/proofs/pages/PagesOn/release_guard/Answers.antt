@@ -1,4 +1,4 @@
-use Rattle.std.proofs.Common.{length, subst}
+use Rattle.std.proofs.Common.{subst}
 use Rattle.sh_shard.specs.Pages.{Paged, GainsSlot}
 use Rattle.sh_shard.proofs.Booking.{holds_after}
 use Rattle.sh_shard.proofs.Coming.{few_pages, may_gain, kept_after}
@@ -23,7 +23,7 @@ pub returns-clause-gained : goal.returns-clause-gained
 returns-clause-gained g c =
     let P : Paged → Type 0 = λ z. GainsSlot c.push_gained-page.result z
     (paged_of g.L.KeyLayout.layout c.release_guard-answer.new.self c.self.inside.shard
-    (length c.push_gained-page.new.states)) in
+    c.push_gained-page.new.states) in
     subst P c.self.view_is (kept_after c.release_guard-answer.result.1 c.push_gained-page.result
     c.release_guard-answer.new.self c.push_gained-page.new.states c.self.invariant c.release_guard-answer.ensures.leaves
     c.release_guard-answer.ensures.remains.stands c.push_gained-page.ensures).comes

@@ -1,4 +1,4 @@
-use Rattle.std.proofs.Common.{length, subst}
+use Rattle.std.proofs.Common.{subst}
 use Rattle.sh_shard.specs.Pages.{Paged, GainsSlot}
 use Rattle.sh_shard.proofs.Booking.{holds_after}
 use Rattle.sh_shard.proofs.Coming.{few_pages, may_gain, kept_after}
@@ -21,7 +21,7 @@ pub returns-clause-gained : goal.returns-clause-gained
 returns-clause-gained g c =
     let P : Paged → Type 0 = λ z. GainsSlot c.push_gained-page.result z
     (paged_of g.L.KeyLayout.layout c.remove-answer.new.self c.self.inside.shard
-    (length c.push_gained-page.new.states)) in
+    c.push_gained-page.new.states) in
     subst P c.self.view_is (kept_after c.remove-answer.result.1 c.push_gained-page.result c.remove-answer.new.self
     c.push_gained-page.new.states c.self.invariant c.remove-answer.ensures.leaves c.remove-answer.ensures.remains.stands
     c.push_gained-page.ensures).comes

@@ -1,5 +1,4 @@
 use Rattle.std.proofs.Common.{◌<◌, false, cond, length, refl, ap, ◌∙◌, sym, subst}
-use Rattle.std.proofs.lemmas.List.{length-set}
 use Rattle.sh_bell.specs.Bell.{is_armed}
 use Rattle.sh_stack.specs.Stack.{top_item}
 use Rattle.sh_states.specs.declared.states.PageState.{PageState}
@@ -42,8 +41,8 @@ invariant_of-self g c =
 pub returns : goal.returns
 returns g c =
     let P : Paged → Type 0 = λ z. TakesPage c.args.page z (paged_of g.L.KeyLayout.layout c.take-found.new.self
-    c.self.inside.shard (length c.begin_reading.new.self)) in
-    subst P c.self.view_is (taken g.L.KeyLayout.layout c.args.page c.take-found.result c.self.inside.shard _ _
+    c.self.inside.shard c.begin_reading.new.self) in
+    subst P c.self.view_is (taken g.L.KeyLayout.layout c.args.page c.take-found.result c.self.inside.shard _ _ _
     c.self.inside.owner c.take-found.new.self c.take-found.ensures.acts c.take-found.ensures.bells
     c.take-found.ensures.page c.take-found.ensures.put c.take-found.ensures.arm
-    (ap length c.begin_reading.ensures ∙ length-set c.self.inside.states c.args.page _))
+    c.begin_reading.ensures)

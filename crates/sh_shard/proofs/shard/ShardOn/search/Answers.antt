@@ -54,8 +54,8 @@ returns-in-Some-try_page-clause-searched g c =
     c.in-Some-front.ensures.opened in
     found g.L.KeyLayout.layout c.args.c c.in-Some-front.page c.in-Some-try_page.key c.loop-turn._turn c.in-Some.last
     c.args.value.now c.args.self.now c.loop-turn.self c.try_page.new.self c.loop-turn.invariant.searching sorted
-    front inside c.in-Some-try_page.ensures.key
-    c.in-Some-try_page.ensures.tried c.try_page.ensures.queues
+    front inside c.in-Some-try_page.ensures.key c.in-Some-try_page.ensures.tried c.in-Some-try_page.ensures.first
+    c.try_page.ensures.queues
 
 pub returns-in-Some-try_page-clause-steps : goal.returns-in-Some-try_page-clause-steps
 returns-in-Some-try_page-clause-steps g c =
@@ -80,7 +80,7 @@ returns-then-page-last-clause-searched g c =
     ended c.args.c c.in-Some-front.page c.loop-turn._turn c.in-Some.last c.args.self.now c.loop-turn.self
     c.try_page.new.self c.set_aside.new.self c.loop-turn.invariant.searching front once c.requires.class
     c.try_page.ensures.queues tried.0 tried.1 c.set_aside.ensures c.in_default-try_page.ensures.steps sorted
-    c.if-page-last.true
+    c.in_default-try_page.ensures.first c.if-page-last.true
 
 pub loop-turn-preserved : goal.loop-turn-preserved
 loop-turn-preserved g c =
@@ -99,6 +99,6 @@ loop-turn-preserved g c =
       searching = searching_more c.args.c c.in-Some-front.page c.loop-turn._turn c.in-Some.last c.args.self.now
           c.loop-turn.self c.try_page.new.self c.set_aside.new.self c.loop-turn.invariant.searching front once
           c.requires.class c.try_page.ensures.queues tried.0 tried.1 c.set_aside.ensures opened
-          c.in_default-try_page.ensures.steps sorted c.if-page-last.false;
+          c.in_default-try_page.ensures.steps sorted c.in_default-try_page.ensures.first c.if-page-last.false;
       opened = opened ∙ c.loop-turn.invariant.opened;
     }

@@ -20,5 +20,6 @@ returns-clause-used g c =
     let sorted : SortedPages c.args.self.now.pages c.args.self.now.queues = subst
     (λ (z : Sharded). SortedPages z.pages z.queues) c.self.view_is c.self.invariant in
     used_at_front g.L.KeyLayout.layout c.args.c c.in-Some.page c.args.value.now c.args.self.now c.use_page.new.self
-    c.use_page.result sorted front inside c.use_page.ensures.used c.use_page.ensures.key c.use_page.ensures.queues
+    c.use_page.result sorted front inside c.use_page.ensures.used c.use_page.ensures.key c.use_page.ensures.first
+    c.use_page.ensures.queues
     c.use_page.ensures.steps

@@ -14,4 +14,4 @@ returns-then-has_cursor g c = λ (f : FullPage (page_at c.args.pages.now c.args.
 
 pub returns-then-has_slot : goal.returns-then-has_slot
 returns-then-has_slot g c = λ (f : FullPage (page_at c.args.pages.now c.args.page)). false≢true
-    (sym (f.mine c.if-has_slot.ensures.0) ∙ c.if-has_slot.ensures.1)
+    (sym (f.mine c.if-has_slot.ensures.mine.0) ∙ c.if-has_slot.ensures.mine.1)
