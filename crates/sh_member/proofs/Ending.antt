@@ -73,6 +73,7 @@ takes k value E First Mid Last v a b c d got removed read released =
     let then = read.steps in
     let last = released.steps in
     record {
+      heap = released.heap ∙ (read.heap ∙ (removed.heap ∙ got.heap));
       same = later_same got.same (later_same removed.same
           (later_same read.same released.same));
       log = released.log
@@ -85,6 +86,9 @@ takes k value E First Mid Last v a b c d got removed read released =
       holds = released.holds
           ∙ (ap (without (λ n. n == k)) (read.holds ∙ (removed.holds ∙ got.holds)) ∙ without_first k (holds v));
       steps = omega arith;
+      alone = λ is_such other.
+          released.alone is_such other
+          ∙ (read.alone is_such other ∙ (removed.alone is_such other ∙ got.alone is_such other));
     }
 
 pub take_does : (layout : Layout) (k : ℕ) (hold : Hold) (value : List ℕ) (v a b c d : Caller)

@@ -1,7 +1,7 @@
 pub mod BatchSteps
+pub mod CallersOf
 pub mod Ending
 pub mod Hearing
-pub mod KeyWalks
 pub mod PlaceWalks
 pub mod OnePlace
 pub mod JudgedKeys

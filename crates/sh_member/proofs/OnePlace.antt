@@ -20,9 +20,8 @@ use Rattle.sh_pass.specs.Deciding.{InOneStep, LookDecided}
 use Rattle.sh_pass.specs.Missing.{MissesKeysOf}
 use Rattle.sh_pass.specs.Peeks.{PeekDoes, Peeked, slot_at}
 use Rattle.sh_pass.specs.Rooms.{becomes}
-use Rattle.sh_member.specs.OwnKeys.{gone_entries}
 use Rattle.sh_member.specs.Walks.{IsKeyBetween, Meets, MissesBetween, NextHeldDoes}
-use Rattle.sh_member.specs.Walks.{Skips}
+use Rattle.sh_member.specs.Walks.{Skips, gone_entries}
 use Rattle.sh_member.proofs.PlaceWalks.{adds_to, adds_along, same_plan}
 use Rattle.sh_pass.proofs.MissedLaws.{Misses, early_by_look, gone_by_get, gone_by_look, live_missed}
 use Rattle.sh_pass.proofs.MissedLaws.{none_live, still_heard}

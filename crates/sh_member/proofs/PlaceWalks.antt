@@ -25,8 +25,7 @@ use Rattle.sh_pass.proofs.Zips.{each_append}
 use Rattle.sh_pass.specs.declared.next_key.NextKey.{NextKey}
 use Rattle.sh_member.specs.declared.walking.NextHeld.{NextHeld}
 use Rattle.sh_member.specs.declared.walking.NextLive.{NextLive}
-use Rattle.sh_member.specs.OwnKeys.{gone_entries}
-use Rattle.sh_member.specs.Walks.{IsKeyBetween, Meets, MissesBetween, NextHeldDoes}
+use Rattle.sh_member.specs.Walks.{IsKeyBetween, Meets, MissesBetween, NextHeldDoes, gone_entries}
 use Rattle.sh_member.specs.Walks.{PeeksIfFull, PutsIfLive, PutsLive, Skips, holds_with, live_entry, with_value}
 use Rattle.sh_pass.proofs.MissedLaws.{misses_keys_after, misses_keys_from, misses_keys_on}
 use Rattle.sh_pass.proofs.PeekLaws.{past_the_heap}
@@ -247,6 +246,37 @@ module _ (layout : Layout) (each from place before : ℕ) (v w : Caller)
 
   pub skips_all : Skips layout each from place v w → Skips layout each from before v w
   skips_all p = record { gone = p.gone; there = there_all p.gone p.there; adds = adds_all each p.adds }
+
+-- ---- over the places of a shard
+
+-- a walk that begins behind its end is one that begins there
+pub skips_from : (layout : Layout) (each first from count : ℕ) (v w : Caller)
+    → Skips layout each (first + min from count) (first + count) v w
+    → Skips layout each (first + from) (first + count) v w
+skips_from layout each first from count v w p = by (below_or_from from count) where
+  S : ℕ → Type 0
+  S n = Skips layout each (first + n) (first + count) v w
+
+  none : (past : count ≤ from) (keys : List ℕ)
+      → Each (IsKeyBetween (plan_for layout v) (first + count) (first + count)) keys
+      → Each (IsKeyBetween (plan_for layout v) (first + from) (first + count)) keys
+  none past [] all = tt
+  none past (k ∷ ks) all = let low = all.0.1 in let high = all.0.2 in absurd (omega arith)
+
+  behind : count ≤ from → S count → S from
+  behind past q = record {
+    gone = q.gone;
+    there = none past q.gone q.there;
+    adds = adds_to (MissesBetween (plan_for layout v) v.view (first + count) (first + count))
+        (MissesBetween (plan_for layout v) v.view (first + from) (first + count))
+        (each * (first + count - (first + from))) v w q.adds
+        (mul-le each (first + count - (first + count)) each (first + count - (first + from)) (omega arith) (omega arith))
+        (λ xs so n low high. absurd (omega arith));
+  }
+
+  by : (from < count) ⊎ (count ≤ from) → S from
+  by (inl less) = subst S (min-eq_left (omega arith)) p
+  by (inr more) = behind more (subst S (min-eq_right more) p)
 
 -- ---- into a room
 

@@ -50,6 +50,7 @@ reads_first k value E First Mid Last v a b c d plain got read removed released =
     let three = removed.steps in
     let four = released.steps in
     record {
+      heap = released.heap ∙ (removed.heap ∙ (read.heap ∙ got.heap));
       same = later_same got.same (later_same read.same
           (later_same removed.same released.same));
       log = released.log
@@ -63,6 +64,9 @@ reads_first k value E First Mid Last v a b c d plain got read removed released =
       holds = released.holds
           ∙ (ap (without (λ n. n == k)) (removed.holds ∙ (read.holds ∙ got.holds)) ∙ without_first k (holds v));
       steps = omega arith;
+      alone = λ is_such other.
+          released.alone is_such other
+          ∙ (removed.alone is_such other ∙ (read.alone is_such other ∙ got.alone is_such other));
     }
 
 -- it fits, and was removed

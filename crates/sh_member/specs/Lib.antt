@@ -1,5 +1,4 @@
 pub mod Batches
-pub mod OwnKeys
 pub mod Readers
 pub mod Removing
 pub mod SideBounds

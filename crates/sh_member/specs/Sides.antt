@@ -1,12 +1,12 @@
 -- A pass that may own a shard, and what its calls do.
-use Rattle.std.specs.Prelude.{◌≡◌, ℕ, Bool, true, false, List, Option, Result, Ok, Err}
+use Rattle.std.specs.Prelude.{◌≡◌, ℕ, Bool, true, false, List, [], Option, Result, Ok, Err}
 use Rattle.sh_key.specs.Layout.{Layout}
 use Rattle.sh_value.specs.declared.refusal.Refusal.{Refusal}
 use Rattle.sh_value.specs.declared.refusal.Refusal.TheVariants as refusal
 use Rattle.sh_shape.specs.Shape.{Numbers}
 use Rattle.sh_pass.specs.Seats.{Heap}
 use Rattle.sh_pass.specs.Tales.{ViewIsValid}
-use Rattle.sh_pass.specs.Views.{joined_view}
+use Rattle.sh_pass.specs.Views.{joined_view, spent}
 use Rattle.sh_pass.specs.Passes.{Caller, IsAtRest}
 use Rattle.sh_pass.specs.Bundles.{bundle_by, bundled}
 use Rattle.sh_pass.specs.Receipts.{heeded, receipt_by}
@@ -16,7 +16,7 @@ use Rattle.sh_shard.specs.Pages.{Paged}
 use Rattle.sh_shard.specs.Shards.{StaysOwner, InsertServes, AdoptServes, LeaveServes, PrepareServes}
 use Rattle.sh_shard.specs.Shards.{value_class, HoldsShard, shard_heeded}
 use Rattle.sh_shard.specs.RemoteFrees.{CollectServes}
-use Rattle.sh_member.specs.OwnKeys.{NextOwnKeyDoes, StepsForPlaces}
+use Rattle.sh_member.specs.Walks.{NextOwnKeyDoes}
 use Rattle.sh_member.specs.declared.member.Side.{Side}
 use Rattle.sh_member.specs.declared.member.Side.TheVariants.{Pass, Shard, Moving}
 
@@ -40,6 +40,19 @@ abbrev pub is_settled : {L H : Type 0} → Side L H → Bool
 is_settled (Pass v) = true
 is_settled (Shard o) = true
 is_settled Moving = false
+
+-- no heap
+abbrev pub nowhere : Heap
+nowhere = record {
+  table = record { words = 0; slots = 0; views_name = 0; atom = 0; block = 0; offset = 0; slot_names = [] };
+  shape = spent.shape;
+}
+
+-- what its pass knows, and of which heap; a member that is moving knows nothing, of no heap
+abbrev pub caller_by : SeenSide → Caller
+caller_by (Pass v) = v
+caller_by (Shard o) = o.pages.owner
+caller_by Moving = record { heap = nowhere; view = spent }
 
 -- ---- what holds between calls
 
@@ -132,8 +145,8 @@ SideCounts count Moving answer new = ⊥
 -- the next live key of the shard that it owns, which it still owns; a pass that owns none is refused
 abbrev pub SideNextKey : Layout → (from : ℕ) → SeenSide → Result (Option NextKey) Refusal → SeenSide → Type 0
 SideNextKey layout from (Pass v) answer new = (answer ≡ Err refusal.NoShard) × (new ≡ Pass v)
-SideNextKey layout from (Shard o) answer (Shard n) = NextOwnKeyDoes layout from o.pages answer n.pages
-    × StepsForPlaces from o.pages n.pages × StaysOwner layout o n
+SideNextKey layout from (Shard o) answer (Shard n) = (next : Option NextKey) × (answer ≡ Ok next)
+    × NextOwnKeyDoes layout from o.pages next n.pages × StaysOwner layout o n
 SideNextKey layout from (Shard o) answer (Pass w) = ⊥
 SideNextKey layout from (Shard o) answer Moving = ⊥
 SideNextKey layout from Moving answer new = ⊥

@@ -1,5 +1,5 @@
 -- What a walk over the places of a heap does: which key it meets next, and which keys it misses.
-use Rattle.std.specs.Prelude.{◌≡◌, ℕ, ◌+◌, ◌-◌, ◌*◌, ◌<◌, ◌≤◌, List, [], ◌∷◌, ◌++◌, length}
+use Rattle.std.specs.Prelude.{◌≡◌, ℕ, ◌+◌, ◌-◌, ◌*◌, ◌<◌, ◌≤◌, List, [], ◌∷◌, ◌++◌, map, length}
 use Rattle.std.specs.Prelude.{Option, Some, None, Result, Ok, Err}
 use Rattle.sh_key.specs.Layout.{Layout}
 use Rattle.sh_pass.specs.Footstep.{Footstep}
@@ -14,10 +14,11 @@ use Rattle.sh_pass.specs.declared.next_key.NextKey.{NextKey}
 use Rattle.sh_table.specs.Entry.TheVariants as entry
 use Rattle.sh_table.specs.LogEntry.{LogEntry}
 use Rattle.sh_table.specs.LogEntry.TheVariants.{Known, Unread}
+use Rattle.sh_shard.specs.Pages.{Paged}
+use Rattle.sh_shard.specs.Places.{first_place, place_count}
 use Rattle.sh_value.specs.declared.hold.Hold.{Hold}
 use Rattle.sh_value.specs.declared.refusal.Refusal.{Refusal}
 use Rattle.sh_value.specs.declared.refusal.Refusal.TheVariants as refusal
-use Rattle.sh_member.specs.OwnKeys.{gone_entries}
 use Rattle.sh_member.specs.declared.walking.NextHeld.{NextHeld}
 use Rattle.sh_member.specs.declared.walking.NextLive.{NextLive}
 
@@ -30,6 +31,10 @@ MissesBetween plan v from before new = (place : ℕ) → from ≤ place → plac
 abbrev pub IsKeyBetween : Plan → (from before : ℕ) → ℕ → Type 0
 IsKeyBetween plan from before key = (place : ℕ) × (from ≤ place) × (place < before)
     × IsKeyOfSlot plan (slot_at place) key
+
+-- each of these keys was found gone
+abbrev pub gone_entries : (pass : ℕ) → List ℕ → List LogEntry
+gone_entries pass = map (λ key. Known (entry.Gone pass key))
 
 -- each key of these places was missed, in at most `each` steps a place
 pub record Skips (layout : Layout) (each from before : ℕ) (v w : Caller) : Type 0 where
@@ -75,6 +80,17 @@ abbrev pub PutsIfLive : (does : Result (Option NextLive) Refusal → Type 0) →
     → Result (Option NextKey) Refusal → (after : List ℕ) → Type 0
 PutsIfLive does before (Ok met) after = PutsLive (λ found. does (Ok found)) before met after
 PutsIfLive does before (Err why) after = does (Err why) × (after ≡ before)
+
+-- ---- over the places of an owner's shard
+
+-- The next key at a place of the shard, whose first place has number 0: the walk over the places of the heap that are
+-- the shard's met it, with this value, or it met none.
+abbrev pub NextOwnKeyDoes : Layout → (from : ℕ) → Paged → Option NextKey → Paged → Type 0
+NextOwnKeyDoes layout from o (Some next) n = (value : List ℕ) × NextLiveDoes layout (first_place o + from)
+    (first_place o + place_count o) o.owner (Some (record
+    { key = next.key; value = value; behind = first_place o + next.behind })) n.owner
+NextOwnKeyDoes layout from o None n = NextLiveDoes layout (first_place o + from) (first_place o + place_count o)
+    o.owner None n.owner
 
 -- ---- with holds
 

@@ -10,9 +10,10 @@ mod guards;
 mod joining;
 mod moving;
 mod own_keys;
+mod reading;
 mod receipts;
 mod taking;
-mod walking;
+pub(crate) mod walking;
 mod warming;
 
 use sh_key::KeyLayout;

@@ -23,7 +23,9 @@ use crate::walking::{NextHeld, NextLive, next_held, next_live, next_live_into};
 use sh_pass::{Glance, NextKey, Receipt};
 use sh_value::{Hold, Refusal, Value};
 
-/// A caller that may look keys up: a pass, or a shard by its owner's pass.
+/// A caller that may look keys up: a pass, a shard by its owner's pass, or a member, which is one of both. (A caller of
+/// a growing heap has a pass in each chunk, so it is no reader of one heap. It is a `Lookup`, as a pass and a shard
+/// are.)
 ///
 /// ```text
 /// let value = pass.look(key)?;    // read, without a hold
@@ -238,8 +240,8 @@ pub trait Reader {
         next_held(self, from, before)
     }
 
-    /// Removes each key of which the predicate is true, as a walk over all places meets them. Returns how many keys this
-    /// call removed: a key that another caller removed meanwhile is not counted.
+    /// Removes each key of which the predicate is true, as a walk over all places meets them. Returns how many keys
+    /// this call removed: a key that another caller removed meanwhile is not counted.
     ///
     /// ```text
     /// let count = pass.remove_if(|_key, value| value.words().first().is_some_and(|end| *end < now));

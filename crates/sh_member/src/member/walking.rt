@@ -14,7 +14,7 @@ use sh_shard::shard::ShardOn;
 use sh_value::{Refusal, Value};
 
 // The same by the owner of a shard, which stays the owner.
-fn next_live_by_owner<L: KeyLayout, H: KeepsHeap<L>>(
+pub(crate) fn next_live_by_owner<L: KeyLayout, H: KeepsHeap<L>>(
     owner: &mut ShardOn<L, H>,
     from: u64,
     before: u64,

@@ -1,0 +1,15 @@
+use Rattle.sh_pass.specs.Passes.{RemoveDoes}
+use Rattle.sh_member.proofs.CallersOf.{caller_did, caller_remains}
+use Rattle.sh_member.proofs.member.reading.MemberReader.remove.Goals as goal
+
+pub returns-clause-does : goal.returns-clause-does
+returns-clause-does g c =
+    caller_did g.L.KeyLayout.layout
+    (RemoveDoes g.L.KeyLayout.layout c.args.key)
+    c.remove.result c.args.self.now c.remove.new.self c.remove.ensures
+
+pub returns-clause-remains : goal.returns-clause-remains
+returns-clause-remains g c =
+    caller_remains g.L.KeyLayout.layout
+    (RemoveDoes g.L.KeyLayout.layout c.args.key)
+    c.remove.result c.args.self.now c.remove.new.self c.remove.ensures
