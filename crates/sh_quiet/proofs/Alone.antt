@@ -28,20 +28,20 @@ use Rattle.sh_core.specs.Rows.{own, hand, look_place}
 use Rattle.sh_core.specs.KeyRef.{KeyRef}
 use Rattle.sh_core.proofs.FootstepLaws.{counts_grow}
 use Rattle.sh_core.proofs.PartTests.{owns_is}
-use Rattle.sh_core.specs.LinkWords.{LinksOn}
+use Rattle.sh_core.specs.Follows.{LinksOn}
 use Rattle.sh_core.specs.Lists.{PutLists}
 use Rattle.sh_core.specs.Lists.{chain_followed}
 use Rattle.sh_core.specs.Refines.{Refines}
 use Rattle.sh_core.specs.Stacks.{slot_ref, link_to, ties_of, ring_ties, cursor_at, bell_cursor_at, bell_link}
 use Rattle.sh_core.specs.Words.{put, read, write}
 use Rattle.sh_core.specs.Worlds.{World, apply}
+use Rattle.sh_core.proofs.Clauses.LinkFacts.{links_of}
 use Rattle.sh_core.proofs.Moves.ByMove.{lists_after}
 use Rattle.sh_core.proofs.Quiet.{none_of}
 use Rattle.sh_core.proofs.Sums.ListCounts.{noted_at, a_first}
 use Rattle.sh_core.proofs.Sums.Tests.{cond_either}
 use Rattle.sh_core.proofs.Sums.Totals.{get_set, get_set_here, total_at}
 use Rattle.sh_core.proofs.Sums.Writes.{put_same, put_other}
-use Rattle.sh_gather.proofs.PageKeys.{not_0}
 
 -- the hand has no link to write, and no page to ring for
 abbrev pub TiesNone : Hand → Type 0
@@ -107,11 +107,12 @@ module _ (plan : Plan) (a : ℕ) (w : World) (l : PutLists) (all : Refines plan 
       let is = all.linked.0.cursors q s in
       let first = a_first (l.chain q) s (omega (arith, here, more, is)) in
       let on : LinksOn (w.words.link_at q) (λ r. total (ties_of (slot_ref q r)) w.parts) (s ∷ drop 1 (l.chain q))
-      = subst (LinksOn (w.words.link_at q) (λ r. total (ties_of (slot_ref q r)) w.parts)) first (all.links.chain q) in
+      = subst (LinksOn (w.words.link_at q) (λ r. total (ties_of (slot_ref q r)) w.parts)) first
+      ((links_of plan w l all).chain q) in
       let free = ties q s in
       let some = some_link (drop 1 (l.chain q)) in
       ⊎_elim (λ h. let one = h.1 in absurd (omega (arith, one, free)))
-      (λ h. let e = h.0 in not_0 (w.words.link_at q s) (omega (arith, e, some))) on.0
+      (λ h. let e = h.0 in ne_eqb (w.words.link_at q s) 0 (λ z. omega (arith, z, e, some))) on.0
 
   unlinked : (n q k : ℕ) → k ≡ 0 → (cond (n == shard_of plan q) (over_heap plan n 2 k) 0) ≡ 0
   unfolding over_heap
@@ -129,7 +130,7 @@ module _ (plan : Plan) (a : ℕ) (w : World) (l : PutLists) (all : Refines plan 
       let on : LinksOn (bell_link plan w.words.page_link_at n) (λ r. total (ring_ties plan n r) w.parts) (q ∷ drop 1
       (l.bell_chain n))
       = subst (LinksOn (bell_link plan w.words.page_link_at n) (λ r. total (ring_ties plan n r) w.parts)) first
-      (all.links.bell_chain n) in
+      ((links_of plan w l all).bell_chain n) in
       let free = ring_ties_none n q in
       let some = some_link (drop 1 (l.bell_chain n)) in
       go (w.words.page_link_at q == 0) refl (⊎_elim (λ h. let one = h.1 in absurd (omega (arith, one, free)))

@@ -15,6 +15,7 @@ use Rattle.sh_core.specs.Quiet.{Quiet}
 use Rattle.sh_core.specs.Refines.{Refines, live, marked, retired}
 use Rattle.sh_core.specs.Stacks.{slot_ref, cursor_at, bell_cursor_at, is_at}
 use Rattle.sh_core.specs.Worlds.{World}
+use Rattle.sh_core.proofs.Clauses.Follows.{kinds_of}
 use Rattle.sh_core.proofs.Quiet.{none_of}
 use Rattle.sh_core.proofs.Sums.ListCounts.{has_some, has_none, not_noted, no_first}
 use Rattle.sh_core.proofs.Sums.Totals.{total_at}
@@ -112,7 +113,7 @@ module _ (plan : Plan) (w : World) (l : PutLists) (all : Refines plan w l) (quie
       → live (state_of w (slot_ref q s)) + marked (state_of w (slot_ref q s)) + retired (state_of w (slot_ref q s)) ≡ 1
   unfolding total
   slot_is_used q s c mine class below none stack chain =
-      let one = (all.one_kind (slot_ref q s) c class).0 below in
+      let one = (kinds_of w l all.one_kind (slot_ref q s) c class).0 below in
       let not_mine = no_mine (slot_ref q s) mine none in
       let no_hand = no_hands (slot_ref q s) in
       let on_stack : times s (l.stack q) ≡ 0 = ap (times s) stack in

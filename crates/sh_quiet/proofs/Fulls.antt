@@ -1,6 +1,6 @@
 -- When an owner that goes on alone in a quiet heap is told Full.
-use Rattle.std.proofs.Common.{◌≡◌, ℕ, ◌+◌, ◌<◌, ◌==◌, true, List, [], ◌++◌, refl, ap, ◌∙◌, subst, Option, Some, None}
-use Rattle.std.proofs.Common.{MatchOption}
+use Rattle.std.proofs.Common.{◌≡◌, ℕ, ◌+◌, ◌<◌, ◌==◌, true, List, [], ◌++◌, refl, ap, sym, ◌∙◌, subst, Option, Some}
+use Rattle.std.proofs.Common.{None, MatchOption}
 use Rattle.sh_core.specs.Layout.{Layout, IsLayout}
 use Rattle.sh_core.specs.Shape.{Numbers, IsShape, Fits}
 use Rattle.sh_core.specs.Hand.TheVariants.{Idle}
@@ -17,7 +17,7 @@ use Rattle.sh_shard.specs.Pages.{Paged, PageDone, page_at, shard_page}
 use Rattle.sh_shard.specs.Shards.{NoneLeft}
 use Rattle.sh_quiet.specs.Quiescence.{ClassIsUsed, FullIsExact}
 use Rattle.sh_quiet.proofs.Emptied.{chain_ends, armed_is_empty, slot_is_used}
-use Rattle.sh_quiet.proofs.Exact.{Goes, goes}
+use Rattle.sh_quiet.proofs.Exact.{Goes, cut, goes, so_there}
 use Rattle.sh_quiet.proofs.Working.{SeesBell, all_true, all_quiet, home_is, bell_links, page_links, bells_empty}
 use Rattle.sh_quiet.proofs.Working.{bell_chain_empty}
 
@@ -78,21 +78,23 @@ module _ (layout : Layout) (shape : Numbers) (is_layout : IsLayout layout) (is_s
       (stands.notes q (c + 1) mine class) slot (done.mine s) stack chain
 
 pub full_is_exact : FullIsExact
-full_is_exact layout c o n last had held full is_layout is_shape fits early more before after =
-    let v = o.pages.owner in
-    let u = n.pages.owner in
+full_is_exact layout c o n last had held full b =
+    let v = o.pages.owner.view in
+    let u = n.pages.owner.view in
     let same = full.left.through.aside.same in
-    let sees : SeesBell (plan_of layout v.view.shape) o.pages = record {
-      cursor = ap (λ (b : SeenBell). b.cursor) had.bell;
-      takes = ap (λ (b : SeenBell). b.takes) had.bell;
-      met = ap (λ (b : SeenBell). b.met) had.bell;
+    let there = cut layout v u last had.stands same b in
+    let g = goes layout v u last had.stands same b in
+    let sees : SeesBell (plan_of layout u.shape) o.pages = record {
+      cursor = ap (λ (s : SeenBell). s.cursor) had.bell;
+      takes = ap (λ (s : SeenBell). s.takes) had.bell;
+      met = ap (λ (s : SeenBell). s.met) had.bell
+          ∙ ap (λ (z : Numbers). bell_met (plan_of layout z) o.pages.shard v.own.trail) (sym same.shape);
     } in
-    let sees_now : SeesBell (plan_of layout v.view.shape) n.pages = record {
-      cursor = ap (λ (b : SeenBell). b.cursor) held.bell;
-      takes = ap (λ (b : SeenBell). b.takes) held.bell;
-      met = ap (λ (b : SeenBell). b.met) held.bell
-          ∙ ap (λ (z : Numbers). bell_met (plan_of layout z) n.pages.shard u.view.own.trail) same.shape;
+    let sees_now : SeesBell (plan_of layout u.shape) n.pages = record {
+      cursor = ap (λ (s : SeenBell). s.cursor) held.bell;
+      takes = ap (λ (s : SeenBell). s.takes) held.bell;
+      met = ap (λ (s : SeenBell). s.met) held.bell;
     } in
-    class_is_used layout v.view.shape is_layout is_shape fits early more v.view.pass c o.pages n.pages
-    (goes layout v.view u.view is_layout is_shape fits last same early more before after) sees sees_now held.owned
-    held.idle full.left
+    so_there layout v u last had.stands same b (λ w l. ClassIsUsed c n.pages w)
+    (class_is_used layout u.shape b.is_layout b.is_shape b.fits there.early there.late v.pass c o.pages n.pages g sees
+    sees_now held.owned held.idle full.left)

@@ -90,7 +90,7 @@ stepped plan es e r is = go (slice_get (run plan es).parts e.pass) refl where
       )
 
 -- a trail stays as it is or gets one more step
-grows : (plan : Plan) (es : List Event) (e : Event) (b : ℕ) → (trail_of plan (es ++ e ∷ []) b ≡ trail_of plan es b)
+pub grows : (plan : Plan) (es : List Event) (e : Event) (b : ℕ) → (trail_of plan (es ++ e ∷ []) b ≡ trail_of plan es b)
     ⊎ ((s : Footstep) × (trail_of plan (es ++ e ∷ []) b ≡ trail_of plan es b ++ s ∷ []))
 grows plan es e b = go (row_of_event plan (run plan es) e) refl where
   go : (o : Option Row) → row_of_event plan (run plan es) e ≡ o

@@ -1,5 +1,5 @@
 -- An owner that goes on alone in a quiet heap is never told to wait when it leaves its shard.
-use Rattle.std.proofs.Common.{◌≡◌, ℕ, ◌<◌, ◌==◌, ◌⊎◌, inl, inr, true, List, [], ◌++◌, ap, ◌∙◌, subst, Some, None}
+use Rattle.std.proofs.Common.{◌≡◌, ℕ, ◌<◌, ◌==◌, ◌⊎◌, inl, inr, true, List, [], ◌++◌, ap, sym, ◌∙◌, subst, Some, None}
 use Rattle.sh_core.specs.Layout.{Layout, IsLayout}
 use Rattle.sh_core.specs.Shape.{Numbers, IsShape, Fits}
 use Rattle.sh_core.specs.Hand.TheVariants.{Idle}
@@ -16,7 +16,7 @@ use Rattle.sh_shard.specs.Leaving.{Waiting, RestsNot}
 use Rattle.sh_shard.specs.Pages.{Paged, HasCursor, page_at, shard_page}
 use Rattle.sh_quiet.specs.Quiescence.{LeavesNeverWait}
 use Rattle.sh_quiet.proofs.Emptied.{none_is_due}
-use Rattle.sh_quiet.proofs.Exact.{Goes, goes, head_is_empty}
+use Rattle.sh_quiet.proofs.Exact.{Goes, cut, goes, head_is_empty}
 use Rattle.sh_quiet.proofs.Working.{SeesBell, all_true, all_quiet, same_page, home_is, bell_links, page_links}
 use Rattle.sh_quiet.proofs.Working.{bells_empty, bell_chain_empty}
 use Rattle.sh_shard.specs.Works.{WorksThroughout}
@@ -82,21 +82,22 @@ module _ (layout : Layout) (shape : Numbers) (is_layout : IsLayout layout) (is_s
     by_reason (inr h) = by_page h.0 h.2
 
 pub leaves_never_wait : LeavesNeverWait
-leaves_never_wait layout o n last had held waits is_layout is_shape fits early more before after =
-    let v = o.pages.owner in
-    let u = n.pages.owner in
+leaves_never_wait layout o n last had held waits b =
+    let v = o.pages.owner.view in
+    let u = n.pages.owner.view in
     let same = waits.collects.through.aside.same in
-    let sees : SeesBell (plan_of layout v.view.shape) o.pages = record {
-      cursor = ap (λ (b : SeenBell). b.cursor) had.bell;
-      takes = ap (λ (b : SeenBell). b.takes) had.bell;
-      met = ap (λ (b : SeenBell). b.met) had.bell;
+    let there = cut layout v u last had.stands same b in
+    let g = goes layout v u last had.stands same b in
+    let sees : SeesBell (plan_of layout u.shape) o.pages = record {
+      cursor = ap (λ (s : SeenBell). s.cursor) had.bell;
+      takes = ap (λ (s : SeenBell). s.takes) had.bell;
+      met = ap (λ (s : SeenBell). s.met) had.bell
+          ∙ ap (λ (z : Numbers). bell_met (plan_of layout z) o.pages.shard v.own.trail) (sym same.shape);
     } in
-    let sees_now : SeesBell (plan_of layout v.view.shape) n.pages = record {
-      cursor = ap (λ (b : SeenBell). b.cursor) held.bell;
-      takes = ap (λ (b : SeenBell). b.takes) held.bell;
-      met = ap (λ (b : SeenBell). b.met) held.bell
-          ∙ ap (λ (z : Numbers). bell_met (plan_of layout z) n.pages.shard u.view.own.trail) same.shape;
+    let sees_now : SeesBell (plan_of layout u.shape) n.pages = record {
+      cursor = ap (λ (s : SeenBell). s.cursor) held.bell;
+      takes = ap (λ (s : SeenBell). s.takes) held.bell;
+      met = ap (λ (s : SeenBell). s.met) held.bell;
     } in
-    never_waits layout v.view.shape is_layout is_shape fits early more v.view.pass o.pages n.pages
-    (goes layout v.view u.view is_layout is_shape fits last same early more before after) sees sees_now held.owned
-    held.idle waits
+    never_waits layout u.shape b.is_layout b.is_shape b.fits there.early there.late v.pass o.pages n.pages g sees
+    sees_now held.owned held.idle waits

@@ -1,5 +1,6 @@
 pub mod Alone
 pub mod GoesOn
+pub mod Cuts
 pub mod Emptied
 pub mod Exact
 pub mod Working
