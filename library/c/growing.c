@@ -96,7 +96,7 @@ static void fills_chunks(void) {
     IS(shardheap_tag(last[2], 3, &key), SHARDHEAP_BAD_KEY);
 #endif
     IS(shardheap_insert(&one, words, 1, &key), SHARDHEAP_FULL);
-    IS(shardheap_insert_once(&two, words, 1, &key), SHARDHEAP_FULL);
+    IS(shardheap_insert_once(&two, words, 1, &key), SHARDHEAP_NO_SHARD);
     IS(shardheap_insert(&one, words, 17, &key), SHARDHEAP_TOO_LONG);
     TRUE(key == 77);
     for (uint64_t n = 0; n < 3; n++) {

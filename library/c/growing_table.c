@@ -1,6 +1,6 @@
 /* A table of connections that grows: nobody says how many there will be. Each thread has a pass of its own, and adopts
-   no shard. An insert finds a chunk with room, or opens one. It is FULL only if the table has as many chunks as it may
-   have. */
+   no shard. An insert finds a chunk with room, or opens one. It is FULL or NO_SHARD only if the table has as many
+   chunks as it may have. */
 #include "shardheap.h"
 #include <pthread.h>
 #include <sched.h>
@@ -21,7 +21,7 @@ static void *accepts(void *arg) {
     for (uint64_t n = 0; n < CONNECTIONS && of->code == SHARDHEAP_OK; n++) {
         uint64_t words[2] = {of->number, n}, key = 0;
         of->code = shardheap_insert(&of->pass, words, 2, &key);
-        if (of->code == SHARDHEAP_FULL) {
+        if (of->code == SHARDHEAP_FULL || of->code == SHARDHEAP_NO_SHARD) {
             of->refused++;
             of->code = SHARDHEAP_OK;
         } else if (of->code == SHARDHEAP_OK && n % 2 == 0) {

@@ -80,12 +80,17 @@ static void full_page(void) {
     shardheap_close(&heap);
 }
 
-/* A key of four holds, which is as many as one may have in this layout, is found; a full list of holds is told. */
+/* The same of an owner that may have holds. */
+static uint32_t next_with_holds(void *owner, uint64_t *place, uint64_t *key) {
+    return shardheap_next_own_key(owner, place, key);
+}
+
+/* A key of four holds, as many as one may have in this layout, is met, and an owner with 16 holds meets each key. */
 static void holds(void) {
     static const uint64_t words[1] = {7};
     shardheap heap = SHARDHEAP_INIT;
     shardheap_pass owner = SHARDHEAP_INIT, other = SHARDHEAP_INIT;
-    uint64_t place = 0, crowded, key, next, held[4];
+    uint64_t place = 0, crowded, key, held[4];
     IS(shardheap_open(&heap, SHARDHEAP_TINY, 1, 1, 2), SHARDHEAP_OK);
     IS(shardheap_take(&heap, &owner), SHARDHEAP_OK);
     IS(shardheap_take(&heap, &other), SHARDHEAP_OK);
@@ -100,12 +105,13 @@ static void holds(void) {
         for (int m = 0; m < 4; m++) IS(shardheap_get(&owner, held[n]), SHARDHEAP_OK);
     }
     IS(shardheap_insert(&owner, words, 1, &key), SHARDHEAP_OK);
-    place = 0, next = 77;
-    IS(shardheap_next_own_key(&owner, &place, &next), SHARDHEAP_HOLDS_FULL);
-    TRUE(place == 0 && next == 77);
+    IS(shardheap_get(&owner, key), SHARDHEAP_HOLDS_FULL);
+    kept[0] = crowded, kept[1] = key, count = 2;
+    for (int n = 0; n < 4; n++) kept[count++] = held[n];
+    each_once(next_with_holds, &owner);
     for (int n = 0; n < 4; n++)
         for (int m = 0; m < 4; m++) IS(shardheap_release(&owner, held[n]), SHARDHEAP_OK);
-    IS(shardheap_next_own_key(&owner, &place, &next), SHARDHEAP_OK);
+    for (int n = 0; n < 4; n++) IS(shardheap_release(&owner, held[n]), SHARDHEAP_NOT_HELD);
     IS(shardheap_leave(&owner), SHARDHEAP_OK);
     IS(shardheap_give(&owner), SHARDHEAP_OK);
     IS(shardheap_give(&other), SHARDHEAP_OK);

@@ -66,12 +66,13 @@ static void inserts(user *by) {
         adopts(by);
         return;
     }
-    by->owns = true;
+    by->owns = code != SHARDHEAP_NO_SHARD;
     bool opens = shardheap_chunks(&heap) > chunks;
     /* (a slot of layout tiny serves three values, and then leaves less room) */
     if (code != SHARDHEAP_OK || opens) TRUE(layout == SHARDHEAP_TINY || !has_room(by, class_of(length), chunks));
     if (code != SHARDHEAP_OK) {
-        IS(code, SHARDHEAP_FULL);
+        if (by->owns) IS(code, SHARDHEAP_FULL);
+        else TRUE(finds_owners(by));
         TRUE(key == 0 && (!grows() || chunks == CHUNKS));
         return;
     }

@@ -130,6 +130,13 @@ static bool has_room(const user *of, int class, uint64_t chunks) {
     return false;
 }
 
+/* Whether a pass may find another owner in each shard of a growing heap. */
+static bool finds_owners(const user *of) {
+    for (int chunk = 0; chunk < CHUNKS; chunk++)
+        if (shards_of[chunk] > other_owners(of)) return false;
+    return grows();
+}
+
 /* ---- Values ---- */
 
 static uint64_t word_of(uint64_t number, uint64_t at) { return (number * WORDS + at) * UINT64_C(0x9e3779b97f4a7c15); }

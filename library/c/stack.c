@@ -156,13 +156,13 @@ static void receipts(void) {
     LONG_CALL(close_receipt);
     SHORT_CALL(pages_left);
     SHORT_CALL(slots_out);
-    for (code = 0, place = 0; code == SHARDHEAP_OK;) SHORT_CALL(next_own_key);
 }
 
 /* Walks by each, over a value of no word and one of 16, and removals of both. */
 static void walks(void) {
     for (length = 0; length <= 16; length += 16) LONG_CALL(insert);
-    live.behind = held.behind = 0;
+    live.behind = held.behind = place = 0;
+    for (code = SHARDHEAP_OK; code == SHARDHEAP_OK;) SHORT_CALL(next_own_key);
     WALK_CALL(next_live);
     WALK_CALL(own_next_live);
     WALK_CALL(next_live);

@@ -85,7 +85,7 @@ TEST(callers_leave_what_is_idle) {
     auto heap = gearlongan::growing_heap::open({1, chunk, 1, 2}, 1);
     auto caller = heap.take(), other = heap.take();
     (void)caller.insert({7});
-    THROWS(other.insert({8}), full);
+    THROWS(other.insert({8}), no_shard);
     caller.leave_idle();
     (void)other.insert({8});
     IS(other.try_leave_idle(), ok);

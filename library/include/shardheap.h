@@ -35,10 +35,11 @@
    the number of its chunk. No pass adopts a shard by a call: an insert adopts one in a chunk, and leaves it for another
    there. A pass keeps the shard of its last insert in each chunk, and no other pass inserts there meanwhile. So
    `owners` is how many threads insert: with fewer, a pass may find each shard taken, and then its insert opens a chunk,
-   or is FULL beside free room. leave_idle lets go of the shards between inserts, and then one shard serves many passes.
-   leave leaves all shards of the pass. So do give and pass_close, which may be WAITING as leave may. Before it opens a
-   chunk, an insert collects in each shard that no other pass owns, so the lengths of values may change. It is FULL only
-   if all chunks are open. A pass has 16 holds in each chunk, and keeps them when it is given and taken again. For
+   or is NO_SHARD beside free room. leave_idle lets go of the shards between inserts, and then one shard serves many
+   passes. leave leaves all shards of the pass. So do give and pass_close, which may be WAITING as leave may. Before it
+   opens a chunk, an insert collects in each shard that no other pass owns, so the lengths of values may change. It is
+   FULL or NO_SHARD only if all chunks are open: NO_SHARD if it found another owner in each shard, and FULL if the pass
+   owned one, which had no room. A pass has 16 holds in each chunk, and keeps them when it is given and taken again. For
    each call on a key BAD_KEY also comes for a chunk that is not open. A key has no room for a tag: tag is BAD_KEY for
    one of a further chunk, except in checked mode, where the chunk is lost. Two calls of one pass are in their order if
    they are in one chunk. A receipt covers all chunks that its pass has used, and a pass that heeds it has used them
@@ -162,7 +163,7 @@ typedef enum shardheap_code {
     SHARDHEAP_FULL = 7,        /* the shard, or a growing heap, has no room for a value of this length */
     SHARDHEAP_MEMORY = 8,      /* memory was asked for and refused */
     SHARDHEAP_TAKEN = 9,       /* the shard has an owner, or the pass owns a shard already */
-    SHARDHEAP_NO_SHARD = 10,   /* there is no such shard, or the pass owns none */
+    SHARDHEAP_NO_SHARD = 10,   /* there is no such shard, or the pass owns none and finds none to own */
     SHARDHEAP_WAITING = 11,    /* another pass is in the middle of a free that has to end first */
     SHARDHEAP_BAD_SHAPE = 12,  /* the numbers are outside the limits of the layout */
     SHARDHEAP_EMPTY = 14,      /* the handle holds nothing: it was never filled, or was closed */
@@ -1010,11 +1011,8 @@ SHARDHEAP_API uint32_t shardheap_slots_out(shardheap_pass *pass, uint64_t *slots
 
 /* Finds the first live key of the shard at the place `*place` or behind it, and writes it to `key`. Places are numbers
    of slots in the shard, 48 for a page, and `*place` becomes the one behind that of the key. So a loop that begins at
-   place 0 gets the keys of the shard in the order of their places, each at most once, while other passes go on. The key
-   was live at a moment of the call, at which it was got and released; another pass may remove it at once. NO_KEY, if no
-   live key was found; NO_SHARD, HOLDS_FULL, EMPTY, OVERLAP.
-   A key that is live from the loop's begin to its end is found: that is tested, and not proved. A key that is inserted
-   meanwhile may be found or not.
+   place 0 is a walk over the shard, as above: it meets what shardheap_next_live meets there, in as many steps. NO_KEY,
+   if no key is met; NO_SHARD, EMPTY, OVERLAP.
 
        uint64_t next = 0;
        while (shardheap_next_own_key(&pass, &next, &key) == SHARDHEAP_OK) count++; */
@@ -1041,7 +1039,8 @@ SHARDHEAP_API uint32_t shardheap_prepare(shardheap_pass *pass, uint32_t words, u
 
 /* Stores a value of `count` words, 0 to 16, in the shard that the pass owns, and writes its key to `key`. NO_SHARD,
    TOO_LONG, MEMORY, EMPTY, OVERLAP; FULL, if no page that the owner knows of has room. It does not look at what others
-   freed on pages of other lengths. In a growing heap it is stored in the first chunk that is found to have room.
+   freed on pages of other lengths. In a growing heap it is stored in the first chunk that is found to have room, and
+   NO_SHARD comes only if each shard has another owner.
 
        code = shardheap_insert_once(&pass, words, 2, &key);
        if (code == SHARDHEAP_FULL) code = shardheap_collect(&pass);    then try again, or not */

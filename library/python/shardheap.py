@@ -343,7 +343,8 @@ class Table:
         return found
 
     def insert(self, words: Iterable[int]) -> int:
-        """Stores a value, and returns its key. TOO_LONG, FULL, MEMORY, NO_PASS, EMPTY once the table is closed."""
+        """Stores a value, and returns its key. TOO_LONG, FULL, NO_SHARD, MEMORY, NO_PASS, EMPTY once the table is
+        closed."""
         return self._pass().insert(words)
 
     def take(self, key: int) -> tuple[int, ...]:

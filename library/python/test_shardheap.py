@@ -146,7 +146,7 @@ class TestHeap(Refusing):
         with Heap.growing(owners=1, values=10, words=1, passes=2, chunks=1) as heap, heap.take() as one:
             with heap.take() as other:
                 one.insert([1])
-                self.refused(Code.FULL, other.insert, [2])
+                self.refused(Code.NO_SHARD, other.insert, [2])
                 one.leave_idle()
                 other.insert([2])
 

@@ -12,6 +12,7 @@ static inline void add(place *of, int64_t change) {
                           memory_order_relaxed);
 }
 
+/* FULL as well if other places have all shards, since a table has none in its interface. */
 static inline uint32_t insert_once_by(place *it, const uint64_t *words, size_t count, uint64_t *into) {
     it->busy = true;
     mine.within++;
@@ -19,7 +20,7 @@ static inline uint32_t insert_once_by(place *it, const uint64_t *words, size_t c
     mine.within--;
     it->busy = false;
     if (code == SHARDHEAP_OK) add(it, 1);
-    return code;
+    return code == SHARDHEAP_NO_SHARD ? SHARDHEAP_FULL : code;
 }
 
 /* The same; if there is no room it collects once, and tries again. */

@@ -1,5 +1,5 @@
 -- What a pass's handle holds: a pass of a heap of a fixed shape, or a caller of one that grows; and what its calls do.
-use Rattle.std.specs.Prelude.{◌≡◌, ℕ, ◌<◌, List, Option, None, Result, Ok, Err, IfErr, OnOk, get_or, length}
+use Rattle.std.specs.Prelude.{◌≡◌, ℕ, ◌<◌, List, Option, None, Result, Ok, Err, IfErr, OnErr, OnOk, get_or, length}
 use Rattle.sh_value.specs.declared.hold.Hold.{Hold}
 use Rattle.sh_value.specs.declared.refusal.Refusal.{Refusal}
 use Rattle.sh_value.specs.declared.refusal.Refusal.TheVariants as refusal
@@ -15,9 +15,10 @@ use Rattle.sh_member.specs.Sides.{SeenSide, SideDoes, SideInserts, SidePrepares,
 use Rattle.sh_member.specs.Sides.{IsPass, IsOfHeap, IsReceiptBy}
 use Rattle.sh_grown.specs.declared.caller.Caller.{Caller as SeenCaller}
 use Rattle.sh_grown.specs.Callers.{GetsIn, GrownDoes, Stays}
+use Rattle.sh_grown.specs.Collecting.{CollectsBelow}
 use Rattle.sh_grown.specs.Inserts.{Inserts, OwnsNone}
 use Rattle.sh_grown.specs.Keeping.{KeepsMembers}
-use Rattle.sh_grown.specs.Leaving.{LeavesIdle}
+use Rattle.sh_grown.specs.Leaving.{LeavesIdle, StopsBelow}
 use Rattle.sh_grown.specs.Receipts.{AreReceiptsIn, CoversEach, Heeds}
 use Rattle.sh_grown.specs.Walks.{CallerWalks, HeldIn, LiveIn}
 use Rattle.sh_grown.specs.declared.receipts.GrownReceipt.{GrownReceipt}
@@ -105,16 +106,18 @@ CallerKeeps c d = KeepsMembers c.met.items d.met.items × Stays c d
 
 -- a caller collects in each shard that it owns
 abbrev pub CallerCollects : SeenCaller → Result (Unit {0}) Refusal → SeenCaller → Type 0
-CallerCollects c answer d = (answer ≡ Ok tt) × CallerKeeps c d
+CallerCollects c answer d = (answer ≡ Ok tt)
+    × CollectsBelow (length c.growing.cells.items) c.met.items d.met.items × CallerKeeps c d
 
 abbrev pub HeldCollects : HeldPass → Result (Unit {0}) Refusal → HeldPass → Type 0
 HeldCollects = EitherDoes (AnyDoes SideCollects) CallerCollects
 
--- a caller leaves its shards, so that it owns none; or another caller is in the middle of a free in one of them
+-- a caller leaves its shards, so that it owns none; or another caller is in the middle of a free in one, which it keeps
 abbrev pub CallerLeaves : SeenCaller → Result (Unit {0}) Refusal → SeenCaller → Type 0
 CallerLeaves c answer d =
     OnOk answer ((chunk : ℕ) → chunk < length d.met.items → OwnsNone (get_or d.met.items chunk None))
-    × IfErr answer (λ why. why ≡ refusal.Waiting) × CallerKeeps c d
+    × IfErr answer (λ why. why ≡ refusal.Waiting)
+    × OnErr answer (StopsBelow (length c.met.items) c.met.items d.met.items) × CallerKeeps c d
 
 abbrev pub HeldLeaves : HeldPass → Result (Unit {0}) Refusal → HeldPass → Type 0
 HeldLeaves = EitherDoes (AnyDoes (λ l. SideLeaves)) CallerLeaves

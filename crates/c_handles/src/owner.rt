@@ -9,7 +9,7 @@ use std::alloc::Global;
 
 impl HeldPass {
     /// Stores a value under a new key. A pass stores it in the shard that it owns, and is refused as `NoShard`, `Full`
-    /// or `Memory`. A caller stores it in a chunk with room, and is refused as `Full`, `Memory` or `Taken`.
+    /// or `Memory`. A caller stores it in a chunk with room, and is refused as `NoShard`, `Full`, `Memory` or `Taken`.
     pub fn insert(&mut self, alloc: Global, value: &Value) -> Result<u64, Refusal>
         ensures { HeldInserts value.now self.old result self.new }
     {

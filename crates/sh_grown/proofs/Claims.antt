@@ -1,17 +1,17 @@
 -- What a caller has that was just claimed.
 use Rattle.std.proofs.Common.{◌≡◌, ℕ, ◌<◌, List, Option, Some, None, length, get_or, sym, ap, ◌∙◌, subst, arith}
 use Rattle.std.specs.Prelude.{slice_set}
-use Rattle.std.proofs.lemmas.List.{get_or-set_same, get_or-set_other, length-set}
+use Rattle.std.proofs.lemmas.List.{get_or-set_same, get_or-set_other}
 use Rattle.sh_grown.specs.declared.growing.Growing.{Growing}
 use Rattle.sh_grown.specs.declared.chunk_member.ChunkMember.{ChunkMember}
 use Rattle.sh_grown.specs.Callers.{IsNewcomer, IsClaimed}
 
 -- the first member goes to the first place of a list that has none
 pub first_goes : (growing : Growing) (number slot : ℕ) (first : ChunkMember) (empty new : List (Option ChunkMember))
-    → number ≡ slot → IsNewcomer growing slot 0 first → 0 < length empty → length empty ≡ length growing.cells.items
+    → number ≡ slot → IsNewcomer growing slot 0 first → 0 < length empty
     → ((chunk : ℕ) → get_or empty chunk None ≡ None) → new ≡ slice_set empty 0 (Some first)
     → IsClaimed growing number new
-first_goes growing number slot first empty new same is some room none put =
+first_goes growing number slot first empty new same is some none put =
     record {
       first = first;
       newcomer = subst (λ n. IsNewcomer growing n 0 first) (sym same) is;
@@ -19,7 +19,6 @@ first_goes growing number slot first empty new same is some room none put =
       others = λ chunk later.
           ap (λ xs. get_or xs chunk None) put
           ∙ (get_or-set_other empty 0 chunk (Some first) None (λ e. omega arith) ∙ none chunk);
-      room = ap length put ∙ (length-set empty 0 (Some first) ∙ room);
     }
 
 -- what was claimed of a growing heap was claimed of the same one by another name

@@ -4,13 +4,12 @@ use Rattle.std.proofs.Common.{length, get_or, refl, inl, inr, ⊎_elim, arith, s
 use Rattle.std.specs.Prelude.{IfSome, IsSome}
 use Rattle.std.specs.Option.{ForSome}
 use Rattle.std.proofs.lemmas.Option.{slice_get_cases}
-use Rattle.std.proofs.lemmas.List.{get_or-set_same, get_or-set_other, length-set}
+use Rattle.std.proofs.lemmas.List.{get_or-set_same, get_or-set_other}
 use Rattle.once_cell.specs.Once.{Agrees}
-use Rattle.sh_chunk.specs.Chunks.{chunked}
 use Rattle.sh_pass.specs.Passes.{Caller}
 use Rattle.sh_pass.specs.Seats.{Heap}
 use Rattle.sh_member.specs.declared.member.Side.TheVariants.{Pass, Shard, Moving}
-use Rattle.sh_member.specs.Sides.{IsOfHeap, IsReceiptBy, SeenSide, SideIsValid}
+use Rattle.sh_member.specs.Sides.{IsOfHeap, IsReceiptBy, SeenSide}
 use Rattle.sh_grown.specs.declared.growing.Growing.{Growing}
 use Rattle.sh_grown.specs.declared.chunk_member.ChunkMember.{ChunkMember}
 use Rattle.sh_grown.specs.declared.receipts.ChunkReceipt.{ChunkReceipt}
@@ -19,6 +18,7 @@ use Rattle.sh_grown.specs.OfChunks.{AreOfChunks, IsCellOf, IsOfChunk, heap_by}
 use Rattle.sh_grown.specs.Receipts.{AreReceiptsIn, CoversEach, CoversPlace, HeedsAt, HeedsBelow}
 use Rattle.sh_grown.specs.Receipts.{HeedsChunk, HeedsPlace, IsReceiptAt, IsReceiptIn, MeetsAt}
 use Rattle.sh_grown.proofs.Full.{met_within}
+use Rattle.sh_grown.proofs.Meeting.{met_here, met_other}
 use Rattle.sh_grown.proofs.Places.{inside}
 
 -- ---- places
@@ -33,7 +33,15 @@ before_last [] x d k less = absurd (omega (arith, less))
 before_last (y ∷ ys) x d zero less = refl
 before_last (y ∷ ys) x d (suc k) less = before_last ys x d k (omega (arith, less))
 
-some_within : {X : Type 0} (xs : List (Option X)) (k : ℕ) (x : X) → get_or xs k None ≡ Some x → k < length xs
+-- what holds of each holds of one more, if it holds of this one at the end
+pub place_more : {X : Type 0} (P : ℕ → X → Type 0) (n : ℕ) (xs : List X) (x d : X) → length xs ≡ n
+    → ((k : ℕ) → k < n → P k (get_or xs k d)) → P n x → (k : ℕ) → k < n + 1 → P k (get_or (xs ++ x ∷ []) k d)
+place_more P n xs x d count all here =
+    below_more (λ k. P k (get_or (xs ++ x ∷ []) k d)) n
+    (λ k less. subst (λ y. P k y) (sym (before_last xs x d k (omega (arith, count, less)))) (all k less))
+    (subst (λ y. P n y) (sym (subst (λ k. get_or (xs ++ x ∷ []) k d ≡ x) count (last_is xs x d))) here)
+
+pub some_within : {X : Type 0} (xs : List (Option X)) (k : ℕ) (x : X) → get_or xs k None ≡ Some x → k < length xs
 some_within [] k x is = absurd (cc)
 some_within (y ∷ ys) zero x is = omega arith
 some_within (y ∷ ys) (suc k) x is = let less : k < length ys = some_within ys k x is in omega (arith, less)
@@ -55,6 +63,7 @@ at_met growing chunk given (Some m) is of some =
       cells_same growing chunk given.note.cell m.note.cell is.few is.cell here.cell,
       is.heap,
       here.heap,
+      here.known,
     )
 at_met growing chunk given None is of some = absurd (cc)
 
@@ -75,11 +84,11 @@ agree known given h k is here both =
     sym (subst (λ o. IfSome o (λ y. y ≡ h)) here (subst (λ o. IfSome o (λ x. Agrees known x)) is both))
 
 pub of_one_heap : (m : SeenSide) (known given : Option Heap) (heap : Heap) → given ≡ Some heap → known ≡ heap_by m
-    → IfSome given (λ x. Agrees known x) → SideIsValid chunked m → IsOfHeap m heap
-of_one_heap (Pass v) known given heap is here both stands = agree known given heap v.heap is here both
-of_one_heap (Shard o) known given heap is here both stands =
-    agree known given heap o.pages.owner.heap is here both
-of_one_heap Moving known given heap is here both stands = absurd stands
+    → IfSome given (λ x. Agrees known x) → IsSome known → IsOfHeap m heap
+of_one_heap (Pass v) known given heap is here both some = agree known given heap v.heap is here both
+of_one_heap (Shard o) known given heap is here both some = agree known given heap o.pages.owner.heap is here both
+of_one_heap Moving known given heap is here both some =
+    absurd (let none = subst (λ (k : Option Heap). IsSome k) here some in cc)
 
 -- ---- what a receipt covers
 
@@ -93,11 +102,7 @@ pub covers_more : (n : ℕ) (members : List (Option ChunkMember)) (given : List 
     (more : Option ChunkReceipt) → length given ≡ n → CoversEach n members given
     → CoversPlace (get_or members n None) more → CoversEach (n + 1) members (given ++ more ∷ [])
 covers_more n members given more count covers here =
-    below_more (λ k. CoversPlace (get_or members k None) (get_or (given ++ more ∷ []) k None)) n
-    (λ k less. subst (λ o. CoversPlace (get_or members k None) o)
-    (sym (before_last given more None k (omega (arith, count, less)))) (covers k less))
-    (subst (λ o. CoversPlace (get_or members n None) o)
-    (sym (subst (λ k. get_or (given ++ more ∷ []) k None ≡ more) count (last_is given more None))) here)
+    place_more (λ k o. CoversPlace (get_or members k None) o) n given more None count covers here
 
 covered_is : (growing : Growing) (chunk : ℕ) (o : Option ChunkMember) (p : Option ChunkReceipt) (given : ChunkReceipt)
     → chunk < length growing.cells.items → ForSome o (λ m. IsOfChunk growing chunk m) → CoversPlace o p
@@ -108,6 +113,7 @@ covered_is growing chunk (Some m) (Some r) given few of covers is =
       few = few;
       cell = λ c found. ap (λ t. t.cell) covers.note ∙ here.cell c found;
       heap = ap (λ t. t.known) covers.note ∙ (here.heap ∙ receipt_heap m.member r.receipt covers.receipt);
+      shape = here.shape r.receipt.heap (here.heap ∙ receipt_heap m.member r.receipt covers.receipt);
     } in
     subst (λ q. ForSome q (λ t. IsReceiptIn growing chunk t)) is
     (λ t e. subst (λ q. IfSome q (λ t. IsReceiptIn growing chunk t)) e own) given refl
@@ -140,14 +146,12 @@ met_same growing number chunk None some = absurd (cc)
 
 meets_at : (growing : Growing) (number chunk : ℕ) (old met : List (Option ChunkMember))
     → Meets growing number chunk old met
-    → chunk < length met → MeetsAt growing number chunk (get_or old chunk None) (get_or met chunk None)
-meets_at growing number chunk old met (inl h) less =
+    → MeetsAt growing number chunk (get_or old chunk None) (get_or met chunk None)
+meets_at growing number chunk old met (inl h) =
     subst (λ xs. MeetsAt growing number chunk (get_or old chunk None) (get_or xs chunk None)) (sym h.1)
     (met_same growing number chunk (get_or old chunk None) h.0)
-meets_at growing number chunk old met (inr h) less =
-    let size : length met ≡ length old = ap length h.3 ∙ length-set old chunk (Some h.1) in
-    let here : get_or met chunk None ≡ Some h.1 = ap (λ xs. get_or xs chunk None) h.3
-    ∙ get_or-set_same old chunk (Some h.1) None (omega (arith, less, size)) in
+meets_at growing number chunk old met (inr h) =
+    let here : get_or met chunk None ≡ Some h.1 = ap (λ xs. get_or xs chunk None) h.3 ∙ met_here chunk h.1 old in
     subst (λ o. MeetsAt growing number chunk o (get_or met chunk None)) (sym h.0) (h.1, h.2, here)
 
 meets_others : (growing : Growing) (number chunk : ℕ) (old met : List (Option ChunkMember))
@@ -155,7 +159,7 @@ meets_others : (growing : Growing) (number chunk : ℕ) (old met : List (Option 
     → (j : ℕ) → j ≢ chunk → get_or met j None ≡ get_or old j None
 meets_others growing number chunk old met (inl h) j other = ap (λ xs. get_or xs j None) h.1
 meets_others growing number chunk old met (inr h) j other =
-    ap (λ xs. get_or xs j None) h.3 ∙ get_or-set_other old chunk j (Some h.1) None other
+    ap (λ xs. get_or xs j None) h.3 ∙ met_other chunk j h.1 old other
 
 heeder_is_there : (given : ChunkReceipt) (a b : Option ChunkMember) → HeedsAt given a b → IsSome a
 heeder_is_there given (Some m) b heeds = refl
@@ -167,12 +171,12 @@ heeds_here : (growing : Growing) (number chunk : ℕ) (given : ChunkReceipt) (ol
     → HeedsPlace growing number chunk (Some given) (get_or old chunk None) (get_or new chunk None)
 heeds_here growing number chunk given old new h =
     let less : chunk < length h.met =
-    met_within h.met chunk (heeder_is_there given (get_or h.met chunk None) h.after h.heeds) in
+    met_within h.met chunk (heeder_is_there given (get_or h.met chunk None) h.after h.does_it) in
     let here : get_or new chunk None ≡ h.after =
     ap (λ xs. get_or xs chunk None) h.others ∙ get_or-set_same h.met chunk h.after None less in (
       get_or h.met chunk None,
-      meets_at growing number chunk old h.met h.meets less,
-      subst (λ o. HeedsAt given (get_or h.met chunk None) o) (sym here) h.heeds,
+      meets_at growing number chunk old h.met h.meets,
+      subst (λ o. HeedsAt given (get_or h.met chunk None) o) (sym here) h.does_it,
     )
 
 heeds_others : (growing : Growing) (number chunk : ℕ) (given : ChunkReceipt) (old new : List (Option ChunkMember))

@@ -1,15 +1,19 @@
 -- What is kept in one place is kept in all, and over several calls.
-use Rattle.std.proofs.Common.{◌≡◌, ℕ, zero, suc, List, [], ◌∷◌, get_or, refl, ◌∙◌, subst, sym}
-use Rattle.std.proofs.Common.{Option, Some, None}
+use Rattle.std.proofs.Common.{◌≡◌, ℕ, zero, suc, ◌||◌, ⊎_elim, List, [], ◌∷◌, get_or, refl, ◌∙◌, subst, sym}
+use Rattle.std.proofs.Common.{Bool, true, Option, Some, None}
+use Rattle.std.proofs.lemmas.Bool.{or_cases}
 use Rattle.std.specs.Prelude.{Result, Ok, Err, slice_set}
 use Rattle.sh_value.specs.declared.refusal.Refusal.{Refusal}
 use Rattle.sh_value.specs.declared.refusal.Refusal.TheVariants as refusal
 use Rattle.sh_grown.specs.declared.chunk_member.ChunkMember.{ChunkMember}
+use Rattle.sh_member.specs.Sides.{SeenSide}
 use Rattle.sh_grown.specs.declared.caller.Caller.{Caller as SeenCaller}
+use Rattle.sh_grown.specs.declared.tried.Tried.{Tried}
+use Rattle.sh_grown.specs.declared.tried.Tried.TheVariants.{Stored, Refused}
 use Rattle.sh_grown.specs.Callers.{Stays}
-use Rattle.sh_grown.specs.Inserts.{EndsWithInsert, Inserts, TriesInsert}
+use Rattle.sh_grown.specs.Inserts.{EndsWithInsert, TriesInsert, tried_after}
 use Rattle.sh_grown.specs.Keeping.{KeepsMember, KeepsMembers}
-use Rattle.sh_grown.specs.Refusals.{ChunkRefused, WasRefused}
+use Rattle.sh_grown.specs.Refusals.{Did, LackedMemory, LacksMemory, OwnedFull, OwnsFull}
 
 -- a place that nothing is done in
 pub place_stays : (a : Option ChunkMember) → KeepsMember a a
@@ -70,8 +74,8 @@ kept_then_ends value key xs ys zs p q = (q.0, keeps_then xs ys q.0 p q.1, q.2)
 -- a try that is refused is refused as Memory
 pub try_refused : (value : List ℕ) (ys zs : List (Option ChunkMember)) (why : Refusal)
     → TriesInsert value ys (Err why) zs
-    → (why ≡ refusal.Memory) × KeepsMembers ys zs
-try_refused value ys zs refusal.Memory q = (refl, q)
+    → (why ≡ refusal.Memory) × KeepsMembers ys zs × LackedMemory value ys zs
+try_refused value ys zs refusal.Memory q = (refl, q.0, q.1)
 try_refused value ys zs refusal.BadKey q = absurd q
 try_refused value ys zs refusal.Gone q = absurd q
 try_refused value ys zs refusal.Crowded q = absurd q
@@ -85,58 +89,76 @@ try_refused value ys zs refusal.Waiting q = absurd q
 try_refused value ys zs refusal.BadShape q = absurd q
 try_refused value ys zs refusal.WrongKind q = absurd q
 
-pub tries_then : (value : List ℕ) (xs ys zs : List (Option ChunkMember)) (answer : Result (Option ℕ) Refusal)
-    → KeepsMembers xs ys → TriesInsert value ys answer zs → TriesInsert value xs answer zs
-tries_then value xs ys zs (Ok None) p q = keeps_then xs ys zs p q
-tries_then value xs ys zs (Ok (Some key)) p q = kept_then_ends value key xs ys zs p q
-tries_then value xs ys zs (Err why) p q =
-    let r : (why ≡ refusal.Memory) × KeepsMembers ys zs = try_refused value ys zs why q in
-    subst (λ w. TriesInsert value xs (Err w) zs) (sym r.0) (keeps_then xs ys zs p r.1)
-
 -- what was kept before is kept in the course of the call
-pub then_refused : (value : List ℕ) (shard : ℕ) (a b c : Option ChunkMember) → KeepsMember a b
-    → WasRefused value shard b c
-    → WasRefused value shard a c
-then_refused value shard a b c kept r = record {
+pub then_did : (does : SeenSide → SeenSide → Type 0) (a b c : Option ChunkMember) → KeepsMember a b → Did does b c
+    → Did does a c
+then_did does a b c kept r = record {
   before = r.before;
   after = r.after;
   begins = place_then a b (Some r.before) kept r.begins;
-  refuses = r.refuses;
+  step = r.step;
   ends = r.ends;
 }
 
-pub then_chunk_refused : (value : List ℕ) (chunk : ℕ) (xs ys zs : List (Option ChunkMember)) → KeepsMembers xs ys
-    → ChunkRefused value chunk ys zs → ChunkRefused value chunk xs zs
-then_chunk_refused value chunk xs ys zs kept r = record {
-  met = r.met;
-  there = r.there;
-  each = λ shard less.
-      then_refused value shard (get_or xs chunk None) (get_or ys chunk None) (get_or zs chunk None) (kept chunk)
-      (r.each shard less);
+-- and what is kept after it
+pub did_then : (does : SeenSide → SeenSide → Type 0) (a b c : Option ChunkMember) → Did does a b → KeepsMember b c
+    → Did does a c
+did_then does a b c r kept = record {
+  before = r.before;
+  after = r.after;
+  begins = r.begins;
+  step = r.step;
+  ends = place_then (Some r.after) b c r.ends kept;
 }
 
-refused_then : (chunks : ℕ) (value : List ℕ) (xs ys zs : List (Option ChunkMember)) (why : Refusal) → KeepsMembers xs ys
-    → Inserts chunks value ys (Err why) zs → Inserts chunks value xs (Err why) zs
-refused_then chunks value xs ys zs refusal.Full p q =
-    (keeps_then xs ys zs p q.0, λ chunk less. then_chunk_refused value chunk xs ys zs p (q.1 chunk less))
-refused_then chunks value xs ys zs refusal.Memory p q = keeps_then xs ys zs p q
-refused_then chunks value xs ys zs refusal.Taken p q = keeps_then xs ys zs p q
-refused_then chunks value xs ys zs refusal.BadKey p q = absurd q
-refused_then chunks value xs ys zs refusal.Gone p q = absurd q
-refused_then chunks value xs ys zs refusal.Crowded p q = absurd q
-refused_then chunks value xs ys zs refusal.HoldsFull p q = absurd q
-refused_then chunks value xs ys zs refusal.NotHeld p q = absurd q
-refused_then chunks value xs ys zs refusal.TooLong p q = absurd q
-refused_then chunks value xs ys zs refusal.NoShard p q = absurd q
-refused_then chunks value xs ys zs refusal.Waiting p q = absurd q
-refused_then chunks value xs ys zs refusal.BadShape p q = absurd q
-refused_then chunks value xs ys zs refusal.WrongKind p q = absurd q
+pub then_owned : (value : List ℕ) (xs ys zs : List (Option ChunkMember)) → KeepsMembers xs ys → OwnedFull value ys zs
+    → OwnedFull value xs zs
+then_owned value xs ys zs p q = (
+  q.0,
+  then_did (OwnsFull value) (get_or xs q.0 None) (get_or ys q.0 None) (get_or zs q.0 None) (p q.0) q.1,
+)
 
--- what was kept before is kept in an insert over all chunks
-pub inserts_then : (chunks : ℕ) (value : List ℕ) (xs ys zs : List (Option ChunkMember)) (answer : Result ℕ Refusal)
-    → KeepsMembers xs ys → Inserts chunks value ys answer zs → Inserts chunks value xs answer zs
-inserts_then chunks value xs ys zs (Ok key) p q = kept_then_ends value key xs ys zs p q
-inserts_then chunks value xs ys zs (Err why) p q = refused_then chunks value xs ys zs why p q
+pub owned_then : (value : List ℕ) (xs ys zs : List (Option ChunkMember)) → OwnedFull value xs ys → KeepsMembers ys zs
+    → OwnedFull value xs zs
+owned_then value xs ys zs p q = (
+  p.0,
+  did_then (OwnsFull value) (get_or xs p.0 None) (get_or ys p.0 None) (get_or zs p.0 None) p.1 (q p.0),
+)
+
+-- the same of a member to which memory was refused
+pub then_lacked : (value : List ℕ) (xs ys zs : List (Option ChunkMember)) → KeepsMembers xs ys
+    → LackedMemory value ys zs → LackedMemory value xs zs
+then_lacked value xs ys zs p q = (
+  q.0,
+  then_did (LacksMemory value) (get_or xs q.0 None) (get_or ys q.0 None) (get_or zs q.0 None) (p q.0) q.1,
+)
+
+pub tries_then : (value : List ℕ) (xs ys zs : List (Option ChunkMember)) (answer : Result Tried Refusal)
+    → KeepsMembers xs ys → TriesInsert value ys answer zs → TriesInsert value xs answer zs
+tries_then value xs ys zs (Ok (Refused owned)) p q =
+    (keeps_then xs ys zs p q.0, λ own. then_owned value xs ys zs p (q.1 own))
+tries_then value xs ys zs (Ok (Stored key)) p q = kept_then_ends value key xs ys zs p q
+tries_then value xs ys zs (Err why) p q =
+    let r : (why ≡ refusal.Memory) × KeepsMembers ys zs × LackedMemory value ys zs = try_refused value ys zs why q in
+    subst (λ w. TriesInsert value xs (Err w) zs) (sym r.0)
+    (keeps_then xs ys zs p r.1, then_lacked value xs ys zs p r.2)
+
+-- an or of which one side is known to come from what holds
+or_owned : (P : Type 0) (a b : Bool) → (a ≡ true → P) → (b ≡ true → P) → (a || b) ≡ true → P
+or_owned P a b first second own =
+    ⊎_elim first second (or_cases a b own)
+
+-- a try after others, of which it is known what they kept and whether the caller owned a shard
+pub tries_after : (value : List ℕ) (xs ys zs : List (Option ChunkMember)) (owned : Bool) (answer : Result Tried Refusal)
+    → KeepsMembers xs ys → (owned ≡ true → OwnedFull value xs ys) → TriesInsert value ys answer zs
+    → TriesInsert value xs (tried_after owned answer) zs
+tries_after value xs ys zs owned (Ok (Refused here)) p own q = (
+  keeps_then xs ys zs p q.0,
+  or_owned (OwnedFull value xs zs) owned here (λ e. owned_then value xs ys zs (own e) q.0)
+      (λ e. then_owned value xs ys zs p (q.1 e)),
+)
+tries_after value xs ys zs owned (Ok (Stored key)) p own q = kept_then_ends value key xs ys zs p q
+tries_after value xs ys zs owned (Err why) p own q = tries_then value xs ys zs (Err why) p q
 
 -- the caller has its number and its growing heap over two calls
 pub stays_then : (a b c : SeenCaller) → Stays a b → Stays b c → Stays a c

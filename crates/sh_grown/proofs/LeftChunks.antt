@@ -31,6 +31,11 @@ waits_here xs i found place (Err why) less is waits =
     subst (λ o. WaitsThere (get_or xs i None) o) (sym (get_or-set_same xs i place None less))
     (subst (λ o. WaitsThere o place) (is ∙ inside xs i found None less) waits)
 
+-- what holds whatever is returned holds if the call is refused
+pub on_err : (answer : Result (Unit {0}) Refusal) (P : Type 0) → P → OnErr answer P
+on_err (Ok u) P holds = tt
+on_err (Err why) P holds = holds
+
 -- ---- in each chunk
 
 -- what a leave that goes over all chunks has done at this one: those from it on are as they were

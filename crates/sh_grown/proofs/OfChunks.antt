@@ -1,5 +1,5 @@
 -- Each member stays one of its chunk.
-use Rattle.std.proofs.Common.{◌≡◌, ℕ, zero, suc, List, [], ◌∷◌, get_or, refl, sym, ◌∙◌, ap, arith, subst}
+use Rattle.std.proofs.Common.{◌≡◌, ℕ, zero, suc, List, [], ◌∷◌, ◌<◌, length, get_or, refl, sym, ◌∙◌, ap, arith, subst}
 use Rattle.std.proofs.Common.{Option, Some, None}
 use Rattle.std.specs.Prelude.{IfSome, IsSome, Ok, Err, Result, slice_get, slice_set}
 use Rattle.std.specs.Option.{ForSome}
@@ -16,7 +16,7 @@ use Rattle.sh_grown.specs.Growing.{shape_in}
 use Rattle.sh_grown.specs.declared.growing.Growing.{Growing}
 use Rattle.sh_grown.specs.declared.chunk_member.ChunkMember.{ChunkMember}
 use Rattle.sh_grown.specs.declared.receipts.ChunkReceipt.{ChunkReceipt}
-use Rattle.sh_grown.specs.Callers.{IsClaimed, IsNewcomer, IsPooled, MemberDoes}
+use Rattle.sh_grown.specs.Callers.{IsClaimed, IsNewcomer, IsPooled, MemberDoes, met_in}
 use Rattle.sh_grown.specs.Inserts.{InsertsIn}
 use Rattle.sh_grown.specs.Keeping.{KeepsMember, SamePlace}
 use Rattle.sh_grown.specs.OfChunks.{AreOfChunks, IsOfChunk, heap_by, heap_of}
@@ -25,10 +25,10 @@ use Rattle.sh_grown.specs.Receipts.{HeedsAt}
 -- ---- in a list
 
 -- what holds of a value holds of what an option has that has it
-in_some : {X : Type 0} (P : X → Type 0) (x : X) → P x → ForSome (Some x) P
+pub in_some : {X : Type 0} (P : X → Type 0) (x : X) → P x → ForSome (Some x) P
 in_some P x holds = λ y is. subst (λ o. IfSome o P) is holds
 
-in_none : {X : Type 0} (P : X → Type 0) → ForSome None P
+pub in_none : {X : Type 0} (P : X → Type 0) → ForSome None P
 in_none P = λ y is. absurd (cc)
 
 -- one place is written
@@ -40,6 +40,18 @@ each_set P (x ∷ xs) zero place all here zero = here
 each_set P (x ∷ xs) zero place all here (suc k) = all (suc k)
 each_set P (x ∷ xs) (suc i) place all here zero = all zero
 each_set P (x ∷ xs) (suc i) place all here (suc k) = each_set (λ j. P (suc j)) xs i place (λ j. all (suc j)) here k
+
+-- one chunk is met
+each_met : (P : ℕ → ChunkMember → Type 0) (xs : List (Option ChunkMember)) (i : ℕ) (m : ChunkMember)
+    → ((k : ℕ) → ForSome (get_or xs k None) (P k)) → P i m → (k : ℕ) → ForSome (get_or (met_in i m xs) k None) (P k)
+each_met P [] zero m all here zero = in_some (P zero) m here
+each_met P [] zero m all here (suc k) = in_none (P (suc k))
+each_met P (x ∷ xs) zero m all here zero = in_some (P zero) m here
+each_met P (x ∷ xs) zero m all here (suc k) = all (suc k)
+each_met P [] (suc i) m all here zero = in_none (P zero)
+each_met P [] (suc i) m all here (suc k) = each_met (λ j. P (suc j)) [] i m (λ j. in_none (P (suc j))) here k
+each_met P (x ∷ xs) (suc i) m all here zero = all zero
+each_met P (x ∷ xs) (suc i) m all here (suc k) = each_met (λ j. P (suc j)) xs i m (λ j. all (suc j)) here k
 
 -- the same, if what was found there is kept so
 each_kept : {X : Type 0} (P : ℕ → X → Type 0) (xs : List (Option X)) (i : ℕ) (found place : Option X)
@@ -92,6 +104,7 @@ heed_keeps r Moving b h = absurd h
 same_chunk : (growing : Growing) (chunk : ℕ) (m n : ChunkMember) → IsOfChunk growing chunk m
     → heap_by n.member ≡ heap_by m.member → SamePlace m n → IsOfChunk growing chunk n
 same_chunk growing chunk m n is heap same = record {
+  few = is.few;
   cell = λ c found. ap (λ t. t.cell) same.1 ∙ is.cell c found;
   heap = ap (λ t. t.known) same.1 ∙ (is.heap ∙ sym heap);
   known = subst (λ (k : Option Heap). IsSome k) (sym (ap (λ t. t.known) same.1)) is.known;
@@ -134,10 +147,12 @@ heeder_keeps given growing chunk (Some m) (Some n) h is =
 heeder_keeps given growing chunk (Some m) None h is = absurd h
 heeder_keeps given growing chunk None b h is = absurd h
 
-pooled_is : (growing : Growing) (heap : Heap) (number chunk : ℕ) (m : ChunkMember) → IsPooled heap number m
+pooled_is : (growing : Growing) (heap : Heap) (number chunk : ℕ) (m : ChunkMember)
+    → chunk < length growing.cells.items → IsPooled heap number m
     → m.note.known ≡ Some heap → IfSome (slice_get growing.cells.items chunk) (λ c. m.note.cell ≡ cell_name c)
     → IsShaped heap.shape (shape_in growing chunk) → IsOfChunk growing chunk m
-pooled_is growing heap number chunk m pooled seen cell shape = record {
+pooled_is growing heap number chunk m few pooled seen cell shape = record {
+  few = few;
   cell = λ c found. subst (λ o. IfSome o (λ x. m.note.cell ≡ cell_name x)) found cell;
   heap = seen ∙ (ap Some (sym pooled.of) ∙ ap heap_by (sym pooled.member));
   known = subst (λ (k : Option Heap). IsSome k) (sym seen) refl;
@@ -146,10 +161,10 @@ pooled_is growing heap number chunk m pooled seen cell shape = record {
   shards = pooled.shards ∙ shape.shards;
 }
 
-newcomer_is : (growing : Growing) (number chunk : ℕ) (m : ChunkMember) → IsNewcomer growing number chunk m
-    → IsOfChunk growing chunk m
-newcomer_is growing number chunk m is =
-    pooled_is growing is.heap number chunk m is.pooled is.seen is.cell is.shape
+newcomer_is : (growing : Growing) (number chunk : ℕ) (m : ChunkMember) → chunk < length growing.cells.items
+    → IsNewcomer growing number chunk m → IsOfChunk growing chunk m
+newcomer_is growing number chunk m few is =
+    pooled_is growing is.heap number chunk m few is.pooled is.seen is.cell is.shape
 
 -- ---- of all that a caller has
 
@@ -200,18 +215,19 @@ member_there does None b answer h = absurd h
 
 -- after a meeting
 pub meets_of : (growing : Growing) (heap : Heap) (number : ℕ) (xs : List (Option ChunkMember)) (i : ℕ) (m : ChunkMember)
-    → AreOfChunks growing xs → IsPooled heap number m → m.note.known ≡ Some heap
+    → AreOfChunks growing xs → i < length growing.cells.items → IsPooled heap number m → m.note.known ≡ Some heap
     → IfSome (slice_get growing.cells.items i) (λ c. m.note.cell ≡ cell_name c)
-    → IsShaped heap.shape (shape_in growing i) → AreOfChunks growing (slice_set xs i (Some m))
-meets_of growing heap number xs i m all pooled seen cell shape =
-    each_set (λ k n. IsOfChunk growing k n) xs i (Some m) all
-    (in_some (λ n. IsOfChunk growing i n) m (pooled_is growing heap number i m pooled seen cell shape))
+    → IsShaped heap.shape (shape_in growing i) → AreOfChunks growing (met_in i m xs)
+meets_of growing heap number xs i m all few pooled seen cell shape =
+    each_met (λ k n. IsOfChunk growing k n) xs i m all (pooled_is growing heap number i m few pooled seen cell shape)
 
 claimed_of : (growing : Growing) (number : ℕ) (members : List (Option ChunkMember)) → IsClaimed growing number members
     → (chunk : ℕ) → ForSome (get_or members chunk None) (λ m. IsOfChunk growing chunk m)
 claimed_of growing number members is zero =
+    let least = growing.some_chunk in
+    let some : 0 < length growing.cells.items = omega (arith, least) in
     subst (λ o. ForSome o (λ m. IsOfChunk growing 0 m)) (sym is.met)
-    (in_some (λ m. IsOfChunk growing 0 m) is.first (newcomer_is growing number 0 is.first is.newcomer))
+    (in_some (λ m. IsOfChunk growing 0 m) is.first (newcomer_is growing number 0 is.first some is.newcomer))
 claimed_of growing number members is (suc k) =
     subst (λ o. ForSome o (λ m. IsOfChunk growing (suc k) m)) (sym (is.others (suc k) (omega arith)))
     (in_none (λ m. IsOfChunk growing (suc k) m))

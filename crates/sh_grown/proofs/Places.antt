@@ -1,6 +1,6 @@
 -- Places of a list, and what the members there do.
 use Rattle.std.proofs.Common.{◌≡◌, ℕ, zero, suc, ◌<◌, List, [], ◌∷◌, length, get_or, refl, arith, sym, ◌∙◌, ap}
-use Rattle.std.proofs.Common.{◌++◌, subst, rules, Option, Some, None}
+use Rattle.std.proofs.Common.{subst, rules, Option, Some, None}
 use Rattle.std.specs.Prelude.{◌^◌, IsSome, Ok, Result, slice_set}
 use Rattle.sh_chunk.specs.Parts.{Parts}
 use Rattle.sh_chunk.specs.Layout.{Layout, unpacked}
@@ -61,11 +61,3 @@ inserted_fits value (Shard o) (Pass w) k fits h = absurd h
 inserted_fits value (Shard o) (Shard n) k fits h = key_fits o.pages.owner o.pages.shard k fits h.0.1
 inserted_fits value (Shard o) Moving k fits h = absurd h
 inserted_fits value Moving n k fits h = absurd h
-
--- a list of chunks that are yet to be met stays one
-pub none_more : (xs : List (Option ChunkMember)) → ((k : ℕ) → get_or xs k None ≡ None) → (k : ℕ)
-    → get_or (xs ++ None ∷ []) k None ≡ None
-none_more [] all zero = refl
-none_more [] all (suc k) = refl
-none_more (x ∷ xs) all zero = all 0
-none_more (x ∷ xs) all (suc k) = none_more xs (λ j. all (suc j)) k

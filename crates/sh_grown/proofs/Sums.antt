@@ -1,5 +1,5 @@
 -- Sums with one chunk more.
-use Rattle.std.proofs.Common.{◌≡◌, ℕ, suc, ◌+◌, ◌*◌, ◌≤◌, ◌⊎◌, arith, refl, subst}
+use Rattle.std.proofs.Common.{◌≡◌, ℕ, suc, ◌+◌, ◌*◌, ◌≤◌, ◌⊎◌, List, Option, arith, refl, subst}
 use Rattle.std.specs.Prelude.{◌^◌, Err}
 use Rattle.sh_chunk.specs.Chunks.{chunked}
 use Rattle.sh_pass.specs.Seats.{Heap}
@@ -7,6 +7,7 @@ use Rattle.sh_whole.specs.Homes.{TellsTotals}
 use Rattle.sh_whole.specs.declared.refusal.NotTold.{NotTold}
 use Rattle.sh_whole.specs.declared.refusal.NotTold.TheVariants as untold
 use Rattle.sh_grown.specs.declared.growing.Growing.{Growing}
+use Rattle.sh_grown.specs.declared.receipts.ChunkReceipt.{ChunkReceipt}
 use Rattle.sh_grown.specs.declared.totals.GrownTotals.{GrownTotals}
 use Rattle.sh_grown.specs.Sums.{AddsChunk, AddsFew, AtMostEach, SumsBelow}
 
@@ -17,10 +18,10 @@ only_away heap untold.Memory h = absurd h
 only_away heap untold.NoPage h = absurd h
 
 -- one chunk more was looked for
-pub chunk_more : (growing : Growing) (k : ℕ) (t u : GrownTotals) → SumsBelow growing k t → AddsChunk growing k t u
-    → SumsBelow growing (k + 1) u
-chunk_more growing k t u below here =
-    let is : suc k ≡ k + 1 = omega arith in subst (λ (z : ℕ). SumsBelow growing z u) is (t, below, here)
+pub chunk_more : (growing : Growing) (given : List (Option ChunkReceipt)) (k : ℕ) (t u : GrownTotals)
+    → SumsBelow growing given k t → AddsChunk growing given k t u → SumsBelow growing given (k + 1) u
+chunk_more growing given k t u below here =
+    let is : suc k ≡ k + 1 = omega arith in subst (λ (z : ℕ). SumsBelow growing given z u) is (t, below, here)
 
 -- each chunk adds at most 2^32 to a sum
 pub at_most_more : (k : ℕ) (t u : GrownTotals) → AddsFew t u → AtMostEach (2 ^ 32 * k) t

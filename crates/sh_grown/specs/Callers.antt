@@ -1,6 +1,7 @@
 -- What a caller has in the chunks that it has met, and what its calls on keys do.
-use Rattle.std.specs.Prelude.{◌≡◌, ℕ, ◌<◌, ◌⊎◌, List, Option, Some, None, Result, Ok, Err, IsErrAnd, IsSome, IfSome}
-use Rattle.std.specs.Prelude.{get_or, slice_get, slice_set, length}
+use Rattle.std.specs.Prelude.{◌≡◌, ℕ, zero, suc, ◌<◌, ◌⊎◌, List, [], ◌∷◌, Option, Some, None, Result, Ok, Err, IsErrAnd}
+use Rattle.std.specs.Prelude.{IsSome, IfSome}
+use Rattle.std.specs.Prelude.{get_or, slice_get, slice_set}
 use Rattle.once_cell.specs.Once.{cell_name}
 use Rattle.sh_chunk.specs.Chunks.{chunked, key_within}
 use Rattle.sh_value.specs.declared.hold.Hold.{Hold}
@@ -15,7 +16,7 @@ use Rattle.sh_grown.specs.Growing.{shape_in}
 use Rattle.sh_grown.specs.declared.growing.Growing.{Growing}
 use Rattle.sh_grown.specs.declared.chunk_member.ChunkMember.{ChunkMember}
 use Rattle.sh_grown.specs.declared.caller.Caller.{Caller as SeenCaller}
-use Rattle.sh_grown.specs.Keeping.{SamePlace}
+use Rattle.sh_grown.specs.Keeping.{Nowhere, SamePlace, There}
 
 -- what a caller has at first in a chunk that has this heap: the pass of this number, at rest, from its pool slot
 pub record IsPooled (heap : Heap) (number : ℕ) (m : ChunkMember) : Type 0 where
@@ -42,7 +43,6 @@ pub record IsClaimed (growing : Growing) (number : ℕ) (members : List (Option 
   pub newcomer : IsNewcomer growing number 0 first
   pub met : get_or members 0 None ≡ Some first
   pub others : (chunk : ℕ) → 0 < chunk → get_or members chunk None ≡ None
-  pub room : length members ≡ length growing.cells.items
 
 -- why a caller has no member in a chunk that it wants one in: memory was refused, or its pass is not there
 abbrev pub WhyWithout : Refusal → Type 0
@@ -50,19 +50,24 @@ WhyWithout refusal.Memory = Unit {0}
 WhyWithout refusal.Taken = Unit {0}
 WhyWithout _ = ⊥
 
+-- the members of a caller with this one in a chunk; in chunks before it that have no place yet there is none
+abbrev pub met_in : (chunk : ℕ) → ChunkMember → List (Option ChunkMember) → List (Option ChunkMember)
+met_in zero m [] = Some m ∷ []
+met_in zero m (x ∷ xs) = Some m ∷ xs
+met_in (suc n) m [] = None ∷ met_in n m []
+met_in (suc n) m (x ∷ xs) = x ∷ met_in n m xs
+
 -- the chunk was met before, or it is met now; nothing else changes
 abbrev pub Meets : Growing → (number chunk : ℕ) → List (Option ChunkMember) → List (Option ChunkMember) → Type 0
 Meets growing number chunk old new =
     (IsSome (get_or old chunk None) × (new ≡ old))
     ⊎ ((get_or old chunk None ≡ None) × (m : ChunkMember) × IsNewcomer growing number chunk m
-    × (new ≡ slice_set old chunk (Some m)))
+    × (new ≡ met_in chunk m old))
 
 -- the member in a chunk did this, and kept its place
 abbrev pub MemberDoes : {A : Type 0} → (SeenSide → Result A Refusal → SeenSide → Type 0) → Option ChunkMember
     → Result A Refusal → Option ChunkMember → Type 0
-MemberDoes does (Some m) answer (Some n) = does m.member answer n.member × SamePlace m n
-MemberDoes does (Some m) answer None = ⊥
-MemberDoes does None answer n = ⊥
+MemberDoes does old answer new = There (λ m n. does m.member answer n.member × SamePlace m n) Nowhere old new
 
 -- the member of this chunk, which the caller had met or met in this call, did it; all others are as they were
 pub record ChunkDoes {A : Type 0} (does : SeenSide → Result A Refusal → SeenSide → Type 0) (growing : Growing)
@@ -76,9 +81,7 @@ pub record ChunkDoes {A : Type 0} (does : SeenSide → Result A Refusal → Seen
 
 -- this holds of the member in a chunk, before a call and after it
 abbrev pub MemberTakes : (SeenSide → SeenSide → Type 0) → Option ChunkMember → Option ChunkMember → Type 0
-MemberTakes takes (Some m) (Some n) = takes m.member n.member
-MemberTakes takes (Some m) None = ⊥
-MemberTakes takes None n = ⊥
+MemberTakes takes = There (λ m n. takes m.member n.member) Nowhere
 
 -- why a chunk cannot be met: no chunk that is open has this number, or the caller's pass is not in the chunk's pool
 abbrev pub WhyUnmet : Refusal → Type 0

@@ -1,5 +1,6 @@
--- How a growing heap is opened, which shape each of its chunks has, and how a further chunk is opened.
-use Rattle.std.specs.Prelude.{◌≡◌, ◌==◌, ℕ, ◌<◌, ◌≤◌, ◌⊎◌, if◌then◌else◌, Result, Ok, Err, length}
+-- How a growing heap is opened, which shape each of its chunks has, and why a further chunk is not opened.
+use Rattle.std.specs.Prelude.{◌≡◌, ◌==◌, ℕ, ◌≤◌, ◌⊎◌, if◌then◌else◌, Option, None, Result, Ok, Err, length}
+use Rattle.sh_pass.specs.Seats.{Heap}
 use Rattle.sh_shape.specs.Rooms.{IsLeastRoomy, NoneRoomy}
 use Rattle.sh_shape.specs.Shape.{Numbers}
 use Rattle.sh_chunk.specs.Chunks.{chunked}
@@ -36,15 +37,8 @@ OpensGrowingFor owners values words passes chunks (Err refusal.BadShape) =
 OpensGrowingFor owners values words passes chunks (Err refusal.Memory) = IsGrowing passes chunks
 OpensGrowingFor owners values words passes chunks (Err _) = ⊥
 
--- a chunk that the heap may have is opened, and its number returned; or each is open, or memory was refused
-abbrev pub OpensAhead : (chunks : ℕ) → Result ℕ Refusal → Type 0
-OpensAhead chunks (Ok chunk) = chunk < chunks
-OpensAhead chunks (Err refusal.Full) = Unit {0}
-OpensAhead chunks (Err refusal.Memory) = Unit {0}
-OpensAhead chunks (Err _) = ⊥
-
--- why a chunk is not opened: memory was refused, or the heap may not have a chunk of this number
-abbrev pub WhyUnopened : Refusal → Type 0
-WhyUnopened refusal.Memory = Unit {0}
-WhyUnopened refusal.BadKey = Unit {0}
-WhyUnopened _ = ⊥
+-- why a chunk is not opened: memory was refused to one of which nothing was known, or it is not a chunk of this heap
+abbrev pub WhyUnopened : (known : Option Heap) → Refusal → Type 0
+WhyUnopened known refusal.Memory = known ≡ None
+WhyUnopened known refusal.BadKey = Unit {0}
+WhyUnopened known _ = ⊥

@@ -1,15 +1,17 @@
 -- What an insert of a caller does over the chunks: the member of one chunk stores the value, or it is refused by each.
-use Rattle.std.specs.Prelude.{◌≡◌, ◌≢◌, ℕ, ◌<◌, ◌⊎◌, List, Option, Some, None, Result, Ok, Err, IsSome, get_or, length}
-use Rattle.std.specs.Prelude.{slice_set}
+use Rattle.std.specs.Prelude.{◌≡◌, ◌≢◌, ℕ, ◌<◌, ◌⊎◌, Bool, true, false, ◌||◌, List, Option, Some, None}
+use Rattle.std.specs.Prelude.{Result, Ok, Err, IfSome, IsSome, get_or, length, slice_set}
 use Rattle.sh_chunk.specs.Chunks.{chunked, chunk_of, key_within}
 use Rattle.sh_value.specs.declared.refusal.Refusal.{Refusal}
 use Rattle.sh_value.specs.declared.refusal.Refusal.TheVariants as refusal
 use Rattle.sh_member.specs.Sides.{SeenSide, SideInserts, SideCollects, IsPass}
 use Rattle.sh_member.specs.SideBounds.{InsertTakes}
 use Rattle.sh_grown.specs.declared.chunk_member.ChunkMember.{ChunkMember}
+use Rattle.sh_grown.specs.declared.tried.Tried.{Tried}
+use Rattle.sh_grown.specs.declared.tried.Tried.TheVariants.{Stored, Refused}
 use Rattle.sh_grown.specs.Callers.{IfMemberDoes, MemberTakes}
 use Rattle.sh_grown.specs.Keeping.{KeepsMembers}
-use Rattle.sh_grown.specs.Refusals.{ChunkRefused}
+use Rattle.sh_grown.specs.Refusals.{ChunkRefused, Did, LackedMemory, LacksMemory, OwnedFull, OwnsFull, WasRefused}
 
 -- an insert by the member of a chunk, whose key is returned with the number of the chunk
 abbrev pub InsertsIn : List ℕ → SeenSide → Result ℕ Refusal → SeenSide → Type 0
@@ -48,38 +50,83 @@ abbrev pub EndsWithInsert : List ℕ → (key : ℕ) → List (Option ChunkMembe
 EndsWithInsert value key old new = (before : List (Option ChunkMember)) × KeepsMembers old before
     × InsertsInChunk value (chunk_of key) before (Ok key) new
 
--- the value is stored, or there is no room for it, or memory is refused
-abbrev pub TriesInsert : List ℕ → List (Option ChunkMember) → Result (Option ℕ) Refusal → List (Option ChunkMember)
-    → Type 0
-TriesInsert value old (Ok (Some key)) new = EndsWithInsert value key old new
-TriesInsert value old (Ok None) new = KeepsMembers old new
-TriesInsert value old (Err refusal.Memory) new = KeepsMembers old new
+-- The value is stored, or there is no room for it, or memory is refused to a member. If the try says that the caller
+-- owned a shard, it did.
+abbrev pub TriesInsert : List ℕ → List (Option ChunkMember) → Result Tried Refusal → List (Option ChunkMember) → Type 0
+TriesInsert value old (Ok (Stored key)) new = EndsWithInsert value key old new
+TriesInsert value old (Ok (Refused owned)) new = KeepsMembers old new × (owned ≡ true → OwnedFull value old new)
+TriesInsert value old (Err refusal.Memory) new = KeepsMembers old new × LackedMemory value old new
 TriesInsert value old (Err _) new = ⊥
 
--- no key is returned, unless memory was refused
-abbrev pub unless_memory : Refusal → Result (Option ℕ) Refusal
-unless_memory refusal.Memory = Err refusal.Memory
-unless_memory _ = Ok None
+-- what a try returns whose insert or move was refused
+abbrev pub tried_by : Refusal → Result Tried Refusal
+tried_by refusal.Memory = Err refusal.Memory
+tried_by refusal.Full = Ok (Refused true)
+tried_by refusal.Waiting = Ok (Refused true)
+tried_by _ = Ok (Refused false)
 
--- if there was no room, this holds
-abbrev pub OnNone : Result (Option ℕ) Refusal → Type 0 → Type 0
-OnNone (Ok None) p = p
-OnNone (Ok (Some key)) p = Unit {0}
-OnNone (Err why) p = Unit {0}
+-- what two tries return, if the first of them had no room
+abbrev pub tried_after : (owned : Bool) → Result Tried Refusal → Result Tried Refusal
+tried_after owned (Ok (Stored key)) = Ok (Stored key)
+tried_after owned (Ok (Refused here)) = Ok (Refused (owned || here))
+tried_after owned (Err why) = Err why
+
+-- if there was no room, this holds of whether the caller owned a shard
+abbrev pub OnRefused : Result Tried Refusal → (Bool → Type 0) → Type 0
+OnRefused (Ok (Refused owned)) p = p owned
+OnRefused (Ok (Stored key)) p = Unit {0}
+OnRefused (Err why) p = Unit {0}
+
+-- a move to a shard is refused for want of memory, or the shard is refused to each value
+abbrev pub MoveRefused : (shard : ℕ) → Refusal → Option ChunkMember → Option ChunkMember → Type 0
+MoveRefused shard why old new =
+    OnRefused (tried_by why) (λ owned. (value : List ℕ)
+    → WasRefused owned value shard old new × (owned ≡ true → Did (OwnsFull value) old new))
+    × (why ≡ refusal.Memory → (value : List ℕ) → Did (LacksMemory value) old new)
+
+-- what a caller has in a chunk owns no shard
+abbrev pub OwnsNone : Option ChunkMember → Type 0
+OwnsNone there = IfSome there (λ m. IsPass m.member)
+
+-- the caller owns no shard in the chunks below this one
+abbrev pub OwnsNowhere : (below : ℕ) → List (Option ChunkMember) → Type 0
+OwnsNowhere below members = (chunk : ℕ) → chunk < below → OwnsNone (get_or members chunk None)
+
+-- it leaves none: where it owns none now, it owned none before
+abbrev pub LeavesNone : List (Option ChunkMember) → List (Option ChunkMember) → Type 0
+LeavesNone old new = (chunk : ℕ) → OwnsNone (get_or new chunk None) → OwnsNone (get_or old chunk None)
+
+-- each shard of each chunk that the heap may have was refused
+abbrev pub AllRefused : (owned : Bool) → (chunks : ℕ) → List ℕ → List (Option ChunkMember) → List (Option ChunkMember)
+    → Type 0
+AllRefused owned chunks value old new = (chunk : ℕ) → chunk < chunks → ChunkRefused owned value chunk old new
+
+-- the same of the chunks below this one, in the course of a call that was to insert some value
+pub record AllBelowRefused (chunk : ℕ) (members : List (Option ChunkMember)) : Type 0 where
+  pub before : List (Option ChunkMember)
+  pub value : List ℕ
+  pub each : AllRefused true chunk value before members
+
+-- A chunk was wanted that the caller has not met: each shard of each chunk below it was refused.
+pub record WantsChunk (chunks : ℕ) (value : List ℕ) (old new : List (Option ChunkMember)) : Type 0 where
+  pub chunk : ℕ
+  pub few : chunk < chunks
+  pub unmet : get_or new chunk None ≡ None
+  pub below : AllRefused true chunk value old new
 
 -- An insert over the chunks of a heap that may have this many. The value is stored in the key's chunk. If it is
--- refused, each member keeps its heap, its number, its log and its holds. It is Full only if in this call each shard of
--- each chunk that the heap may have was refused, so that all chunks are open.
+-- refused, each member keeps its heap, its number, its log and its holds. It is Full or NoShard only if in this call
+-- each shard of each chunk that the heap may have was refused, so that all chunks are open. It is Full only if the
+-- caller owned a shard in this call, and NoShard only if it owned none before and each shard was refused as another's.
+-- It is Memory only if memory was refused to a member, or a chunk was wanted; and Taken only if a chunk was wanted.
 abbrev pub Inserts : (chunks : ℕ) → List ℕ → List (Option ChunkMember) → Result ℕ Refusal → List (Option ChunkMember)
     → Type 0
 Inserts chunks value old (Ok key) new = EndsWithInsert value key old new
 Inserts chunks value old (Err refusal.Full) new =
-    KeepsMembers old new × ((chunk : ℕ) → chunk < chunks → ChunkRefused value chunk old new)
-Inserts chunks value old (Err refusal.Memory) new = KeepsMembers old new
-Inserts chunks value old (Err refusal.Taken) new = KeepsMembers old new
+    KeepsMembers old new × AllRefused true chunks value old new × OwnedFull value old new
+Inserts chunks value old (Err refusal.NoShard) new =
+    KeepsMembers old new × AllRefused false chunks value old new × OwnsNowhere chunks old
+Inserts chunks value old (Err refusal.Memory) new =
+    KeepsMembers old new × (LackedMemory value old new ⊎ WantsChunk chunks value old new)
+Inserts chunks value old (Err refusal.Taken) new = KeepsMembers old new × WantsChunk chunks value old new
 Inserts chunks value old (Err _) new = ⊥
-
--- what a caller has in a chunk owns no shard
-abbrev pub OwnsNone : Option ChunkMember → Type 0
-OwnsNone None = Unit {0}
-OwnsNone (Some m) = IsPass m.member

@@ -27,11 +27,20 @@ kept_by Moving = None
 abbrev pub SamePlace : ChunkMember → ChunkMember → Type 0
 SamePlace m n = (n.pool_slot ≡ m.pool_slot) × (n.note ≡ m.note) × (n.shards ≡ m.shards)
 
+-- Of what there is in a chunk, before and after: if there was something, there still is, and this holds of both. If
+-- not, another thing holds of what there is now.
+abbrev pub There : {X Y : Type 0} → (X → Y → Type 0) → (Option Y → Type 0) → Option X → Option Y → Type 0
+There both otherwise (Some x) (Some y) = both x y
+There both otherwise (Some x) None = ⊥
+There both otherwise None after = otherwise after
+
+-- there has to be something
+abbrev pub Nowhere : {Y : Type 0} → Option Y → Type 0
+Nowhere after = ⊥
+
 -- a member that a caller had keeps its place, its heap, its number, its log and its holds
 abbrev pub KeepsMember : Option ChunkMember → Option ChunkMember → Type 0
-KeepsMember None n = Unit {0}
-KeepsMember (Some m) None = ⊥
-KeepsMember (Some m) (Some n) = (kept_by n.member ≡ kept_by m.member) × SamePlace m n
+KeepsMember = There (λ m n. (kept_by n.member ≡ kept_by m.member) × SamePlace m n) (λ after. Unit {0})
 
 -- the same in each chunk
 abbrev pub KeepsMembers : List (Option ChunkMember) → List (Option ChunkMember) → Type 0

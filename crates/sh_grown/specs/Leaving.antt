@@ -19,3 +19,12 @@ pub record LeavesIdle (below : ℕ) (old : List (Option ChunkMember)) (answer : 
   pub err : IfErr answer (λ why. why ≡ refusal.Waiting)
   pub waits : OnErr answer
       ((chunk : ℕ) × (chunk < below) × WaitsThere (get_or old chunk None) (get_or new chunk None))
+
+-- The caller left its shards in the chunks up to one below this, and has to keep the one that it owned there. Those
+-- behind that chunk are as they were.
+pub record StopsBelow (below : ℕ) (old new : List (Option ChunkMember)) : Type 0 where
+  pub chunk : ℕ
+  pub less : chunk < below
+  pub left : (other : ℕ) → other < chunk → OwnsNone (get_or new other None)
+  pub waits : WaitsThere (get_or old chunk None) (get_or new chunk None)
+  pub rest : (other : ℕ) → chunk < other → get_or new other None ≡ get_or old other None

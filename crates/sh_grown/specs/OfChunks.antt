@@ -1,5 +1,5 @@
 -- Which chunk each member of a caller is of.
-use Rattle.std.specs.Prelude.{◌≡◌, ℕ, List, Option, Some, None, IsSome, get_or, slice_get}
+use Rattle.std.specs.Prelude.{◌≡◌, ℕ, ◌<◌, List, Option, Some, None, IsSome, get_or, length, slice_get}
 use Rattle.std.specs.Option.{ForSome}
 use Rattle.once_cell.specs.Once.{cell_name}
 use Rattle.sh_pass.specs.Seats.{Heap}
@@ -22,9 +22,10 @@ heap_by m = heap_of (kept_by m)
 abbrev pub IsCellOf : Growing → (chunk cell : ℕ) → Type 0
 IsCellOf growing chunk cell = ForSome (slice_get growing.cells.items chunk) (λ c. cell ≡ cell_name c)
 
--- what a caller has in the chunk of this number: its note is of the chunk's cell, and knows the heap of its member,
--- which has the shape of that chunk
+-- what a caller has in the chunk of this number, which the growing heap may have: its note is of the chunk's cell, and
+-- knows the heap of its member, which has the shape of that chunk
 pub record IsOfChunk (growing : Growing) (chunk : ℕ) (m : ChunkMember) : Type 0 where
+  pub few : chunk < length growing.cells.items
   pub cell : IsCellOf growing chunk m.note.cell
   pub heap : m.note.known ≡ heap_by m.member
   pub known : IsSome m.note.known

@@ -1,16 +1,18 @@
 -- Receipts of a caller, over the chunks that it has met.
-use Rattle.std.specs.Prelude.{◌≡◌, ℕ, ◌<◌, ◌≤◌, List, Option, Some, None, Result, Ok, Err, IsSome, get_or, length}
-use Rattle.std.specs.Prelude.{slice_set}
+use Rattle.std.specs.Prelude.{◌≡◌, ℕ, ◌<◌, ◌≤◌, List, Option, Some, None, Result, Ok, Err, IsSome, IsSomeAnd}
+use Rattle.std.specs.Prelude.{get_or, length}
 use Rattle.std.specs.Option.{ForSome}
 use Rattle.sh_chunk.specs.Chunks.{chunked}
 use Rattle.sh_value.specs.declared.refusal.Refusal.{Refusal}
 use Rattle.sh_value.specs.declared.refusal.Refusal.TheVariants as refusal
-use Rattle.sh_member.specs.Sides.{IsReceiptBy, SideHeeds}
+use Rattle.sh_member.specs.Sides.{IsReceiptBy, SeenSide, SideHeeds}
+use Rattle.sh_grown.specs.ChunkShapes.{IsShaped}
+use Rattle.sh_grown.specs.Growing.{shape_in}
 use Rattle.sh_grown.specs.declared.growing.Growing.{Growing}
 use Rattle.sh_grown.specs.declared.chunk_member.ChunkMember.{ChunkMember}
 use Rattle.sh_grown.specs.declared.receipts.ChunkReceipt.{ChunkReceipt}
-use Rattle.sh_grown.specs.Callers.{IsNewcomer, Meets}
-use Rattle.sh_grown.specs.Keeping.{SamePlace}
+use Rattle.sh_grown.specs.Callers.{ChunkDoes, IsNewcomer, MemberDoes}
+use Rattle.sh_grown.specs.Keeping.{There}
 use Rattle.sh_grown.specs.OfChunks.{IsCellOf, heap_by}
 
 -- ---- what a receipt covers
@@ -22,9 +24,7 @@ pub record CoversMember (m : ChunkMember) (given : ChunkReceipt) : Type 0 where
 
 -- the same of what a caller has in a chunk; there is no receipt, if the caller has not met the chunk
 abbrev pub CoversPlace : Option ChunkMember → Option ChunkReceipt → Type 0
-CoversPlace None given = given ≡ None
-CoversPlace (Some m) (Some given) = CoversMember m given
-CoversPlace (Some m) None = ⊥
+CoversPlace = There CoversMember (λ given. given ≡ None)
 
 -- the same in each chunk below this one
 abbrev pub CoversEach : (chunks : ℕ) → List (Option ChunkMember) → List (Option ChunkReceipt) → Type 0
@@ -34,11 +34,12 @@ CoversEach chunks members given =
 -- ---- of which growing heap it is
 
 -- a receipt of the chunk of this number: the growing heap may have the chunk, and the note of its cell knows the heap
--- of the receipt
+-- of the receipt, which has the shape of that chunk
 pub record IsReceiptIn (growing : Growing) (chunk : ℕ) (given : ChunkReceipt) : Type 0 where
   pub few : chunk < length growing.cells.items
   pub cell : IsCellOf growing chunk given.note.cell
   pub heap : given.note.known ≡ Some given.receipt.heap
+  pub shape : IsShaped given.receipt.heap.shape (shape_in growing chunk)
 
 -- each is of the chunk of its number
 abbrev pub AreReceiptsIn : Growing → List (Option ChunkReceipt) → Type 0
@@ -48,25 +49,21 @@ AreReceiptsIn growing given = (chunk : ℕ) → ForSome (get_or given chunk None
 
 -- the receipt is of the chunk that the caller has met here: both notes are of one cell, and each knows its heap
 abbrev pub IsReceiptAt : ChunkReceipt → Option ChunkMember → Type 0
-IsReceiptAt given None = ⊥
-IsReceiptAt given (Some m) = (given.note.cell ≡ m.note.cell) × (given.note.known ≡ Some given.receipt.heap)
-    × (m.note.known ≡ heap_by m.member)
+IsReceiptAt given there = IsSomeAnd there (λ m. (given.note.cell ≡ m.note.cell)
+    × (given.note.known ≡ Some given.receipt.heap) × (m.note.known ≡ heap_by m.member) × IsSome m.note.known)
 
--- the member of a chunk heeded the receipt, and kept its place
+-- a member heeded the receipt
+abbrev pub HeedsBy : ChunkReceipt → SeenSide → Result (Unit {0}) Refusal → SeenSide → Type 0
+HeedsBy given m answer n = SideHeeds chunked given.receipt m n
+
+-- the same of the member of a chunk, which kept its place
 abbrev pub HeedsAt : ChunkReceipt → Option ChunkMember → Option ChunkMember → Type 0
-HeedsAt given (Some m) (Some n) = SideHeeds chunked given.receipt m.member n.member × SamePlace m n
-HeedsAt given (Some m) None = ⊥
-HeedsAt given None n = ⊥
+HeedsAt given old new = MemberDoes (HeedsBy given) old (Ok tt) new
 
 -- the member of this chunk, which the caller had met or met in this call, heeded it; all others are as they were
-pub record HeedsChunk (growing : Growing) (number chunk : ℕ) (given : ChunkReceipt)
-    (old new : List (Option ChunkMember)) :
-    Type 0 where
-  pub met : List (Option ChunkMember)
-  pub meets : Meets growing number chunk old met
-  pub after : Option ChunkMember
-  pub heeds : HeedsAt given (get_or met chunk None) after
-  pub others : new ≡ slice_set met chunk after
+abbrev pub HeedsChunk : Growing → (number chunk : ℕ) → ChunkReceipt → List (Option ChunkMember)
+    → List (Option ChunkMember) → Type 0
+HeedsChunk growing number chunk given old new = ChunkDoes (HeedsBy given) growing number chunk old (Ok tt) new
 
 -- what a caller has in a chunk that it had met, or that it meets now
 abbrev pub MeetsAt : Growing → (number chunk : ℕ) → Option ChunkMember → Option ChunkMember → Type 0

@@ -3,6 +3,8 @@ use Rattle.std.specs.Prelude.{◌≡◌, ℕ, zero, suc, ◌+◌, ◌*◌, ◌�
 use Rattle.sh_shape.specs.Classes.{class_of, slots}
 use Rattle.sh_shape.specs.Places.{all_pages, words_of}
 use Rattle.sh_shape.specs.Shape.{Numbers}
+use Rattle.sh_member.specs.Pages.{sum_below}
+use Rattle.sh_grown.specs.Growing.{shape_in}
 use Rattle.sh_grown.specs.Wholes.{SeenChunk, IsChunkOf}
 use Rattle.sh_grown.specs.declared.growing.Growing.{Growing}
 
@@ -57,3 +59,17 @@ abbrev pub SizesBelow : Growing → ℕ → Sizes → Type 0
 SizesBelow growing zero s = s ≡ no_size
 SizesBelow growing (suc k) s = (before : Sizes) × SizesBelow growing k before
     × ((s ≡ before) ⊎ AddsSize growing k before s)
+
+-- how many words the chunk of this number has
+abbrev pub words_in : Growing → (number : ℕ) → ℕ
+words_in growing number = words_of (shape_in growing number)
+
+-- if the first chunk has two segments, each later one has at most half the words of all those before it, and one word
+abbrev pub HalfAsLarge : Type 0
+HalfAsLarge = (growing : Growing) (number : ℕ) → 2 ≤ growing.first.shards * growing.first.segments
+    → 2 * words_in growing (suc number) ≤ sum_below (words_in growing) (suc number) + 2
+
+-- So with it all are at most one and a half times as large as those before it, of which each shard was refused.
+abbrev pub FewInAll : Type 0
+FewInAll = (growing : Growing) (number : ℕ) → 2 ≤ growing.first.shards * growing.first.segments
+    → 2 * sum_below (words_in growing) (suc (suc number)) ≤ 3 * sum_below (words_in growing) (suc number) + 2

@@ -1,5 +1,6 @@
 -- How many steps an insert of a caller takes at most, in each chunk and over all chunks.
-use Rattle.std.specs.Prelude.{◌≡◌, ◌≢◌, ℕ, ◌+◌, ◌-◌, ◌*◌, ◌<◌, ◌≤◌, ◌⊎◌, List, Option, Some, None, get_or, length}
+use Rattle.std.specs.Prelude.{◌≡◌, ℕ, ◌+◌, ◌-◌, ◌*◌, ◌≤◌, ◌⊎◌, ◌==◌, Bool, true, if◌then◌else◌, List, Option, Some}
+use Rattle.std.specs.Prelude.{None, IfSome, MatchOption, get_or, length}
 use Rattle.sh_shape.specs.Places.{pages_of}
 use Rattle.sh_chunk.specs.Chunks.{chunked}
 use Rattle.sh_pass.specs.Seats.{Heap}
@@ -14,58 +15,26 @@ use Rattle.sh_grown.specs.declared.chunk_member.ChunkMember.{ChunkMember}
 use Rattle.sh_grown.specs.declared.caller.Caller.{Caller as SeenCaller}
 use Rattle.sh_grown.specs.Callers.{IsNewcomer}
 use Rattle.sh_grown.specs.Growing.{shape_in}
+use Rattle.sh_grown.specs.Keeping.{There}
 use Rattle.sh_grown.specs.OfChunks.{heap_by}
 
--- ---- bounds, for a chunk with this many shards, each of which has this many pages
+-- ---- the bound
 
-abbrev pub no_steps : (shards pages : ℕ) → ℕ
-no_steps shards pages = 0
+-- The most steps that so many inserts of a value of this many words take, with so many collects and so many moves, in
+-- shards that have this many pages. A move from one shard to another is a leave and an adoption.
+abbrev pub steps_of : (inserts collects moves words pages : ℕ) → ℕ
+steps_of inserts collects moves words pages =
+    inserts * insert_steps pages words + collects * collect_steps pages
+    + moves * (leave_steps pages + adopt_steps pages)
 
--- an insert of a value of this many words into a shard that is owned, and a collect there
-abbrev pub insert_most : (words shards pages : ℕ) → ℕ
-insert_most words shards pages = insert_steps pages words
-
-abbrev pub collect_most : (shards pages : ℕ) → ℕ
-collect_most shards pages = collect_steps pages
-
--- a collect, and then an insert
-abbrev pub again_most : (words shards pages : ℕ) → ℕ
-again_most words shards pages = collect_steps pages + insert_steps pages words
-
--- what is done in the shard that is owned: three inserts and a collect
-abbrev pub own_most : (words shards pages : ℕ) → ℕ
-own_most words shards pages = 3 * insert_steps pages words + collect_steps pages
-
--- a leave and an adoption, and both in one
-abbrev pub leave_most : (shards pages : ℕ) → ℕ
-leave_most shards pages = leave_steps pages
-
-abbrev pub adopt_most : (shards pages : ℕ) → ℕ
-adopt_most shards pages = adopt_steps pages
-
-abbrev pub move_most : (shards pages : ℕ) → ℕ
-move_most shards pages = leave_steps pages + adopt_steps pages
-
--- a leave, an adoption, a collect and an insert: what is done for a shard in a walk
-abbrev pub shard_most : (words shards pages : ℕ) → ℕ
-shard_most words shards pages = move_most shards pages + again_most words shards pages
-
--- the same for this many shards, and for each shard of the chunk
-abbrev pub range_most : (words count shards pages : ℕ) → ℕ
-range_most words count shards pages = count * shard_most words shards pages
-
-abbrev pub walk_most : (words shards pages : ℕ) → ℕ
-walk_most words shards pages = shards * shard_most words shards pages
-
--- what is done in the shard that is owned, and then one walk
-abbrev pub open_most : (words shards pages : ℕ) → ℕ
-open_most words shards pages = own_most words shards pages + walk_most words shards pages
-
--- An insert over all chunks: three inserts and a collect. Besides, two leaves, two adoptions, two collects and two
--- inserts for each shard.
+-- An insert over all chunks, in a chunk with this many shards: three inserts and a collect, and for each shard two
+-- inserts, two collects and two moves besides.
 abbrev pub chunk_most : (words shards pages : ℕ) → ℕ
-chunk_most words shards pages =
-    3 * insert_steps pages words + collect_steps pages + 2 * (shards * shard_most words shards pages)
+chunk_most words shards pages = steps_of (3 + 2 * shards) (1 + 2 * shards) (2 * shards) words pages
+
+-- the bound for the chunk of this number, which has the shape of that chunk
+abbrev pub bound_of : Growing → (most : (shards pages : ℕ) → ℕ) → (chunk : ℕ) → ℕ
+bound_of growing most chunk = most (shape_in growing chunk).shards (pages_of (shape_in growing chunk))
 
 -- ---- of a member
 
@@ -80,104 +49,45 @@ abbrev pub pages_in : Option Heap → ℕ
 pages_in None = 0
 pages_in (Some heap) = pages_of heap.shape
 
-abbrev pub pages_by : SeenSide → ℕ
-pages_by m = pages_in (heap_by m)
+-- it took at most so many steps, by the number of these pages
+abbrev pub SideTakes : (most : (pages : ℕ) → ℕ) → SeenSide → SeenSide → Type 0
+SideTakes most m n = steps_by n ≤ steps_by m + most (pages_in (heap_by m))
 
--- ---- of what a caller has in a chunk
-
--- the bound for the chunk that it is of
-abbrev pub bound_at : (most : ℕ → ℕ → ℕ) → ChunkMember → ℕ
-bound_at most m = most m.shards (pages_by m.member)
-
--- it took at most this many steps, in the same heap
-pub record Took (most : ℕ) (m n : ChunkMember) : Type 0 where
-  pub steps : steps_by n.member ≤ steps_by m.member + most
-  pub heap : heap_by n.member ≡ heap_by m.member
-  pub shards : n.shards ≡ m.shards
-
--- it was there, or it came as one of these, and took at most the steps of its chunk's bound; or nothing is there
-abbrev pub TookFrom : (new : ChunkMember → Type 0) → (most : ℕ → ℕ → ℕ) → Option ChunkMember → Option ChunkMember
-    → Type 0
-TookFrom new most (Some m) (Some n) = Took (bound_at most n) m n
-TookFrom new most (Some m) None = ⊥
-TookFrom new most None (Some n) = (m : ChunkMember) × new m × Took (bound_at most n) m n
-TookFrom new most None None = Unit {0}
-
-abbrev pub IsNobody : ChunkMember → Type 0
-IsNobody m = ⊥
-
--- the same of a call that meets no chunk
-abbrev pub TookAt : (most : ℕ → ℕ → ℕ) → Option ChunkMember → Option ChunkMember → Type 0
-TookAt most old new = TookFrom IsNobody most old new
-
--- between its calls its member has begun nothing, and all that it knows is true
+-- between its calls the member in a chunk has begun nothing, and all that it knows is true
 abbrev pub RestsThere : Option ChunkMember → Type 0
-RestsThere None = Unit {0}
-RestsThere (Some m) = SideIsValid chunked m.member
+RestsThere there = IfSome there (λ m. SideIsValid chunked m.member)
 
--- its member is as it was, or it took at most the steps of a leave
+-- it is as it was, or it took at most the steps of a leave
 abbrev pub LeavesThere : Option ChunkMember → Option ChunkMember → Type 0
-LeavesThere (Some m) (Some n) = (n.member ≡ m.member) ⊎ LeaveTakes m.member n.member
-LeavesThere (Some m) None = ⊥
-LeavesThere None None = Unit {0}
-LeavesThere None (Some n) = ⊥
+LeavesThere = There (λ m n. (n.member ≡ m.member) ⊎ LeaveTakes m.member n.member) (λ after. after ≡ None)
 
--- ---- over the chunks
-
--- at most the steps of its bound in each chunk, which may be met in the call
-abbrev pub TookEach : Growing → (number : ℕ) → (most : ℕ → ℕ → ℕ) → List (Option ChunkMember)
-    → List (Option ChunkMember) → Type 0
-TookEach growing number most old new = (chunk : ℕ)
-    → TookFrom (IsNewcomer growing number chunk) most (get_or old chunk None) (get_or new chunk None)
-
--- the same in one chunk, and no step in others
-pub record TookInOne (growing : Growing) (number chunk : ℕ) (most : ℕ → ℕ → ℕ) (old new : List (Option ChunkMember)) :
-    Type 0 where
-  pub here : TookFrom (IsNewcomer growing number chunk) most (get_or old chunk None) (get_or new chunk None)
-  pub others : (other : ℕ) → other ≢ chunk
-      → TookFrom (IsNewcomer growing number other) no_steps (get_or old other None) (get_or new other None)
-
--- the same in each chunk below this one, and no step in others
-pub record TookBelow (growing : Growing) (number below : ℕ) (most : ℕ → ℕ → ℕ) (old new : List (Option ChunkMember)) :
-    Type 0 where
-  pub each : (chunk : ℕ) → chunk < below
-      → TookFrom (IsNewcomer growing number chunk) most (get_or old chunk None) (get_or new chunk None)
-  pub others : (chunk : ℕ) → below ≤ chunk
-      → TookFrom (IsNewcomer growing number chunk) no_steps (get_or old chunk None) (get_or new chunk None)
-
--- the same of a caller's members
-abbrev pub TakesEach : (most : ℕ → ℕ → ℕ) → SeenCaller → SeenCaller → Type 0
-TakesEach most a b = TookEach a.growing a.number most a.met.items b.met.items
-
-abbrev pub TakesIn : (chunk : ℕ) → (most : ℕ → ℕ → ℕ) → SeenCaller → SeenCaller → Type 0
-TakesIn chunk most a b = TookInOne a.growing a.number chunk most a.met.items b.met.items
-
-abbrev pub TakesBelow : (below : ℕ) → (most : ℕ → ℕ → ℕ) → SeenCaller → SeenCaller → Type 0
-TakesBelow below most a b = TookBelow a.growing a.number below most a.met.items b.met.items
-
--- ---- the sum
-
--- this is the number of steps that were taken in a chunk
+-- this many steps were taken in a chunk: by what was there, or by what came as one of these
 abbrev pub StepsThere : (new : ChunkMember → Type 0) → (steps : ℕ) → Option ChunkMember → Option ChunkMember → Type 0
-StepsThere new steps (Some m) (Some n) = steps ≡ steps_by n.member - steps_by m.member
-StepsThere new steps (Some m) None = ⊥
-StepsThere new steps None (Some n) = (m : ChunkMember) × new m × (steps ≡ steps_by n.member - steps_by m.member)
-StepsThere new steps None None = steps ≡ 0
+StepsThere new steps = There (λ m n. steps ≡ steps_by n.member - steps_by m.member)
+    (λ after. MatchOption after (steps ≡ 0)
+    (λ n. (m : ChunkMember) × new m × (steps ≡ steps_by n.member - steps_by m.member)))
 
--- the bound for the chunk of this number, which has the shape of that chunk
-abbrev pub bound_of : Growing → (most : ℕ → ℕ → ℕ) → (chunk : ℕ) → ℕ
-bound_of growing most chunk = most (shape_in growing chunk).shards (pages_of (shape_in growing chunk))
+-- ---- of a caller
 
--- In each chunk a caller took at most the steps of the chunk's bound. So over the chunks that the heap may have it took
--- at most the sum of their bounds.
-pub record TookInAll (growing : Growing) (number : ℕ) (most : ℕ → ℕ → ℕ) (old new : List (Option ChunkMember)) : Type
-    0 where
-  pub steps : ℕ → ℕ
-  pub each : (chunk : ℕ)
-      → StepsThere (IsNewcomer growing number chunk) (steps chunk) (get_or old chunk None) (get_or new chunk None)
-  pub few : (chunk : ℕ) → steps chunk ≤ bound_of growing most chunk
-  pub sum : sum_below steps (length growing.cells.items)
-      ≤ sum_below (bound_of growing most) (length growing.cells.items)
+-- in each of these chunks, which may be met in the call, it took at most the steps of the bound, and none in others
+abbrev pub Took : Growing → (number : ℕ) → (chosen : ℕ → Bool) → (most : (shards pages : ℕ) → ℕ)
+    → List (Option ChunkMember) → List (Option ChunkMember) → Type 0
+Took growing number chosen most old new = (chunk : ℕ) → (steps : ℕ)
+    × StepsThere (IsNewcomer growing number chunk) steps (get_or old chunk None) (get_or new chunk None)
+    × (steps ≤ (if chosen chunk then bound_of growing most chunk else 0))
 
-abbrev pub TakesInAll : (most : ℕ → ℕ → ℕ) → SeenCaller → SeenCaller → Type 0
-TakesInAll most a b = TookInAll a.growing a.number most a.met.items b.met.items
+abbrev pub Takes : (chosen : ℕ → Bool) → (most : (shards pages : ℕ) → ℕ) → SeenCaller → SeenCaller → Type 0
+Takes chosen most a b = Took a.growing a.number chosen most a.met.items b.met.items
+
+-- the same in one chunk alone, and in each
+abbrev pub TakesIn : (chunk : ℕ) → (most : (shards pages : ℕ) → ℕ) → SeenCaller → SeenCaller → Type 0
+TakesIn chunk most a b = Takes (λ other. other == chunk) most a b
+
+abbrev pub TakesEach : (most : (shards pages : ℕ) → ℕ) → SeenCaller → SeenCaller → Type 0
+TakesEach most a b = Takes (λ chunk. true) most a b
+
+-- So over all chunks that the heap may have it took at most the sum of their bounds.
+abbrev pub TakesInAll : (most : (shards pages : ℕ) → ℕ) → SeenCaller → SeenCaller → Type 0
+TakesInAll most a b = (each : TakesEach most a b)
+    × (sum_below (λ chunk. (each chunk).0) (length a.growing.cells.items)
+    ≤ sum_below (bound_of a.growing most) (length a.growing.cells.items))

@@ -1,10 +1,11 @@
 -- Sums over the chunks of a growing heap.
-use Rattle.std.specs.Prelude.{◌≡◌, ℕ, zero, suc, ◌+◌, ◌≤◌, ◌^◌, ◌⊎◌}
+use Rattle.std.specs.Prelude.{◌≡◌, ℕ, zero, suc, ◌+◌, ◌≤◌, ◌^◌, ◌⊎◌, List, Option, None}
 use Rattle.sh_chunk.specs.Chunks.{chunked}
 use Rattle.sh_gather.specs.declared.totals.Totals.{Totals}
 use Rattle.sh_whole.specs.Homes.{AreTotalsOf}
-use Rattle.sh_grown.specs.Wholes.{SeenChunk, IsChunkOf}
+use Rattle.sh_grown.specs.Wholes.{FindsTold, IsToldChunk, SeenChunk}
 use Rattle.sh_grown.specs.declared.growing.Growing.{Growing}
+use Rattle.sh_grown.specs.declared.receipts.ChunkReceipt.{ChunkReceipt}
 use Rattle.sh_grown.specs.declared.totals.GrownTotals.{GrownTotals}
 
 -- the sums over no chunk
@@ -52,19 +53,21 @@ pub record AddsFew (t u : GrownTotals) : Type 0 where
   pub blank_pages : u.blank_pages ≤ t.blank_pages + 2 ^ 32
 
 -- the chunk of this number was found open, and its totals are added
-pub record CountsChunk (growing : Growing) (number : ℕ) (t u : GrownTotals) : Type 0 where
+pub record CountsChunk (growing : Growing) (given : List (Option ChunkReceipt)) (number : ℕ) (t u : GrownTotals) :
+    Type 0 where
   pub chunk : SeenChunk
-  pub own : chunk.number ≡ number
-  pub of : IsChunkOf growing chunk
+  pub is : IsToldChunk growing given number chunk
   pub told : Totals
   pub are : AreTotalsOf chunked chunk.heap told
   pub sum : u ≡ with_totals told t
 
--- the same, or it was not found open
-abbrev pub AddsChunk : Growing → (number : ℕ) → GrownTotals → GrownTotals → Type 0
-AddsChunk growing number t u = (u ≡ t) ⊎ CountsChunk growing number t u
+-- the same, or it was not found open, and the receipt does not cover it
+abbrev pub AddsChunk : Growing → List (Option ChunkReceipt) → (number : ℕ) → GrownTotals → GrownTotals → Type 0
+AddsChunk growing given number t u =
+    ((u ≡ t) × FindsTold growing given number None) ⊎ CountsChunk growing given number t u
 
 -- the sums over the chunks below k that were found open, each of which is counted once
-abbrev pub SumsBelow : Growing → ℕ → GrownTotals → Type 0
-SumsBelow growing zero t = t ≡ no_chunks
-SumsBelow growing (suc k) t = (before : GrownTotals) × SumsBelow growing k before × AddsChunk growing k before t
+abbrev pub SumsBelow : Growing → List (Option ChunkReceipt) → ℕ → GrownTotals → Type 0
+SumsBelow growing given zero t = t ≡ no_chunks
+SumsBelow growing given (suc k) t = (before : GrownTotals) × SumsBelow growing given k before
+    × AddsChunk growing given k before t

@@ -3,12 +3,16 @@ ghost use Rattle.std.specs.Prelude.{◌≡◌, ℕ, ◌<◌, IfErr, IfOk, IfSome
 ghost use Rattle.std.specs.Prelude.{length, slice_get};
 ghost use Rattle.std.proofs.Props.{props};
 ghost use Rattle.once_cell.specs.Once.{cell_name};
-ghost use Rattle.sh_value.specs.declared.refusal.Refusal.TheVariants.{Memory};
+ghost use Rattle.std.specs.Option.{ForSome};
+ghost use Rattle.sh_value.specs.declared.refusal.Refusal.TheVariants.{BadKey, Memory};
+ghost use Rattle.sh_grown.specs.ChunkShapes.{IsShaped};
+ghost use Rattle.sh_grown.specs.Growing.{shape_in};
 ghost use Rattle.sh_grown.specs.Keeping.{KeepsMembers};
 ghost use Rattle.sh_grown.specs.OfChunks.{AreOfChunks};
 
 use crate::chunk_member::{ChunkMember, meet, meet_first};
 use crate::growing::Growing;
+use crate::members::{no_members, put_met};
 use crate::share::GrowingShare;
 use once_cell::race::Note;
 use sh_chunk::Chunked;
@@ -27,31 +31,13 @@ pub struct Caller {
     pub(crate) number: usize,
     // The chunk in which its last insert found room: the next one looks there first.
     pub(crate) front: u8,
-    // The chunk in which its last walk over shards found room, if any, and the shard there behind the one that had it:
-    // the next walk begins there.
-    pub(crate) walked: Option<u8>,
+    // The chunk in which its last walk over shards found room, and the number behind its shard there. As a walk begins,
+    // they say where.
+    pub(crate) walked: u8,
     pub(crate) next: usize,
-    // Its member in each chunk that it has met.
+    // Its member in each chunk that it has met, up to the last one of these. There is room for all chunks.
     pub(crate) met: Vec<Option<ChunkMember>>,
     ghost of_chunks: { AreOfChunks growing met.items } by { Prim.hlevel props },
-}
-
-// Room for a member in each of this many chunks, none of which is met yet.
-#[tactic(auto, using(crate::proofs::Places::none_more))]
-fn no_members(alloc: Global, chunks: usize) -> Result<Vec<Option<ChunkMember>>, Refusal>
-    ensures count { IfOk result (λ members. length members.items ≡ chunks) }
-    ensures none { IfOk result (λ members. (chunk : ℕ) → get_or members.items chunk None ≡ None) }
-    ensures err { IfErr result (λ why. why ≡ Memory) }
-{
-    let Ok(mut members) = Vec::with_capacity(alloc, chunks) else {
-        return Err(Refusal::Memory);
-    };
-    for _chunk in 0..chunks {
-        if members.push(None).is_err() {
-            return Err(Refusal::Memory);
-        }
-    }
-    Ok(members)
 }
 
 impl GrowingShare {
@@ -81,8 +67,8 @@ impl GrowingShare {
             growing,
             number,
             front: 0,
-            walked: None,
-            next: number,
+            walked: 0,
+            next: 0,
             met,
         })
     }
@@ -166,7 +152,8 @@ impl Caller {
         self.meet_by(chunk, note)
     }
 
-    // The same as `meet`, by a note of the chunk's cell: if the note knows the chunk, it is found open.
+    // The same as `meet`, by a note of the chunk's cell. If the note knows a chunk of this shape, it is found open.
+    #[tactic(auto, using(crate::proofs::Meeting::met_there, crate::proofs::Meeting::met_kept))]
     pub(crate) fn meet_by(
         &mut self,
         chunk: usize,
@@ -177,23 +164,26 @@ impl Caller {
             (λ _. Meets self.old.growing self.old.number chunk self.old.met.items self.new.met.items)
             (λ why. WhyUnmet why × (get_or self.old.met.items chunk None ≡ None)
             × (self.new.met.items ≡ self.old.met.items)) }
+        ensures known { IfErr result (λ why. why ≡ BadKey → chunk < length self.old.growing.cells.items
+            → ForSome note.known (λ heap. ¬ IsShaped heap.shape (shape_in self.old.growing chunk))) }
         ensures there { OnOk result ((chunk < length self.new.met.items)
             × IsSome (get_or self.new.met.items chunk None)) }
         ensures keeps { KeepsMembers self.old.met.items self.new.met.items }
         ensures stays { Stays self.old self.new }
     {
-        let Some(place) = self.met.get_mut(chunk) else {
+        if self.has_met(chunk) {
+            return Ok(());
+        }
+        let Some(share) = self.growing.seen(chunk, &mut note) else {
             return Err(Refusal::BadKey);
         };
-        if place.is_none() {
-            let Some(share) = self.growing.seen(chunk, &mut note) else {
-                return Err(Refusal::BadKey);
-            };
-            let Some(met) = meet(share, note, self.number) else {
-                return Err(Refusal::Taken);
-            };
-            *place = Some(met);
+        if self.met.capacity() <= chunk {
+            return Err(Refusal::Taken);
         }
+        let Some(met) = meet(share, note, self.number) else {
+            return Err(Refusal::Taken);
+        };
+        put_met(&mut self.met, chunk, met);
         Ok(())
     }
 }

@@ -1,16 +1,21 @@
 //! The chunks of a growing heap as wholes: their passes are joined, and their pages counted.
-ghost use Rattle.std.specs.Prelude.{◌≡◌, ◌≤◌, IfErr, IfOk, IfSome, length};
+ghost use Rattle.std.specs.Prelude.{◌≡◌, ◌<◌, ◌≤◌, IfErr, IfOk, IfSome, MatchOption, [], length, slice_get};
+ghost use Rattle.std.specs.Option.{ForSome};
+ghost use Rattle.once_cell.specs.Once.{cell_name};
 ghost use Rattle.sh_chunk.specs.Chunks.{chunked};
 ghost use Rattle.sh_whole.specs.Homes.{GathersPool, TellsAccounts, TellsTotals};
-ghost use Rattle.sh_grown.specs.Wholes.{CountsBelow, IsAny, IsChunkOf, IsGathered, OpensNext, WhyUngathered};
+ghost use Rattle.sh_grown.specs.ChunkShapes.{IsShaped};
+ghost use Rattle.sh_grown.specs.Growing.{shape_in};
+ghost use Rattle.sh_grown.specs.Receipts.{AreReceiptsIn};
+ghost use Rattle.sh_grown.specs.Wholes.{CountsBelow, FindsTold, IsAny, IsChunkOf, IsGathered, WhyUngathered};
 
 use crate::growing::{Growing, of_shape};
+use crate::receipts::GrownReceipt;
 use once_cell::race::Note;
 use sh_chunk::Chunked;
 use sh_gather::{Accounts, Totals};
 use sh_pool::{Pool, Share};
 use sh_shape::Shape;
-use sh_value::Refusal;
 use sh_whole::{NotTold, gather_pool, pool_accounts, pool_totals};
 use std::alloc::Global;
 use std::marker::Model;
@@ -18,10 +23,10 @@ use std::marker::Model;
 /// A chunk of a growing heap that is open. A contract sees its number, its heap, and the name of the cell that has it.
 #[derive(Drop)]
 pub struct Chunk<'a> {
-    number: usize,
-    pool: &'a Pool<Chunked>,
+    pub(crate) number: usize,
+    pub(crate) pool: &'a Pool<Chunked>,
     // What is known of the cell that the chunk is in.
-    note: Note<Share<Chunked>>,
+    pub(crate) note: Note<Share<Chunked>>,
 }
 
 impl<'a> Model for Chunk<'a> {
@@ -94,8 +99,21 @@ impl Growing {
         ensures number { IfSome result (λ chunk. chunk.number ≡ number) }
         ensures of { IfSome result (λ chunk. IsChunkOf self.now chunk) }
     {
+        let note = self.note(number)?;
+        self.chunk_by(number, note)
+    }
+
+    // The same by a note of its cell. If the note knows a chunk of this shape, that is found.
+    #[tactic(auto, using(crate::proofs::Shapes::shaped_alike))]
+    fn chunk_by(&self, number: usize, mut note: Note<Share<Chunked>>) -> Option<Chunk<'_>>
+        requires { IfSome (slice_get self.now.cells.items number) (λ c. note.cell ≡ cell_name c) }
+        ensures number { IfSome result (λ chunk. chunk.number ≡ number) }
+        ensures of { IfSome result (λ chunk. IsChunkOf self.now chunk) }
+        ensures known { number < length self.now.cells.items → MatchOption result
+            (ForSome note.known (λ heap. ¬ IsShaped heap.shape (shape_in self.now number)))
+            (λ chunk. ForSome note.known (λ heap. chunk.heap ≡ heap)) }
+    {
         let cell = self.cells.get(number)?;
-        let mut note = cell.note();
         let found = cell.get_as(&mut note)?;
         let share = of_shape(found, self.shape_in(number))?;
         Some(Chunk {
@@ -105,60 +123,47 @@ impl Growing {
         })
     }
 
+    // The same. A chunk that the receipt covers is found, and is that of the receipt.
+    pub(crate) fn chunk_told(&self, number: usize, receipt: &mut GrownReceipt) -> Option<Chunk<'_>>
+        requires { AreReceiptsIn self.now receipt.old.chunks.items }
+        ensures finds { FindsTold self.now receipt.old.chunks.items number result }
+        ensures same { receipt.new.chunks.items ≡ receipt.old.chunks.items }
+    {
+        match receipt.note(number) {
+            Some(note) => self.chunk_by(number, note),
+            None => self.chunk(number),
+        }
+    }
+
     /// How many chunks are open: each is looked for once.
     pub fn chunks(&self) -> usize
-        ensures counts { CountsBelow self.now IsAny (length self.now.cells.items) result }
+        ensures counts { CountsBelow self.now [] IsAny (length self.now.cells.items) result }
         ensures few { result ≤ length self.now.cells.items }
+    {
+        let mut receipt = GrownReceipt::none();
+        self.chunks_told(&mut receipt)
+    }
+
+    /// The same, and each chunk that the receipt covers is counted. The receipt has to be of this growing heap.
+    ///
+    /// ```text
+    /// let mut receipt = caller.receipt();
+    /// let open = growing.chunks_told(&mut receipt);    // at least those that the caller has met
+    /// ```
+    pub fn chunks_told(&self, receipt: &mut GrownReceipt) -> usize
+        requires { AreReceiptsIn self.now receipt.old.chunks.items }
+        ensures counts { CountsBelow self.now receipt.old.chunks.items IsAny (length self.now.cells.items) result }
+        ensures few { result ≤ length self.now.cells.items }
+        ensures same { receipt.new.chunks.items ≡ receipt.old.chunks.items }
     {
         let mut found = 0;
         for number in 0..self.chunks_allowed() {
-            let Some(_chunk) = self.chunk(number) else {
+            let Some(_chunk) = self.chunk_told(number, receipt) else {
                 continue;
             };
             found += 1;
         }
         found
-    }
-
-    /// Opens the first chunk that is not open, outside an insert, and returns it: it is open then, for good. Otherwise
-    /// it is `open_ahead`, which returns the number alone.
-    ///
-    /// ```text
-    /// let growing = Growing::open(alloc, 64, 256)?;
-    /// let chunk = growing.open_next(alloc)?;
-    /// assert_eq!(chunk.number(), 1);
-    /// ```
-    pub fn open_next(&self, alloc: Global) -> Result<Chunk<'_>, Refusal>
-        ensures { OpensNext self.now result }
-    {
-        for number in 0..self.chunks_allowed() {
-            if self.chunk(number).is_none() {
-                return self.opened_chunk(alloc, number as u8);
-            }
-        }
-        Err(Refusal::Full)
-    }
-
-    // The chunk of this number, which is opened if it is not open yet. Refused as `Memory`, and as `Full` if the heap
-    // may not have the chunk.
-    #[tactic(auto, using(crate::proofs::Shapes::shaped_alike))]
-    fn opened_chunk(&self, alloc: Global, number: u8) -> Result<Chunk<'_>, Refusal>
-        ensures { OpensNext self.now result }
-    {
-        let Some(cell) = self.cells.get(number as usize) else {
-            return Err(Refusal::Full);
-        };
-        let mut note = cell.note();
-        let share = match self.opened(alloc, number, &mut note) {
-            Ok(share) => share,
-            Err(Refusal::Memory) => return Err(Refusal::Memory),
-            Err(_) => return Err(Refusal::Full),
-        };
-        Ok(Chunk {
-            number: number as usize,
-            pool: share.pool(),
-            note,
-        })
     }
 
     /// Joins all passes of each open chunk in one. Refused as `Away` if a caller has not ended. Each caller has a pass
@@ -179,14 +184,26 @@ impl Growing {
     /// ```text
     /// let gathered = growing.gather_chunks(alloc)?;    // as many as growing.chunks() returns, if no thread opens one
     /// ```
-    #[tactic(auto, using(crate::proofs::Wholes::ungathered))]
     pub fn gather_chunks(&self, alloc: Global) -> Result<usize, NotTold>
-        ensures gathers { IfOk result (CountsBelow self.now IsGathered (length self.now.cells.items)) }
+        ensures gathers { IfOk result (CountsBelow self.now [] IsGathered (length self.now.cells.items)) }
         ensures err { IfErr result WhyUngathered }
+    {
+        let mut receipt = GrownReceipt::none();
+        self.gather_told(alloc, &mut receipt)
+    }
+
+    /// The same, and each chunk that the receipt covers is gathered. The receipt has to be of this growing heap.
+    #[tactic(auto, using(crate::proofs::Wholes::ungathered))]
+    pub fn gather_told(&self, alloc: Global, receipt: &mut GrownReceipt) -> Result<usize, NotTold>
+        requires { AreReceiptsIn self.now receipt.old.chunks.items }
+        ensures gathers { IfOk result
+            (CountsBelow self.now receipt.old.chunks.items IsGathered (length self.now.cells.items)) }
+        ensures err { IfErr result WhyUngathered }
+        ensures same { receipt.new.chunks.items ≡ receipt.old.chunks.items }
     {
         let mut gathered = 0;
         for number in 0..self.chunks_allowed() {
-            let Some(chunk) = self.chunk(number) else {
+            let Some(chunk) = self.chunk_told(number, receipt) else {
                 continue;
             };
             chunk.gather(alloc)?;

@@ -1,7 +1,7 @@
 //! What a caller has in a chunk that it has met, and the calls of its member there.
-ghost use Rattle.std.specs.Prelude.{◌≡◌, ℕ, ◌<◌, ◌⊎◌, IfErr, IfOk, IfSome, IsSome, List, OnErr, OnOk, Some, length};
+ghost use Rattle.std.specs.Prelude.{◌≡◌, ◌<◌, IfErr, IfOk, IfSome, IsSome, OnErr, OnOk, Some, length};
 ghost use Rattle.std.specs.Prelude.{MatchOption};
-ghost use Rattle.sh_value.specs.declared.refusal.Refusal.TheVariants.{Memory, Waiting};
+ghost use Rattle.sh_value.specs.declared.refusal.Refusal.TheVariants.{Waiting};
 ghost use Rattle.sh_chunk.specs.Chunks.{chunked, chunk_of, key_within};
 ghost use Rattle.sh_pass.specs.Passes.{IsAtRest, ReadDoes, ReadIntoDoes, RemoveDoes, ReleaseDoes};
 ghost use Rattle.sh_pass.specs.Fetching.{FetchDoes};
@@ -10,10 +10,10 @@ ghost use Rattle.sh_member.specs.Readers.{TakeIntoDoes};
 ghost use Rattle.sh_member.specs.Sides.{SideAdopts, SideDoes, SideCollects};
 ghost use Rattle.sh_member.specs.SideBounds.{AdoptTakes, InsertTakes};
 ghost use Rattle.sh_grown.specs.Callers.{IsPooled, MemberDoes, MemberTakes, GetsIn};
-ghost use Rattle.sh_grown.specs.Inserts.{InsertsIn, OwnsNone};
+ghost use Rattle.sh_grown.specs.Inserts.{InsertsIn, MoveRefused, OwnsNone};
 ghost use Rattle.sh_grown.specs.Keeping.{KeepsMember};
-ghost use Rattle.sh_grown.specs.Refusals.{OwnsThere, WaitsThere, WasRefused};
-ghost use Rattle.sh_grown.specs.Steps.{LeavesThere, RestsThere, TookAt, move_most};
+ghost use Rattle.sh_grown.specs.Refusals.{OwnsThere, WaitsThere};
+ghost use Rattle.sh_grown.specs.Steps.{LeavesThere, RestsThere, SideTakes, steps_of};
 
 use crate::guard::GrownGuard;
 use once_cell::race::Note;
@@ -325,9 +325,8 @@ pub(crate) fn move_to(
 ) -> Result<(), Refusal>
     requires { IsSome place.old }
     ensures owns { OnOk result (OwnsThere shard place.new) }
-    ensures refused { IfErr result (λ why. (why ≡ Memory)
-        ⊎ ((value : List ℕ) → WasRefused value shard place.old place.new)) }
-    ensures steps { TookAt move_most place.old place.new }
+    ensures refused { IfErr result (λ why. MoveRefused shard why place.old place.new) }
+    ensures steps { MemberTakes (SideTakes (steps_of 0 0 1 0)) place.old place.new }
     ensures keeps { KeepsMember place.old place.new }
 {
     leave_at(place)?;

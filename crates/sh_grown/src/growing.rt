@@ -1,6 +1,7 @@
 //! Growing heaps.
-ghost use Rattle.std.specs.Prelude.{◌≡◌, ◌↔◌, ◌<◌, ◌≤◌, ◌*◌, ◌^◌, Some, None, IfOk, IfSome, IsTrue, MatchResult};
-ghost use Rattle.std.specs.Prelude.{length, slice_get};
+ghost use Rattle.std.specs.Prelude.{◌≡◌, ◌↔◌, ◌<◌, ◌≤◌, ◌*◌, ◌^◌, Some, None, IfOk, IfSome, IsTrue, MatchOption};
+ghost use Rattle.std.specs.Prelude.{MatchResult, length, slice_get};
+ghost use Rattle.std.specs.Option.{ForSome};
 ghost use Rattle.once_cell.specs.Once.{cell_name, Agrees};
 ghost use Rattle.sh_value.specs.declared.refusal.Refusal.TheVariants.{Memory};
 ghost use Rattle.sh_shape.specs.Shape.{Fits, segment_pages};
@@ -14,6 +15,7 @@ use sh_pool::{Pool, Share};
 use sh_shape::Shape;
 use sh_value::Refusal;
 use std::alloc::Global;
+use std::sync::atomic::AtomicU64;
 
 /// A heap that grows: a list of chunks, each in a cell that is written once. Threads share it, and each has a caller.
 ///
@@ -24,6 +26,9 @@ pub struct Growing {
     // The shape of the first chunk.
     first: Shape,
     passes: u32,
+    // Where a walk of a caller found room last.
+    pub(crate) room: AtomicU64,
+    ghost same_passes: { first.passes ≡ passes },
     ghost few_shards: { first.shards ≤ 2 ^ chunked.shard_bits },
     ghost few_pages: { segment_pages * first.segments ≤ 2 ^ chunked.page_bits },
     ghost some_pass: { 1 ≤ passes },
@@ -59,7 +64,7 @@ fn is_shaped(found: &Shape, wanted: &Shape) -> bool
 // a chunk is looked at when it is found.
 pub(crate) fn of_shape(share: &Share<Chunked>, shape: Shape) -> Option<&Share<Chunked>>
     ensures same { IfSome result (λ s. s.now ≡ share.now) }
-    ensures shape { IfSome result (λ s. IsShaped s.now.shape shape) }
+    ensures shape { MatchOption result (¬ IsShaped share.now.shape shape) (λ s. IsShaped s.now.shape shape) }
 {
     if is_shaped(share.pool().shape(), &shape) {
         Some(share)
@@ -69,7 +74,7 @@ pub(crate) fn of_shape(share: &Share<Chunked>, shape: Shape) -> Option<&Share<Ch
 }
 
 impl Growing {
-    ghost use Rattle.sh_grown.specs.Growing.{OpensAhead, OpensGrowing, OpensGrowingFor, WhyUnopened, shape_in};
+    ghost use Rattle.sh_grown.specs.Growing.{OpensGrowing, OpensGrowingFor, WhyUnopened, shape_in};
 
     /// A growing heap of at most `chunks` chunks, from 1 to 256, with this many passes, from 1 to 64. The first chunk
     /// is opened. Refused as `BadShape` exactly if a number is outside its limits, and as `Memory` if memory is
@@ -124,6 +129,7 @@ impl Growing {
         chunks: usize,
     ) -> Result<Growing, Refusal>
         requires fits { Fits chunked shape }
+        requires same_passes { shape.passes ≡ passes }
         requires some_pass { 1 ≤ passes }
         requires few_passes { passes ≤ 64 }
         requires some_chunk { 1 ≤ chunks }
@@ -144,6 +150,7 @@ impl Growing {
             cells,
             first: shape,
             passes,
+            room: AtomicU64::new(0),
         })
     }
 
@@ -163,27 +170,6 @@ impl Growing {
         ensures few { result ≤ 64 }
     {
         self.passes
-    }
-
-    /// Opens the first chunk that is not open, outside an insert, and returns its number. A later insert then finds it
-    /// open. So another thread than those that insert can wait for the memory: all words of a chunk are written as it
-    /// opens. `open_next` returns the chunk itself.
-    ///
-    /// If another thread opens the same chunk at once, one of them frees its own heap, and both return the number.
-    /// Refused as `Full` if each chunk that the heap may have is open, and as `Memory` if memory is refused.
-    ///
-    /// ```text
-    /// let growing = Growing::open(alloc, 64, 256)?;
-    /// let chunk = growing.open_ahead(alloc)?;   // 1
-    /// ```
-    pub fn open_ahead(&self, alloc: Global) -> Result<usize, Refusal>
-        ensures { OpensAhead (length self.now.cells.items) result }
-    {
-        match self.open_next(alloc) {
-            Ok(chunk) => Ok(chunk.number()),
-            Err(Refusal::Memory) => Err(Refusal::Memory),
-            Err(_) => Err(Refusal::Full),
-        }
     }
 
     // The shape of the chunk of this number: the first one has its own, each other one that of its number.
@@ -216,7 +202,10 @@ impl Growing {
     ) -> Option<&'a Share<Chunked>>
         requires { IfSome (slice_get self.now.cells.items chunk) (λ c. note.old.cell ≡ cell_name c) }
         ensures cell { note.new.cell ≡ note.old.cell }
-        ensures value { IfSome result (λ s. (note.new.known ≡ Some s.now) × Agrees note.old.known s.now) }
+        ensures value { MatchOption result (chunk < length self.now.cells.items
+            → ForSome note.old.known (λ heap. ¬ IsShaped heap.shape (shape_in self.now chunk)))
+            (λ s. (note.new.known ≡ Some s.now) × Agrees note.old.known s.now) }
+        ensures few { IfSome result (λ _. chunk < length self.now.cells.items) }
         ensures shape { IfSome result (λ s. IsShaped s.now.shape (shape_in self.now chunk)) }
     {
         let found = self.cells.get(chunk)?.get_as(note)?;
@@ -237,7 +226,8 @@ impl Growing {
         requires { IfSome (slice_get self.now.cells.items chunk) (λ c. note.old.cell ≡ cell_name c) }
         ensures cell { note.new.cell ≡ note.old.cell }
         ensures value { MatchResult result (λ s. (note.new.known ≡ Some s.now) × Agrees note.old.known s.now)
-            WhyUnopened }
+            (WhyUnopened note.old.known) }
+        ensures few { IfOk result (λ _. chunk < length self.now.cells.items) }
         ensures shape { IfOk result (λ s. IsShaped s.now.shape (shape_in self.now chunk)) }
     {
         let Some(cell) = self.cells.get(chunk as usize) else {

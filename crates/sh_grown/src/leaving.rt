@@ -4,7 +4,7 @@ ghost use Rattle.sh_value.specs.declared.refusal.Refusal.TheVariants.{Waiting};
 ghost use Rattle.sh_grown.specs.Callers.{Stays};
 ghost use Rattle.sh_grown.specs.Inserts.{OwnsNone};
 ghost use Rattle.sh_grown.specs.Keeping.{KeepsMembers};
-ghost use Rattle.sh_grown.specs.Leaving.{LeavesIdle};
+ghost use Rattle.sh_grown.specs.Leaving.{LeavesIdle, StopsBelow};
 ghost use Rattle.sh_grown.specs.Refusals.{WaitsThere};
 
 use crate::caller::Caller;
@@ -18,11 +18,13 @@ impl Caller {
         ensures left { OnOk result ((chunk : ℕ) → chunk < length self.new.met.items
             → OwnsNone (get_or self.new.met.items chunk None)) }
         ensures err { IfErr result (λ why. why ≡ Waiting) }
+        ensures waits { OnErr result
+            (StopsBelow (length self.old.met.items) self.old.met.items self.new.met.items) }
         ensures keeps { KeepsMembers self.old.met.items self.new.met.items }
         ensures stays { Stays self.old self.new }
     {
         for chunk in 0..self.met.len() {
-            leave_at(&mut self.met[chunk])?;
+            self.leave_in(chunk)?;
         }
         Ok(())
     }

@@ -1,7 +1,12 @@
 //! Receipts of a caller: what it did in each chunk happens before what another caller does that heeds the receipt.
-ghost use Rattle.std.specs.Prelude.{◌≡◌, ◌≢◌, ℕ, MatchResult, None, get_or, length};
+ghost use Rattle.std.specs.Prelude.{◌≡◌, ◌≢◌, ℕ, MatchOption, MatchResult, None, Some, [], get_or, length};
 ghost use Rattle.sh_value.specs.declared.refusal.Refusal.TheVariants.{Taken};
+ghost use Rattle.sh_chunk.specs.Chunks.{chunked};
+ghost use Rattle.sh_table.specs.Tales.{IsTale};
+ghost use Rattle.sh_grown.specs.declared.receipts.ChunkReceipt.{ChunkReceipt};
 ghost use Rattle.sh_grown.specs.Callers.{Stays};
+ghost use Rattle.sh_grown.specs.OneMap.{IsOneMap, view_at};
+ghost use Rattle.sh_grown.specs.Steps.{RestsThere};
 ghost use Rattle.sh_grown.specs.Receipts.{AreReceiptsIn, CoversEach, CoversPlace, Heeds, HeedsAt, HeedsChunk};
 ghost use Rattle.sh_grown.specs.Receipts.{IsReceiptAt, IsReceiptIn};
 
@@ -35,6 +40,27 @@ pub struct GrownReceipt {
 }
 
 impl GrownReceipt {
+    // A receipt of no chunk.
+    pub(crate) fn none() -> GrownReceipt
+        ensures { result.chunks.items ≡ [] }
+    {
+        GrownReceipt {
+            chunks: ArrayVec::new(),
+        }
+    }
+
+    // What it knows of the cell of this chunk, if it covers the chunk.
+    pub(crate) fn note(&mut self, chunk: usize) -> Option<Note<Share<Chunked>>>
+        ensures covers { MatchOption result (get_or self.old.chunks.items chunk None ≡ None) (λ note.
+            (given : ChunkReceipt) × (get_or self.old.chunks.items chunk None ≡ Some given) × (note ≡ given.note)) }
+        ensures same { self.new.chunks.items ≡ self.old.chunks.items }
+    {
+        match self.chunks.get_mut(chunk) {
+            Some(given) => note_at(given),
+            None => None,
+        }
+    }
+
     // Takes the receipt of this chunk out, if there is one.
     fn take(&mut self, chunk: usize) -> Option<ChunkReceipt>
         ensures given { result ≡ get_or self.old.chunks.items chunk None }
@@ -46,13 +72,28 @@ impl GrownReceipt {
     }
 }
 
+// What the receipt of a chunk knows of the chunk's cell, if there is one.
+fn note_at(given: &mut Option<ChunkReceipt>) -> Option<Note<Share<Chunked>>>
+    ensures covers { MatchOption result (given.old ≡ None) (λ note.
+        (one : ChunkReceipt) × (given.old ≡ Some one) × (note ≡ one.note)) }
+    ensures same { given.new ≡ given.old }
+{
+    match given {
+        Some(one) => Some(one.note.again()),
+        None => None,
+    }
+}
+
 // A receipt of what the member of a chunk did, if the caller has met the chunk.
 fn receipt_at(place: &mut Option<ChunkMember>) -> Option<ChunkReceipt>
     ensures same { place.new ≡ place.old }
+    ensures rests { RestsThere place.old }
     ensures covers { CoversPlace place.old result }
 {
     match place {
         Some(met) => {
+            // Between its calls all that a member knows is true.
+            let _known = met.member.shape();
             let receipt = met.member.receipt();
             let note = met.note.again();
             Some(ChunkReceipt { receipt, note })
@@ -71,8 +112,6 @@ fn heed_at(place: &mut Option<ChunkMember>, given: ChunkReceipt)
         Some(met) => {
             let ChunkReceipt { receipt, note } = given;
             met.note.compare(note);
-            // Between its calls a member is a pass or the owner of a shard.
-            let _known = met.member.shape();
             met.member.heed(receipt);
         }
         None => unreachable!(),
@@ -83,6 +122,9 @@ impl Caller {
     /// A receipt of all its results in each chunk that it has met, and of all that it heard of others there: one load
     /// for each of these chunks. It takes no memory.
     ///
+    /// What the caller knows in all these chunks is one map: one legal history, on keys with their chunk's number, has
+    /// it.
+    ///
     /// ```text
     /// let key = caller.insert(alloc, &value)?;
     /// let receipt = caller.receipt();            // both are sent to another thread
@@ -92,6 +134,8 @@ impl Caller {
     pub fn receipt(&mut self) -> GrownReceipt
         ensures covers { CoversEach (length self.old.growing.cells.items) self.old.met.items result.chunks.items }
         ensures of { AreReceiptsIn self.old.growing result.chunks.items }
+        ensures one_map { IsOneMap (IsTale chunked) self.old.growing.passes (length self.old.growing.cells.items)
+            (λ chunk. view_at (get_or self.old.met.items chunk None)) }
         ensures same { self.new.met.items ≡ self.old.met.items }
         ensures stays { Stays self.old self.new }
     {
@@ -128,6 +172,7 @@ impl Caller {
     // A receipt of what it did in this chunk, if it has met the chunk.
     fn receipt_in(&mut self, chunk: usize) -> Option<ChunkReceipt>
         ensures same { self.new.met.items ≡ self.old.met.items }
+        ensures rests { RestsThere (get_or self.old.met.items chunk None) }
         ensures covers { CoversPlace (get_or self.old.met.items chunk None) result }
         ensures stays { Stays self.old self.new }
     {

@@ -1,5 +1,7 @@
 //! Shares of a growing heap: it lives as long as one of them.
-ghost use Rattle.std.specs.Prelude.{◌≡◌, ◌≤◌, IfOk, IfSome, MatchResult, None, Some, length, slice_get};
+ghost use Rattle.std.specs.Prelude.{◌≡◌, ◌<◌, ◌≤◌, IfOk, IfSome, MatchOption, MatchResult, None, Some};
+ghost use Rattle.std.specs.Prelude.{length, slice_get};
+ghost use Rattle.std.specs.Option.{ForSome};
 ghost use Rattle.once_cell.specs.Once.{cell_name, Agrees};
 ghost use Rattle.sh_value.specs.declared.refusal.Refusal.TheVariants.{Memory};
 ghost use Rattle.sh_grown.specs.ChunkShapes.{IsShaped};
@@ -112,7 +114,10 @@ impl GrowingShare {
     ) -> Option<&'a Share<Chunked>>
         requires { IfSome (slice_get self.now.cells.items chunk) (λ c. note.old.cell ≡ cell_name c) }
         ensures cell { note.new.cell ≡ note.old.cell }
-        ensures value { IfSome result (λ s. (note.new.known ≡ Some s.now) × Agrees note.old.known s.now) }
+        ensures value { MatchOption result (chunk < length self.now.cells.items
+            → ForSome note.old.known (λ heap. ¬ IsShaped heap.shape (shape_in self.now chunk)))
+            (λ s. (note.new.known ≡ Some s.now) × Agrees note.old.known s.now) }
+        ensures few { IfSome result (λ _. chunk < length self.now.cells.items) }
         ensures shape { IfSome result (λ s. IsShaped s.now.shape (shape_in self.now chunk)) }
     {
         self.heap().seen(chunk, note)
@@ -127,7 +132,8 @@ impl GrowingShare {
         requires { IfSome (slice_get self.now.cells.items chunk) (λ c. note.old.cell ≡ cell_name c) }
         ensures cell { note.new.cell ≡ note.old.cell }
         ensures value { MatchResult result (λ s. (note.new.known ≡ Some s.now) × Agrees note.old.known s.now)
-            WhyUnopened }
+            (WhyUnopened note.old.known) }
+        ensures few { IfOk result (λ _. chunk < length self.now.cells.items) }
         ensures shape { IfOk result (λ s. IsShaped s.now.shape (shape_in self.now chunk)) }
     {
         self.heap().opened(alloc, chunk, note)

@@ -1,9 +1,11 @@
 //! Sums over the chunks of a growing heap.
-ghost use Rattle.std.specs.Prelude.{◌≡◌, ◌^◌, IfErr, IfOk, length};
+ghost use Rattle.std.specs.Prelude.{◌≡◌, ◌^◌, IfErr, IfOk, [], length};
 ghost use Rattle.sh_whole.specs.declared.refusal.NotTold.TheVariants.{Away};
+ghost use Rattle.sh_grown.specs.Receipts.{AreReceiptsIn};
 ghost use Rattle.sh_grown.specs.Sums.{AddsFew, AtMostEach, SumsBelow, no_chunks, with_totals};
 
 use crate::growing::Growing;
+use crate::receipts::GrownReceipt;
 use sh_gather::Totals;
 use sh_whole::NotTold;
 
@@ -68,14 +70,25 @@ impl Growing {
     /// growing.gather(alloc)?;                // every caller has ended
     /// let keys = growing.totals()?.live;     // in all chunks
     /// ```
-    #[tactic(auto, using(crate::proofs::Sums::only_away))]
     pub fn totals(&self) -> Result<GrownTotals, NotTold>
-        ensures sums { IfOk result (SumsBelow self.now (length self.now.cells.items)) }
+        ensures sums { IfOk result (SumsBelow self.now [] (length self.now.cells.items)) }
         ensures err { IfErr result (λ why. why ≡ Away) }
+    {
+        let mut receipt = GrownReceipt::none();
+        self.totals_told(&mut receipt)
+    }
+
+    /// The same, and each chunk that the receipt covers is counted. The receipt has to be of this growing heap.
+    #[tactic(auto, using(crate::proofs::Sums::only_away))]
+    pub fn totals_told(&self, receipt: &mut GrownReceipt) -> Result<GrownTotals, NotTold>
+        requires { AreReceiptsIn self.now receipt.old.chunks.items }
+        ensures sums { IfOk result (SumsBelow self.now receipt.old.chunks.items (length self.now.cells.items)) }
+        ensures err { IfErr result (λ why. why ≡ Away) }
+        ensures same { receipt.new.chunks.items ≡ receipt.old.chunks.items }
     {
         let mut sums = GrownTotals::new();
         for number in 0..self.chunks_allowed() {
-            let Some(chunk) = self.chunk(number) else {
+            let Some(chunk) = self.chunk_told(number, receipt) else {
                 continue;
             };
             let told = chunk.totals()?;

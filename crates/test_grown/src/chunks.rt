@@ -1,7 +1,7 @@
 //! Worked calls on the chunks of a growing heap.
 //!
 //! No clause says that a chunk which is open is found, or that the first one which is not open is opened.
-use sh_grown::{Growing, GrowingShare, NotTold};
+use sh_grown::{Growing, GrowingShare, NotOpened, NotTold};
 use sh_value::{Refusal, Value};
 use std::fmt::Debug;
 use std::process::Abort;
@@ -37,11 +37,10 @@ fn the_next_chunk_is_opened_and_returned(rt: HostRuntime) {
     agree(&rt, opened.shape().shards(), 1);
     let last = growing.heap().open_next(rt.alloc()).expect(&rt, "a chunk");
     agree(&rt, last.number(), 2);
-    agree(
-        &rt,
-        growing.heap().open_next(rt.alloc()).err(),
-        Some(Refusal::Full),
-    );
+    let full = growing.heap().open_next(rt.alloc());
+    agree(&rt, matches!(full, Err(NotOpened::Full(_))), true);
+    let ahead = growing.heap().open_ahead(rt.alloc());
+    agree(&rt, ahead, Err(Refusal::Full));
     let found = growing.heap().chunk(1).map(|chunk| chunk.number());
     agree(&rt, found, Some(1));
     agree(&rt, growing.heap().chunk(3).is_none(), true);

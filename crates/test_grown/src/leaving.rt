@@ -24,8 +24,16 @@ fn inserts_one_each(
     let mut callers = Vec::new(alloc);
     for n in 0..64 {
         let mut caller = growing.claim(alloc).expect(rt, "a caller");
-        let stored = caller.insert(alloc, &Value::from(n)).is_ok();
-        agree(rt, stored, leaves || n < shards);
+        let stored = caller.insert(alloc, &Value::from(n)).map(|_key| n);
+        agree(
+            rt,
+            stored,
+            if leaves || n < shards {
+                Ok(n)
+            } else {
+                Err(Refusal::NoShard)
+            },
+        );
         if leaves {
             agree(rt, caller.leave_idle(), Ok(()));
         }
@@ -33,8 +41,8 @@ fn inserts_one_each(
     }
 }
 
-// One shard with room for 1,000 values serves them all if each leaves it. If none does, only the first has a shard; and
-// each has one if the heap was opened for 64 owners.
+// One shard with room for 1,000 values serves them all if each leaves it. If none does, only the first has a shard, and
+// the others are refused as NoShard. Each has one if the heap was opened for 64 owners.
 #[test]
 fn sixty_four_callers_insert_a_value_each(rt: HostRuntime) {
     let shared = GrowingShare::open_for(rt.alloc(), 1, 1000, 1, 64, 1).expect(&rt, "a heap");
@@ -43,6 +51,23 @@ fn sixty_four_callers_insert_a_value_each(rt: HostRuntime) {
     inserts_one_each(&rt, rt.alloc(), &owned, 1, false);
     let wide = GrowingShare::open_for(rt.alloc(), 64, 1, 1, 64, 1).expect(&rt, "a heap");
     inserts_one_each(&rt, rt.alloc(), &wide, 64, false);
+}
+
+// A caller that owns a full shard is Full, one that owns none is NoShard, and Full too once it can own that one.
+#[test]
+fn a_caller_learns_why_an_insert_finds_no_room(rt: HostRuntime) {
+    let growing = GrowingShare::open_for(rt.alloc(), 1, 1, 1, 2, 1).expect(&rt, "a heap");
+    let mut caller = growing.claim(rt.alloc()).expect(&rt, "a caller");
+    let mut other = growing.claim(rt.alloc()).expect(&rt, "another caller");
+    let one = Value::from(1);
+    for _ in 0..384 {
+        agree(&rt, caller.insert(rt.alloc(), &one).is_ok(), true);
+    }
+    agree(&rt, caller.insert(rt.alloc(), &one), Err(Refusal::Full));
+    agree(&rt, other.insert(rt.alloc(), &one), Err(Refusal::NoShard));
+    agree(&rt, caller.leave(), Ok(()));
+    agree(&rt, other.insert(rt.alloc(), &one), Err(Refusal::Full));
+    agree(&rt, caller.insert(rt.alloc(), &one), Err(Refusal::NoShard));
 }
 
 // The caller leaves its shards in two chunks, also if it owns none, and inserts again.
@@ -56,7 +81,7 @@ fn a_caller_leaves_its_idle_shards_in_each_chunk(rt: HostRuntime) {
     for _ in 0..385 {
         agree(&rt, caller.insert(rt.alloc(), &one).is_ok(), true);
     }
-    agree(&rt, other.insert(rt.alloc(), &one), Err(Refusal::Full));
+    agree(&rt, other.insert(rt.alloc(), &one), Err(Refusal::NoShard));
     agree(&rt, caller.leave_idle(), Ok(()));
     agree(&rt, caller.leave_idle(), Ok(()));
     let key = other.insert(rt.alloc(), &one).expect(&rt, "a key");

@@ -1,7 +1,7 @@
 //! Tests of growing heaps: the shapes of chunks, many values over several chunks, and full heaps. Others are of the
 //! order in which an insert tries shards, of its steps, of refused memory, and of threads that open one chunk. The rest
-//! are of receipts, of holds of a pass that is claimed again, and of shards that are left. They are of sizes, of lengths
-//! that change, and of walks over live keys.
+//! are of receipts, of holds of a pass that is claimed again, and of shards that are left. They are of sizes, of
+//! lengths that change, of walks over live keys, and of records that four threads store.
 #![tactic(auto)]
 
 #[cfg(test)]
@@ -20,6 +20,8 @@ mod live_keys;
 mod memory;
 #[cfg(test)]
 mod receipts;
+#[cfg(test)]
+mod records;
 #[cfg(test)]
 mod shapes;
 #[cfg(test)]

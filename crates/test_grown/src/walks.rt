@@ -53,14 +53,44 @@ fn a_walk_begins_in_the_chunk_of_the_last_one(rt: HostRuntime) {
     );
 }
 
-// The caller with number 1 begins at the second of two shards, and goes on with the first.
+// Stores a number, and returns in which chunk, and in which shard there: its number is at bits 18 to 23 of the key.
+fn place_of_next(rt: &impl Abort, alloc: Global, caller: &mut Caller) -> (u64, u64) {
+    let key = caller.insert(alloc, &Value::from(7)).expect(rt, "a key");
+    (key >> 56, key >> 18 & 63)
+}
+
+// Chunks of 2, 1, 1, 2 and 2 shards. The walk of another caller found the first shard of chunk 4, and chunk 5 is open.
+// A caller with number 1 begins there, and not in the second shard or in chunk 5. While it owns the shard, the other
+// one inserts in the second.
+#[test]
+fn a_walk_begins_where_another_caller_found_room(rt: HostRuntime) {
+    let growing = GrowingShare::open(rt.alloc(), 2, 6).expect(&rt, "a heap");
+    let mut other = growing.claim(rt.alloc()).expect(&rt, "another caller");
+    let mut caller = growing.claim(rt.alloc()).expect(&rt, "a caller");
+    agree(&rt, caller.number(), 1);
+    let _keys = stored(&rt, rt.alloc(), &mut other, 2305);
+    agree(&rt, growing.heap().open_ahead(rt.alloc()), Ok(5));
+    agree(&rt, other.leave(), Ok(()));
+    agree(&rt, place_of_next(&rt, rt.alloc(), &mut caller), (4, 0));
+    agree(&rt, place_of_next(&rt, rt.alloc(), &mut other), (4, 1));
+}
+
+// The first walk of `high` begins at the second of two shards, where `low` found room, and goes on with the first, in
+// which one slot is free.
 #[test]
 fn a_walk_goes_round_the_shards_of_its_chunk(rt: HostRuntime) {
     let growing = GrowingShare::open(rt.alloc(), 2, 1).expect(&rt, "a heap");
-    let low = growing.claim(rt.alloc()).expect(&rt, "a caller");
+    let mut low = growing.claim(rt.alloc()).expect(&rt, "a caller");
     let mut high = growing.claim(rt.alloc()).expect(&rt, "another caller");
-    agree(&rt, (low.number(), high.number()), (0, 1));
-    let _keys = stored(&rt, rt.alloc(), &mut high, 768);
+    let keys = stored(&rt, rt.alloc(), &mut low, 385);
+    agree(&rt, low.leave(), Ok(()));
+    let Some(first) = keys.first() else {
+        return;
+    };
+    agree(&rt, low.remove(*first), Ok(()));
+    agree(&rt, place_of_next(&rt, rt.alloc(), &mut high), (0, 1));
+    let _keys = stored(&rt, rt.alloc(), &mut high, 382);
+    agree(&rt, place_of_next(&rt, rt.alloc(), &mut high), (0, 0));
     agree(
         &rt,
         high.insert(rt.alloc(), &Value::from(8)),

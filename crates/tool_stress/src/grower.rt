@@ -107,8 +107,12 @@ impl<H: Home + Send> LonePass for Grower<H> {
         Ok(self)
     }
 
+    // A caller that owns no shard and finds none free has no room either, so a round counts it as full.
     fn insert(owner: &mut Self, value: &Value) -> Result<u64, Refusal> {
-        owner.caller.insert(owner.alloc, value)
+        match owner.caller.insert(owner.alloc, value) {
+            Err(Refusal::NoShard) => Err(Refusal::Full),
+            answer => answer,
+        }
     }
 
     fn collect(owner: &mut Self) {

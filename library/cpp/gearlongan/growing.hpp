@@ -10,9 +10,9 @@
 namespace gearlongan {
 
 /// The pass of a growing heap: it inserts without a shard of its own, since an insert adopts one in a chunk with room,
-/// and opens a chunk if there is none. An insert is full if the heap may have no more chunks. When it is destroyed it
-/// leaves its shards and goes home, as a shard does. A function that takes a `reader &` takes it. A receipt of a caller
-/// covers all chunks that it has used.
+/// and opens a chunk if there is none. If the heap may have no more chunks, an insert is no_shard if each shard has
+/// another owner, and otherwise full. When it is destroyed it leaves its shards and goes home, as a shard does. A
+/// function that takes a `reader &` takes it. A receipt of a caller covers all chunks that it has used.
 ///
 ///     auto growing = gearlongan::growing_heap::open({1, 1000, 2, 8}, 256);
 ///     gearlongan::caller caller = growing.take(), other = growing.take();

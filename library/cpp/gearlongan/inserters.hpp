@@ -15,7 +15,8 @@ namespace detail {
 /// What a shard and a caller of a growing heap have in common: they insert, and collect what others freed.
 class inserter : public reader {
 public:
-    /// Stores a value of 0 to 16 words. If there is no room it collects once and tries again. too_long, memory, full.
+    /// Stores a value of 0 to 16 words. If there is no room it collects once and tries again. too_long, memory, full;
+    /// no_shard, of a growing heap.
     ///
     ///     gearlongan::key third;
     ///     assert(shard.try_insert({1, 2, 3}, third) == gearlongan::errc::ok);

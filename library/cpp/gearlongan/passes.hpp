@@ -74,9 +74,8 @@ public:
     }
 
     /// Finds the first live key of the shard at a place or behind it. Places are numbers of slots in the shard, and
-    /// `place` becomes the one behind that of the key. A loop that begins at place 0 gets the keys in the order of
-    /// their places, each at most once, while other passes go on. The key was live at a moment of the call. no_key, if
-    /// no live key was found; holds_full.
+    /// `place` becomes the one behind that of the key. A loop that begins at place 0 meets what a walk of the pass
+    /// meets in the shard. no_key, if no key is met.
     ///
     ///     std::uint64_t place = 0;
     ///     gearlongan::key next;
@@ -132,7 +131,7 @@ public:
         return slots;
     }
 
-    /// The live keys of the shard, each at most once. The begin and an increment of the range throw holds_full.
+    /// The live keys of the shard, each once, as a walk of the pass meets them.
     ///
     ///     for (const gearlongan::key it : shard.keys()) shard.remove(it);
     ///     assert(!pass.load(key));

@@ -1,7 +1,8 @@
 //! A table of connections that grows: nobody says how many there will be.
 //!
 //! Each thread has a caller of its own, and no thread owns a shard by its number. An insert finds a chunk with room, or
-//! opens one. It is refused as [`Error::Full`] only if the table has as many chunks as it may have.
+//! opens one. It is refused as [`Error::Full`] or [`Error::NoShard`] only if the table has as many chunks as it may
+//! have.
 use gearlongan::{Caller, Error, Growing, Heap, Key, Room};
 use std::thread;
 
@@ -15,7 +16,7 @@ fn accept(caller: &Caller, thread: u64) -> Result<(Vec<Key>, u64), Error> {
         match caller.insert_record(&(thread, number)) {
             Ok(key) if number % 2 == 0 => open.push(key),
             Ok(key) => caller.remove(key)?,
-            Err(Error::Full) => refused += 1,
+            Err(Error::Full | Error::NoShard) => refused += 1,
             Err(error) => return Err(error),
         }
     }

@@ -34,7 +34,7 @@ pub enum Error {
     Memory,
     /// The shard has an owner.
     Taken,
-    /// There is no such shard.
+    /// There is no such shard, or each shard of the growing heap has another owner.
     NoShard,
     /// Another pass is in the middle of a free that has to end first.
     Waiting,
@@ -68,7 +68,7 @@ impl fmt::Display for Error {
             Error::Full => "the shard has no room for the value",
             Error::Memory => "memory was refused",
             Error::Taken => "the shard has an owner",
-            Error::NoShard => "the heap has no such shard",
+            Error::NoShard => "the heap has no such shard, or none without another owner",
             Error::Waiting => "another pass has a free in the shard to end first",
             Error::BadShape => "the numbers are outside the limits of the layout",
             Error::NoPass => "no pass is at home",

@@ -20,7 +20,7 @@ pub struct Growing {
 impl Heap {
     /// Opens a heap that grows. Its first chunk is the least one that has this room, and it has at most this many
     /// chunks, from 1 to 256. [`Room::owners`] is the number of threads that insert, since each keeps a shard: with
-    /// fewer, a caller may find each shard taken. Then its insert opens a chunk, or is [`Error::Full`] beside free
+    /// fewer, a caller may find each shard taken. Then its insert opens a chunk, or is [`Error::NoShard`] beside free
     /// room.
     ///
     /// # Errors
@@ -167,8 +167,8 @@ impl Caller {
     ///
     /// # Errors
     ///
-    /// [`Error::TooLong`], [`Error::Memory`], and [`Error::Full`] if the heap may have no more chunks, and each shard
-    /// that no other caller owns is full after a collect.
+    /// [`Error::TooLong`] and [`Error::Memory`]. If the heap may have no more chunks, [`Error::NoShard`] if each shard
+    /// has another owner, and [`Error::Full`] if each of the others has no room after a collect.
     ///
     /// ```
     /// # use gearlongan::{Error, Heap, Room};
@@ -189,7 +189,7 @@ impl Caller {
     ///
     /// # Errors
     ///
-    /// [`Error::Memory`], and [`Error::Full`] if the heap may have no more chunks.
+    /// [`Error::Memory`], [`Error::NoShard`] and [`Error::Full`], as [`insert`](Caller::insert).
     ///
     /// ```
     /// # use gearlongan::{Error, Heap, Room};
@@ -270,7 +270,7 @@ impl Caller {
     /// let heap = Heap::growing(Room { owners: 1, values: 1, words: 1, passes: 2 }, 1)?;
     /// let (caller, other) = (heap.take()?, heap.take()?);
     /// caller.insert(&[7])?;
-    /// assert_eq!(other.insert(&[8]), Err(Error::Full)); // the one shard has an owner
+    /// assert_eq!(other.insert(&[8]), Err(Error::NoShard)); // the one shard has an owner
     /// caller.leave_idle()?;
     /// other.insert(&[8])?;
     /// # Ok::<(), Error>(())

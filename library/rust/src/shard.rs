@@ -175,16 +175,10 @@ impl Shard {
         self.pass.handle.slots_out()
     }
 
-    /// The live keys of the shard, one after the other, while other passes go on: in the order of their slots, each at
-    /// most once. Each key was live at a moment of the call that returned it. A key that is inserted or removed
-    /// meanwhile may be among them or not.
+    /// The live keys of the shard, one after the other, while other passes go on: in the order of their slots, each
+    /// once. It meets what [`walk`](crate::Pass::walk) meets in the shard, and needs no room for a guard.
     ///
-    /// A recording (feature `record`) has nothing of these calls.
-    ///
-    /// # Errors
-    ///
-    /// The iterator returns [`Error::HoldsFull`], and then nothing more, if the pass has 16 guards: it holds each key
-    /// for a moment.
+    /// A recording (feature `record`) has nothing of these calls. Each item is `Ok`.
     ///
     /// ```
     /// # use gearlongan::{Error, Heap, Key, Layout, Shape};

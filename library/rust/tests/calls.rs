@@ -126,13 +126,13 @@ fn the_keys_of_a_shard_come_once_each() {
                 _ => kept.push(key),
             }
         }
-        let mut found = shard.keys().collect::<Result<Vec<Key>, Error>>().expect("there is room for a hold");
+        let mut found = shard.keys().collect::<Result<Vec<Key>, Error>>().expect("it is the owner");
         found.sort_unstable();
         kept.sort_unstable();
         assert_eq!(found, kept);
         // What is removed during the walk is not found any more.
         let mut keys = shard.keys();
-        let first = keys.next().expect("there are some").expect("there is room for a hold");
+        let first = keys.next().expect("there are some").expect("it is the owner");
         for key in kept.iter().filter(|key| **key != first) {
             other.remove(*key).expect("it is there");
         }
@@ -143,7 +143,7 @@ fn the_keys_of_a_shard_come_once_each() {
 }
 
 #[test]
-fn a_walk_takes_a_hold_for_a_moment() {
+fn a_walk_over_a_shard_needs_no_hold() {
     let (shard, pass) = two(Layout::Tiny);
     let crowded = shard.insert(&[1]).expect("there is room");
     let limit = [(); 4].map(|()| pass.get(crowded).expect("it is there"));
@@ -152,9 +152,9 @@ fn a_walk_takes_a_hold_for_a_moment() {
     drop(limit);
     let keys = [(); 4].map(|()| shard.insert(&[1]).expect("there is room"));
     let guards = [0, 1, 2, 3].map(|at| [(); 4].map(|()| shard.get(keys[at]).expect("it is there")));
-    assert_eq!(shard.keys().collect::<Vec<_>>(), [Err(Error::HoldsFull)]);
+    assert_eq!(shard.get(crowded).map(|_| ()), Err(Error::HoldsFull));
+    assert_eq!(shard.keys().filter_map(Result::ok).count(), 5);
     drop(guards);
-    assert_eq!(shard.keys().count(), 5);
 }
 
 #[test]

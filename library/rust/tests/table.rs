@@ -90,9 +90,8 @@ fn keys_are_numbers() {
 #[test]
 fn numbers_that_were_never_issued_find_nothing() {
     let (table, keys) = filled(3);
-    let of = |bits| Key::<u64>::from_bits(bits).expect("it is not 0");
-    let near = (0..64).map(|bit| keys[0].to_bits() ^ 1 << bit).filter(|bits| !keys.contains(&of(*bits)));
-    for key in near.chain([1, u64::MAX]).map(of) {
+    let near = (0..64).map(|bit| keys[0].to_bits() ^ 1 << bit).chain([1, u64::MAX]);
+    for key in near.filter_map(Key::<u64>::from_bits).filter(|it| !keys.contains(it)) {
         assert_eq!((table.get(key), table.take(key)), (None, None));
         assert!(!table.contains(key) && !table.remove(key));
     }

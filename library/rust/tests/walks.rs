@@ -29,7 +29,7 @@ fn a_walk_meets_the_live_keys_with_their_values_in_the_order_of_places() {
         all.extend((0..15).map(|n| (shard.insert(&value(n)).expect("there is room"), value(n))));
         let held = pass.get(all[7].0).expect("it is there");
         all.retain(|(key, value)| value.first().is_none_or(|n| n % 7 != 0) || shard.remove(*key).is_err());
-        let in_order: Vec<Key> = shard.keys().collect::<Result<_, _>>().expect("there is room for a hold");
+        let in_order: Vec<Key> = shard.keys().collect::<Result<_, _>>().expect("it is the owner");
         all.sort_unstable_by_key(|(key, _)| in_order.iter().position(|it| it == key));
         assert_eq!((in_order.len(), held.len()), (all.len(), 2));
         assert!(all.len() < 15 && pass.walk().eq(all.iter().copied()) && shard.walk().eq(all.iter().copied()));

@@ -129,6 +129,8 @@ fn inserts_open_chunks(rt: HostRuntime) {
     let mut key = 77;
     let code = shardheap_raw_insert(alloc, &mut pass, &[7], &mut key);
     agree(&rt, (code, key), (FULL, 77));
+    let code = shardheap_raw_insert(alloc, &mut other, &[7], &mut key);
+    agree(&rt, (code, key), (NO_SHARD, 77));
     let code = shardheap_raw_insert(alloc, &mut pass, &[7; 17], &mut key);
     agree(&rt, (code, key), (TOO_LONG, 77));
     given(&rt, alloc, pass);

@@ -89,9 +89,11 @@ impl Open<'_> {
         self.alone.run(|| self.caller.handle.next_live(met))
     }
 
+    /// [`Error::Full`] as well if other places have all shards, since a table has none in its interface.
     #[inline]
     pub(super) fn insert(&self, words: &[u64]) -> Result<Key, Error> {
-        let key = self.alone.run(|| self.caller.insert(words))?;
+        let inserted = self.alone.run(|| self.caller.insert(words));
+        let key = inserted.map_err(|why| if why == Error::NoShard { Error::Full } else { why })?;
         self.add(1);
         Ok(key)
     }

@@ -1,20 +1,21 @@
 use Rattle.std.proofs.Common.{length}
-use Rattle.sh_grown.specs.Steps.{insert_most}
-use Rattle.sh_grown.proofs.CallSteps.{insert_took}
-use Rattle.sh_grown.proofs.Stepping.{one_none, one_set}
+use Rattle.std.specs.Prelude.{◌==◌}
+use Rattle.sh_grown.specs.Steps.{steps_of}
+use Rattle.sh_grown.proofs.Full.{insert_leaves, none_left}
+use Rattle.sh_grown.proofs.CallSteps.{insert_took, one_set}
+use Rattle.sh_grown.proofs.Stepping.{takes_none}
 use Rattle.sh_grown.proofs.OfChunks.{inserts_of}
 use Rattle.sh_grown.proofs.caller.Caller.insert_in.Goals as goal
 
 pub returns-then-not-has_met-clause-steps : goal.returns-then-not-has_met-clause-steps
 returns-then-not-has_met-clause-steps c =
-    let was = c.args.self.now in
-    one_none was.growing was.number c.args.chunk (insert_most (length c.args.value.now)) was.met.items
+    takes_none (λ other. other == c.args.chunk) (λ s. steps_of 1 0 0 (length c.args.value.now)) c.args.self.now
 
 pub returns-clause-steps : goal.returns-clause-steps
 returns-clause-steps c =
     let was = c.args.self.now in
-    one_set was.growing was.number (insert_most (length c.args.value.now)) was.met.items c.args.chunk
-    c.index_mut.result.now c.insert_at.new.place c.index_mut.ensures.value
+    one_set was.growing was.number (steps_of 1 0 0 (length c.args.value.now)) was.met.items c.args.chunk
+    c.index_mut.result.now c.insert_at.new.place was.of_chunks c.index_mut.ensures.value
     (insert_took c.args.value.now c.index_mut.result.now c.insert_at.new.place c.insert_at.result
     c.insert_at.ensures.inserts c.insert_at.ensures.bounded)
 
@@ -24,3 +25,11 @@ invariant_of-self c = record {
       c.index_mut.result.now c.insert_at.new.place c.insert_at.result c.args.self.now.of_chunks
       c.index_mut.ensures.value c.insert_at.ensures.inserts;
 }
+
+pub returns-then-not-has_met-clause-leaves : goal.returns-then-not-has_met-clause-leaves
+returns-then-not-has_met-clause-leaves c = none_left c.args.self.now.met.items
+
+pub returns-clause-leaves : goal.returns-clause-leaves
+returns-clause-leaves c =
+    insert_leaves c.args.value.now c.args.self.now.met.items c.args.chunk c.index_mut.result.now
+    c.insert_at.new.place c.insert_at.result c.index_mut.ensures.value c.insert_at.ensures.inserts

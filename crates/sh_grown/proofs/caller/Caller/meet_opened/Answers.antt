@@ -1,47 +1,20 @@
 use Rattle.std.proofs.Common.{◌≡◌, ◌∙◌, IfSome, slice_get, ap, sym, subst}
 use Rattle.once_cell.specs.Once.{cell_name}
-use Rattle.sh_grown.proofs.OfChunks.{meets_of, stays_of}
+use Rattle.sh_grown.specs.OfChunks.{AreOfChunks}
+use Rattle.sh_grown.proofs.OfChunks.{meets_of}
 use Rattle.sh_grown.proofs.caller.Caller.meet_opened.Goals as goal
 
-pub invariant_of-self-in_default-note : goal.invariant_of-self-in_default-note
-invariant_of-self-in_default-note c = record {
-  of_chunks = stays_of c.args.self.now.growing c.args.self.now.met.items c.args.chunk c.in-Some.place.now
-      c.args.self.now.of_chunks c.in-Some.ensures.value;
-}
-
-pub invariant_of-self-in-Err-Memory : goal.invariant_of-self-in-Err-Memory
-invariant_of-self-in-Err-Memory c = record {
-  of_chunks = stays_of c.args.self.now.growing c.args.self.now.met.items c.args.chunk c.in-Some.place.now
-      c.args.self.now.of_chunks c.in-Some.ensures.value;
-}
-
-pub invariant_of-self-in-Err : goal.invariant_of-self-in-Err
-invariant_of-self-in-Err c = record {
-  of_chunks = stays_of c.args.self.now.growing c.args.self.now.met.items c.args.chunk c.in-Some.place.now
-      c.args.self.now.of_chunks c.in-Some.ensures.value;
-}
-
-pub invariant_of-self-in_default-meet : goal.invariant_of-self-in_default-meet
-invariant_of-self-in_default-meet c = record {
-  of_chunks = stays_of c.args.self.now.growing c.args.self.now.met.items c.args.chunk c.in-Some.place.now
-      c.args.self.now.of_chunks c.in-Some.ensures.value;
-}
-
-pub invariant_of-self-else-is_none : goal.invariant_of-self-else-is_none
-invariant_of-self-else-is_none c = record {
-  of_chunks = stays_of c.args.self.now.growing c.args.self.now.met.items c.args.chunk c.in-Some.place.now
-      c.args.self.now.of_chunks c.in-Some.ensures.value;
-}
-
-pub invariant_of-self-then-is_none : goal.invariant_of-self-then-is_none
-invariant_of-self-then-is_none c =
+pub invariant_of-self : goal.invariant_of-self
+invariant_of-self c =
+    let was = c.args.self.now in
     let met = c.in-Some-meet.met in
     let opened = c.in-Ok.ensures in
     record {
-      of_chunks = meets_of c.args.self.now.growing c.in-Ok.share.now c.args.self.now.number c.args.self.now.met.items
-          c.args.chunk met c.args.self.now.of_chunks c.in-Some-meet.ensures.0
+      of_chunks = subst (λ items. AreOfChunks was.growing items) (sym c.put_met.ensures)
+          (meets_of was.growing c.in-Ok.share.now was.number was.met.items c.args.chunk met was.of_chunks opened.few
+          c.in-Some-meet.ensures.0
           (ap (λ t. t.known) c.in-Some-meet.ensures.1 ∙ opened.value.0)
-          (subst (λ n. IfSome (slice_get c.args.self.now.growing.cells.items c.args.chunk) (λ x. n ≡ cell_name x))
-          (sym (ap (λ t. t.cell) c.in-Some-meet.ensures.1 ∙ opened.cell)) c.in-Some-note.ensures.1)
-          opened.shape;
+          (subst (λ n. IfSome (slice_get was.growing.cells.items c.args.chunk) (λ x. n ≡ cell_name x))
+          (sym (ap (λ t. t.cell) c.in-Some-meet.ensures.1 ∙ opened.cell)) c.in-Some.ensures.1)
+          opened.shape);
     }

@@ -1,8 +1,8 @@
 use Rattle.std.proofs.Common.{◌<◌, arith, length}
-use Rattle.sh_grown.specs.Steps.{move_most}
+use Rattle.sh_grown.specs.Steps.{steps_of}
 use Rattle.sh_grown.proofs.Full.{met_within, owns_after, place_is_met, refused_in}
 use Rattle.sh_grown.proofs.Keeping.{one_kept, place_found}
-use Rattle.sh_grown.proofs.Stepping.{one_set}
+use Rattle.sh_grown.proofs.CallSteps.{one_set}
 use Rattle.sh_grown.proofs.OfChunks.{keeps_of}
 use Rattle.sh_grown.proofs.caller.Caller.move_in.Goals as goal
 
@@ -28,8 +28,8 @@ returns-clause-refused c =
 pub returns-clause-steps : goal.returns-clause-steps
 returns-clause-steps c =
     let was = c.args.self.now in
-    one_set was.growing was.number move_most was.met.items c.args.chunk c.index_mut.result.now c.move_to.new.place
-    c.index_mut.ensures.value c.move_to.ensures.steps
+    one_set was.growing was.number (steps_of 0 0 1 0) was.met.items c.args.chunk c.index_mut.result.now
+    c.move_to.new.place was.of_chunks c.index_mut.ensures.value c.move_to.ensures.steps
 
 pub returns-clause-keeps : goal.returns-clause-keeps
 returns-clause-keeps c =

@@ -1,12 +1,18 @@
-use Rattle.std.proofs.Common.{length}
+use Rattle.std.proofs.Common.{◌≡◌, true, false, length}
+use Rattle.std.specs.Prelude.{ltb}
 use Rattle.sh_grown.specs.Callers.{Stays}
+use Rattle.sh_grown.specs.Inserts.{LeavesNone, OwnsNowhere}
 use Rattle.sh_grown.specs.Keeping.{KeepsMembers}
-use Rattle.sh_grown.specs.Steps.{TakesBelow, insert_most}
+use Rattle.sh_grown.specs.Refusals.{OwnedFull}
+use Rattle.sh_grown.specs.Steps.{Takes, steps_of}
 use Rattle.sh_grown.proofs.caller.Caller.try_own.Given as goal
 
 abbrev pub invariant-loop-number : goal.invariant-loop-number
 invariant-loop-number l = record {
   stays : Stays l.initial.self l.self;
   keeps : KeepsMembers l.initial.self.met.items l.self.met.items;
-  steps : TakesBelow l.number (insert_most (length l.value)) l.initial.self l.self;
+  own : l.owned ≡ true → OwnedFull l.value l.initial.self.met.items l.self.met.items;
+  leaves : LeavesNone l.initial.self.met.items l.self.met.items;
+  none : l.owned ≡ false → OwnsNowhere l.number l.initial.self.met.items;
+  steps : Takes (λ k. ltb k l.number) (λ s. steps_of 1 0 0 (length l.value)) l.initial.self l.self;
 }

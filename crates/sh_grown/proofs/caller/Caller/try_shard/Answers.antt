@@ -1,9 +1,8 @@
-use Rattle.std.proofs.Common.{◌+◌, length}
-use Rattle.sh_grown.specs.Refusals.{RefusedIn}
-use Rattle.sh_grown.specs.Steps.{again_most, collect_most, insert_most, move_most, shard_most}
-use Rattle.sh_grown.proofs.Full.{owner_refused, refused_none, refused_of, refused_try}
+use Rattle.std.proofs.Common.{arith, length}
+use Rattle.sh_grown.specs.Steps.{steps_of}
 use Rattle.sh_grown.proofs.Keeping.{tries_then}
-use Rattle.sh_grown.proofs.Stepping.{as_many, one_within, one_then, part_of, uncollected}
+use Rattle.sh_grown.proofs.Stepping.{one_then, one_within}
+use Rattle.sh_grown.proofs.Walked.{move_refused_in, move_tries, owner_refused}
 use Rattle.sh_grown.proofs.caller.Caller.try_shard.Goals as goal
 
 -- ---- with a collect
@@ -22,8 +21,8 @@ returns-in-Ok-clause-refused c collects =
 pub returns-in-Ok-clause-steps : goal.returns-in-Ok-clause-steps
 returns-in-Ok-clause-steps c =
     let words = length c.args.value.now in
-    one_then c.args.chunk move_most (again_most words) (shard_most words) c.args.self.now c.move_in.new.self
-    c.try_collected.new.self (λ s z. as_many (move_most s z + again_most words s z)) c.move_in.ensures.stays
+    one_then c.args.chunk (λ s. steps_of 0 0 1 0) (λ s. steps_of 1 1 0 words) (λ s. steps_of 1 1 1 words)
+    c.args.self.now c.move_in.new.self c.try_collected.new.self (λ s p. omega arith) c.move_in.ensures.stays
     c.move_in.ensures.steps c.try_collected.ensures.steps
 
 -- ---- with no collect
@@ -39,27 +38,24 @@ returns-in-Ok-2-clause-refused c collects = absurd (cc)
 pub returns-in-Ok-2-clause-steps : goal.returns-in-Ok-2-clause-steps
 returns-in-Ok-2-clause-steps c =
     let words = length c.args.value.now in
-    one_then c.args.chunk move_most (insert_most words) (shard_most words) c.args.self.now c.move_in.new.self
-    c.try_in.new.self (λ s z. uncollected (move_most s z) (collect_most s z) (insert_most words s z))
-    c.move_in.ensures.stays c.move_in.ensures.steps c.try_in.ensures.steps
+    one_then c.args.chunk (λ s. steps_of 0 0 1 0) (λ s. steps_of 1 0 0 words) (λ s. steps_of 1 1 1 words)
+    c.args.self.now c.move_in.new.self c.try_in.new.self (λ s p. omega arith) c.move_in.ensures.stays
+    c.move_in.ensures.steps c.try_in.ensures.steps
 
 -- ---- refused
 
 pub returns-in-Err-clause-tries : goal.returns-in-Err-clause-tries
 returns-in-Err-clause-tries c =
-    refused_try c.args.value.now c.args.self.now.met.items c.move_in.new.self.met.items c.in-Err.why
-    c.unless_memory.result c.unless_memory.ensures c.move_in.ensures.keeps
+    rw c.tried_by.ensures (move_tries c.args.value.now c.args.chunk c.args.shard c.args.self.now.met.items
+    c.move_in.new.self.met.items c.in-Err.why c.move_in.ensures.keeps c.in-Err.ensures.refused)
 
 pub returns-in-Err-clause-refused : goal.returns-in-Err-clause-refused
 returns-in-Err-clause-refused c collects =
-    refused_none
-    (RefusedIn c.args.value.now c.args.chunk c.args.shard c.args.self.now.met.items c.move_in.new.self.met.items)
-    c.in-Err.why c.unless_memory.result c.unless_memory.ensures
-    (refused_of c.args.value.now c.args.chunk c.args.shard c.args.self.now.met.items c.move_in.new.self.met.items
-    c.in-Err.why c.in-Err.ensures.refused)
+    rw c.tried_by.ensures (move_refused_in c.args.value.now c.args.chunk c.args.shard c.args.self.now.met.items
+    c.move_in.new.self.met.items c.in-Err.why c.in-Err.ensures.refused)
 
 pub returns-in-Err-clause-steps : goal.returns-in-Err-clause-steps
 returns-in-Err-clause-steps c =
     let words = length c.args.value.now in
-    one_within c.args.chunk move_most (shard_most words) c.args.self.now c.move_in.new.self
-    (λ s z. part_of (move_most s z) (again_most words s z)) c.move_in.ensures.steps
+    one_within c.args.chunk (λ s. steps_of 0 0 1 0) (λ s. steps_of 1 1 1 words) c.args.self.now c.move_in.new.self
+    (λ s p. omega arith) c.move_in.ensures.steps

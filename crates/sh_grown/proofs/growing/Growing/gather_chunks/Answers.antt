@@ -1,40 +1,15 @@
-use Rattle.std.proofs.Common.{◌≡◌, ◌+◌, ℕ, arith, inl, inr, length, refl, subst}
+use Rattle.std.proofs.Common.{length, subst}
+use Rattle.std.specs.Prelude.{IfOk}
 use Rattle.sh_grown.specs.Wholes.{CountsBelow, IsGathered}
-use Rattle.sh_grown.proofs.Wholes.{counts_more}
+use Rattle.sh_grown.proofs.Wholes.{none_told}
 use Rattle.sh_grown.proofs.growing.Growing.gather_chunks.Goals as goal
 
-pub loop-number-preserved-in_default : goal.loop-number-preserved-in_default
-loop-number-preserved-in_default c =
-    let i = c.loop-number.invariant in
-    let few = i.few in
-    let count = c.loop-number.gathered in
-    record {
-      end = i.end;
-      few = omega (arith, few);
-      below = counts_more c.args.self.now IsGathered c.loop-number.number count count i.below (inl refl);
-    }
-
-pub loop-number-preserved : goal.loop-number-preserved
-loop-number-preserved c =
-    let i = c.loop-number.invariant in
-    let few = i.few in
-    let count = c.loop-number.gathered in
-    record {
-      end = i.end;
-      few = omega (arith, few);
-      below = counts_more c.args.self.now IsGathered c.loop-number.number count (count + 1) i.below (inr (record {
-        chunk = c.in-Some.chunk;
-        own = c.in-Some.ensures.number;
-        of = c.in-Some.ensures.of;
-        so = c.in_ok-gather.ensures;
-        more = refl;
-      }));
-    }
+pub gather_told-requires : goal.gather_told-requires
+gather_told-requires c =
+    none_told c.args.self.now c.none-receipt.result.chunks.items c.none-receipt.ensures
 
 pub returns-clause-gathers : goal.returns-clause-gathers
 returns-clause-gathers c =
-    let i = c.loop-number.invariant in
-    let end = i.end in
-    let past = c.loop-number-test.false in
-    let all : c.loop-number.number ≡ length c.args.self.now.cells.items = omega (arith, end, past) in
-    subst (λ (k : ℕ). CountsBelow c.args.self.now IsGathered k c.loop-number.gathered) all i.below
+    subst (λ g. IfOk c.gather_told.result
+    (CountsBelow c.args.self.now g IsGathered (length c.args.self.now.cells.items)))
+    c.none-receipt.ensures c.gather_told.ensures.gathers

@@ -1,42 +1,14 @@
-use Rattle.std.proofs.Common.{◌≡◌, ℕ, arith, inl, inr, length, refl, subst}
+use Rattle.std.proofs.Common.{length, subst}
+use Rattle.std.specs.Prelude.{IfOk}
 use Rattle.sh_grown.specs.Sums.{SumsBelow}
-use Rattle.sh_grown.proofs.Sums.{at_most_more, at_most_stays, chunk_more}
+use Rattle.sh_grown.proofs.Wholes.{none_told}
 use Rattle.sh_grown.proofs.growing.Growing.totals.Goals as goal
 
-pub loop-number-preserved-in_default : goal.loop-number-preserved-in_default
-loop-number-preserved-in_default c =
-    let i = c.loop-number.invariant in
-    let number = c.loop-number.number in
-    let sums = c.loop-number.sums in
-    record {
-      end = i.end;
-      few = at_most_stays number sums i.few;
-      below = chunk_more c.args.self.now number sums sums i.below (inl refl);
-    }
-
-pub loop-number-preserved : goal.loop-number-preserved
-loop-number-preserved c =
-    let i = c.loop-number.invariant in
-    let number = c.loop-number.number in
-    let sums = c.loop-number.sums in
-    let more = c.with-sums.result in
-    record {
-      end = i.end;
-      few = at_most_more number sums more c.with-sums.ensures.few i.few;
-      below = chunk_more c.args.self.now number sums more i.below (inr (record {
-        chunk = c.in-Some.chunk;
-        own = c.in-Some.ensures.number;
-        of = c.in-Some.ensures.of;
-        told = c.in_ok-told.told;
-        are = c.in_ok-told.ensures;
-        sum = c.with-sums.ensures.sum;
-      }));
-    }
+pub totals_told-requires : goal.totals_told-requires
+totals_told-requires c =
+    none_told c.args.self.now c.none-receipt.result.chunks.items c.none-receipt.ensures
 
 pub returns-clause-sums : goal.returns-clause-sums
 returns-clause-sums c =
-    let i = c.loop-number.invariant in
-    let end = i.end in
-    let past = c.loop-number-test.false in
-    let all : c.loop-number.number ≡ length c.args.self.now.cells.items = omega (arith, end, past) in
-    subst (λ (k : ℕ). SumsBelow c.args.self.now k c.loop-number.sums) all i.below
+    subst (λ g. IfOk c.totals_told.result (SumsBelow c.args.self.now g (length c.args.self.now.cells.items)))
+    c.none-receipt.ensures c.totals_told.ensures.sums

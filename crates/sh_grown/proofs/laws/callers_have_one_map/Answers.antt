@@ -1,0 +1,5 @@
+use Rattle.sh_grown.proofs.OneMap as lemmas
+use Rattle.sh_grown.proofs.laws.callers_have_one_map.Goals as goal
+
+pub returns : goal.returns
+returns c = lemmas.callers_have_one_map
