@@ -46,6 +46,40 @@ struct Story {
     left: Option<u32>,
 }
 
+// Removes the key, and says what a fetch of it finds then.
+fn removed(owner: &mut Shard<'_, Wide>, key: u64) -> Result<&'static str, Refusal>
+    ensures { owner.new.pages.owner.heap ≡ owner.old.pages.owner.heap }
+{
+    owner.remove(key)?;
+    match owner.fetch(key) {
+        Ok(_) => Ok("a value"),
+        Err(why) => Ok(why.name()),
+    }
+}
+
+// Joins the three passes, and counts the values of the heap.
+fn live<'a>(
+    alloc: Global,
+    heap: &'a Heap<Wide>,
+    owner: Pass<'a, Wide>,
+    one: Pass<'a, Wide>,
+    two: Pass<'a, Wide>,
+) -> Result<Option<u32>, Refusal>
+    requires owner { owner.heap ≡ heap.now }
+    requires one { one.heap ≡ heap.now }
+    requires two { two.heap ≡ heap.now }
+{
+    let mut back = Vec::with_capacity(alloc, 3)?;
+    back.push_reserved(owner);
+    back.push_reserved(one);
+    back.push_reserved(two);
+    match gather(heap, back) {
+        Ok(mut all) => Ok(Some(total(&mut all).live)),
+        Err(_) => Ok(None),
+    }
+}
+
+// Stores a value, which both other passes read at the same time, and removes it.
 fn share<'a>(
     rt: &impl Threads,
     alloc: Global,
@@ -58,22 +92,11 @@ fn share<'a>(
     let (Some(owner), Some(one), Some(two)) = (passes.next(), passes.next(), passes.next()) else {
         return Err(Refusal::BadShape);
     };
-    let mut back = Vec::with_capacity(alloc, 3)?;
     let mut owner = Shard::adopt(alloc, owner, 0)?;
     let key = owner.insert(&Value::of([7, 8, 9]))?;
     let (one, two) = both(rt, Reading { pass: one, key }, Reading { pass: two, key });
-    owner.remove(key)?;
-    let after = match owner.fetch(key) {
-        Ok(_) => "a value",
-        Err(why) => why.name(),
-    };
-    back.push_reserved(owner.leave()?);
-    back.push_reserved(one.0);
-    back.push_reserved(two.0);
-    let left = match gather(heap, back) {
-        Ok(mut all) => Some(total(&mut all).live),
-        Err(_) => None,
-    };
+    let after = removed(&mut owner, key)?;
+    let left = live(alloc, heap, owner.leave()?, one.0, two.0)?;
     Ok(Story {
         key,
         first: one.1?,

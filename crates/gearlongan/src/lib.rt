@@ -119,13 +119,12 @@
 //! let count = pass.remove_if(|_key, value| value.words().first().is_some_and(|end| *end < now));
 //! ```
 //!
-//! An owner finds the live keys of its shard by `next_own_key`, one after the other, while other passes go on. Each key
-//! was live at a moment of its call. That a key which nobody removes is found is tested, and no contract says it:
+//! An owner walks over the live keys of its shard by `next_own_key`:
 //!
 //! ```text
 //! let mut place = 0;
-//! while let Some(next) = next_own_key(&mut owner, place)? {
-//!     place = next.behind;                // next.key was got and released
+//! while let Some(next) = next_own_key(&mut owner, place) {
+//!     place = next.behind;                // next.key was live
 //! }
 //! ```
 //!
@@ -199,7 +198,8 @@ pub use sh_gather::{
     PageAccounts, Totals, Whole, all_accounts, gather, join, next_key, total, whole,
 };
 pub use sh_grown::{
-    Caller, Chunk, Growing, GrowingShare, GrownGuard, GrownReceipt, GrownTotals, NotTold,
+    Caller, Chunk, Growing, GrowingShare, GrownGuard, GrownReceipt, GrownTotals, NotOpened,
+    NotTold, OpenChunks,
 };
 pub use sh_key::{Deep, KeyLayout, Tagged, Tiny, Wide};
 pub use sh_member::{NextHeld, NextLive, Reader, ToldKey, fetch_told, insert_told, next_own_key};

@@ -75,3 +75,17 @@ fn adopted<'a>(rt: &impl Abort, alloc: Global, pass: Pass<'a, Wide>) -> Shard<'a
     };
     owner
 }
+
+// Tells a story of an owner and of a pass that looks up values, on a new heap. It is a function that takes the story,
+// since what opens the heap would be proved anew in each test.
+fn on_a_heap<R: Abort, F: FnOnce(&R, &mut Shard<'_, Wide>, &mut Pass<'_, Wide>)>(
+    rt: &R,
+    alloc: Global,
+    story: F,
+)
+    requires { F.IsAlwaysCallable story }
+{
+    let (heap, seats) = opened(rt, alloc, 2);
+    let (mut owner, mut reader) = owner_and_reader(rt, alloc, &heap, seats);
+    story(rt, &mut owner, &mut reader);
+}

@@ -4,6 +4,7 @@ use crate::assertions::{agree, holds};
 use script_show::watch;
 use sh_script::{Cause, Fault};
 use std::alloc::Global;
+use std::process::Abort;
 use std::test::Fail;
 
 const OPENING: &str = "heap tiny 2 1 2\n0 Adopt 0\n0 Read 0.0\n0 SetClass 0.0 7\n";
@@ -52,6 +53,19 @@ fn trace_of(alloc: Global, lines: &str) -> Result<String, Fail> {
     }
 }
 
+// Asserts that the trace of these lines after the opening has this part.
+fn has(rt: &impl Abort, alloc: Global, lines: &str, part: &str) -> Result<(), Fail> {
+    let text = trace_of(alloc, lines)?;
+    holds(rt, text.as_str().contains(part));
+    Ok(())
+}
+
+// The same of lines after those by which pass 1 holds a key.
+fn has_once_held(rt: &impl Abort, alloc: Global, lines: &str, part: &str) -> Result<(), Fail> {
+    let lines = format!(in alloc; "{HELD}{lines}")?;
+    has(rt, alloc, lines.as_str(), part)
+}
+
 #[test]
 fn each_event_is_told_behind_its_line(rt: HostRuntime) -> Result<(), Fail> {
     let script = "heap tiny 1 1 2\n0 Adopt 0\n; a page\n0 Read 0.0\n0 SetClass 0.0 7\n";
@@ -61,164 +75,175 @@ fn each_event_is_told_behind_its_line(rt: HostRuntime) -> Result<(), Fail> {
     Ok(())
 }
 
+const FAULTS: [(&str, Fault); 12] = [
+    ("", Fault::Script(1, Cause::Header)),
+    ("; nothing\n", Fault::Script(2, Cause::Header)),
+    ("version 2\n", Fault::Script(2, Cause::Header)),
+    ("heap tiny 1 1\n", Fault::Script(1, Cause::Header)),
+    ("; a\n\n  ; b\n0 Mark\n", Fault::Script(4, Cause::Header)),
+    (
+        ";\nversion 2\n;\nheap tagged 1 1 1\n",
+        Fault::Script(4, Cause::Header),
+    ),
+    (
+        ";\nversion 2\n;\nheap tagged 1 1 1 tag 7\n;\n0 Take\n",
+        Fault::Script(6, Cause::Count),
+    ),
+    (";\n\t\n", Fault::Script(2, Cause::Byte)),
+    ("heap tiny 5 1 1\n", Fault::BadShape),
+    (
+        "heap tiny 1 1 1\n0 Adopt 0\n0 adopt 0\n",
+        Fault::Script(3, Cause::Command),
+    ),
+    (
+        "heap tiny 1 1 1\n;\n0 Adopt 0",
+        Fault::Script(3, Cause::Cut),
+    ),
+    ("heap tiny 1 1 1\n1 Mark\n", Fault::Script(2, Cause::Pass)),
+];
+
 #[test]
-fn faults_name_the_line_of_the_script(rt: HostRuntime) -> Result<(), Fail> {
-    let table = [
-        ("", Fault::Script(1, Cause::Header)),
-        ("; nothing\n", Fault::Script(2, Cause::Header)),
-        ("version 2\n", Fault::Script(2, Cause::Header)),
-        ("heap tiny 1 1\n", Fault::Script(1, Cause::Header)),
-        ("; a\n\n  ; b\n0 Mark\n", Fault::Script(4, Cause::Header)),
-        (
-            ";\nversion 2\n;\nheap tagged 1 1 1\n",
-            Fault::Script(4, Cause::Header),
-        ),
-        (
-            ";\nversion 2\n;\nheap tagged 1 1 1 tag 7\n;\n0 Take\n",
-            Fault::Script(6, Cause::Count),
-        ),
-        (";\n\t\n", Fault::Script(2, Cause::Byte)),
-        ("heap tiny 5 1 1\n", Fault::BadShape),
-        (
-            "heap tiny 1 1 1\n0 Adopt 0\n0 adopt 0\n",
-            Fault::Script(3, Cause::Command),
-        ),
-        (
-            "heap tiny 1 1 1\n;\n0 Adopt 0",
-            Fault::Script(3, Cause::Cut),
-        ),
-        ("heap tiny 1 1 1\n1 Mark\n", Fault::Script(2, Cause::Pass)),
-    ];
-    for (script, fault) in table {
+fn faults_name_the_line_of_the_script(rt: HostRuntime) {
+    for (script, fault) in &FAULTS {
         let (ended, _) = trace(rt.alloc(), script);
-        agree(&rt, ended, Err(fault));
+        agree(&rt, ended, Err(*fault));
     }
-    Ok(())
 }
+
+// Lines after the opening, of which the last is skipped, and the reason.
+const SKIPPED: [(&str, &str); 24] = [
+    (
+        "0 Mark\n",
+        "the pass has begun nothing that goes on with this",
+    ),
+    ("0 Enter get 1\n", "the key names no slot of this heap"),
+    ("1 Drop 4096\n", "the pass has no hold on this key"),
+    ("1 Take 0.0\n", "the pass does not own the shard"),
+    ("0 Take 0.9\n", "the heap has no such page"),
+    (
+        "0 Take 0.1\n",
+        "the pass has not noted the class of the page",
+    ),
+    ("0 Read 0.1\n0 Take 0.1\n", "the page has no class"),
+    (
+        "0 Follow 0.0\n",
+        "the pass has no chain of the page to follow",
+    ),
+    ("0 Put 0.0.48\n", "the heap has no such slot"),
+    ("0 Put 0.0.3\n", "the slot is not the pass's own"),
+    (
+        "0 Arm 0.0\n0 Arm 0.0\n",
+        "the pass has armed the page already",
+    ),
+    ("0 Adopt 1\n", "the pass owns a shard already"),
+    ("1 Adopt 2\n", "the heap has no such shard"),
+    ("1 Leave\n", "the pass owns no shard"),
+    ("0 Leave\n", "a slot of the shard is still the pass's own"),
+    (
+        "0 FollowBell\n",
+        "the pass has no chain of the bell to follow",
+    ),
+    ("0 SetClass 0.0 8\n", "there is no such class"),
+    (
+        "0 Fill 0.0.0 1\n0 Publish\n",
+        "words of the value are not stored yet",
+    ),
+    (
+        "0 Fill 0.0.0\n0 Fill\n",
+        "all words of the value are stored",
+    ),
+    (
+        "0 Fill 0.0.0\n0 Fill 0.0.1\n",
+        "the pass has begun something else",
+    ),
+    (
+        "0 Put 0.0.2\n0 Tie\n0 SetClass 0.0 1\n",
+        "not all slots of the page are the pass's own",
+    ),
+    (
+        "0 Read 0.1\n0 SetClass 0.1 0\n0 Fill 0.1.0 1 2\n",
+        "the value is longer than a slot of the page",
+    ),
+    (
+        "0 Put 0.0.2\n0 Tie\n0 Take 0.0\n0 Arm 0.0\n",
+        "the pass has yet to follow the chain of a page",
+    ),
+    (
+        "0 Arm 0.0\n0 Leave\n",
+        "the pass has armed a page, and was not told of a ring for it",
+    ),
+];
 
 #[test]
 fn skipped_events_say_why(rt: HostRuntime) -> Result<(), Fail> {
-    let table = [
-        (
-            "0 Mark\n",
-            "the pass has begun nothing that goes on with this",
-        ),
-        ("0 Enter get 1\n", "the key names no slot of this heap"),
-        ("1 Drop 4096\n", "the pass has no hold on this key"),
-        ("1 Take 0.0\n", "the pass does not own the shard"),
-        ("0 Take 0.9\n", "the heap has no such page"),
-        (
-            "0 Take 0.1\n",
-            "the pass has not noted the class of the page",
-        ),
-        ("0 Read 0.1\n0 Take 0.1\n", "the page has no class"),
-        (
-            "0 Follow 0.0\n",
-            "the pass has no chain of the page to follow",
-        ),
-        ("0 Put 0.0.48\n", "the heap has no such slot"),
-        ("0 Put 0.0.3\n", "the slot is not the pass's own"),
-        (
-            "0 Arm 0.0\n0 Arm 0.0\n",
-            "the pass has armed the page already",
-        ),
-        ("0 Adopt 1\n", "the pass owns a shard already"),
-        ("1 Adopt 2\n", "the heap has no such shard"),
-        ("1 Leave\n", "the pass owns no shard"),
-        ("0 Leave\n", "a slot of the shard is still the pass's own"),
-        (
-            "0 FollowBell\n",
-            "the pass has no chain of the bell to follow",
-        ),
-        ("0 SetClass 0.0 8\n", "there is no such class"),
-        (
-            "0 Fill 0.0.0 1\n0 Publish\n",
-            "words of the value are not stored yet",
-        ),
-        (
-            "0 Fill 0.0.0\n0 Fill\n",
-            "all words of the value are stored",
-        ),
-        (
-            "0 Fill 0.0.0\n0 Fill 0.0.1\n",
-            "the pass has begun something else",
-        ),
-        (
-            "0 Put 0.0.2\n0 Tie\n0 SetClass 0.0 1\n",
-            "not all slots of the page are the pass's own",
-        ),
-        (
-            "0 Read 0.1\n0 SetClass 0.1 0\n0 Fill 0.1.0 1 2\n",
-            "the value is longer than a slot of the page",
-        ),
-        (
-            "0 Put 0.0.2\n0 Tie\n0 Take 0.0\n0 Arm 0.0\n",
-            "the pass has yet to follow the chain of a page",
-        ),
-        (
-            "0 Arm 0.0\n0 Leave\n",
-            "the pass has armed a page, and was not told of a ring for it",
-        ),
-    ];
-    for (lines, reason) in table {
-        let text = trace_of(rt.alloc(), lines)?;
-        holds(&rt, text.as_str().contains(reason));
+    for (lines, reason) in &SKIPPED {
+        has(&rt, rt.alloc(), lines, reason)?;
     }
     Ok(())
 }
+
+// Lines after the opening, and a part of the trace.
+const LINKS: [(&str, &str); 6] = [
+    ("0 Put 0.0.2\n", "    stack: 2 ~> end\n"),
+    (
+        "0 Put 0.0.2\n",
+        "    slot 2: Empty, generation 1, count 0; queued, pass 0 owes its link to the end\n",
+    ),
+    (
+        "0 Put 0.0.2\n0 Tie\n0 Put 0.0.0\n",
+        "    stack: 0 ~> 2 -> end\n",
+    ),
+    (
+        "0 Put 0.0.2\n0 Tie\n0 Put 0.0.0\n0 Tie\n0 Take 0.0\n",
+        "    chain: 0 -> 2 -> end\n",
+    ),
+    (
+        "0 Put 0.0.2\n0 Tie\n",
+        "    slot 2: Empty, generation 1, count 0; queued, linked to the end\n",
+    ),
+    ("1 Adopt 0\n", "1 Adopt moved: the shard has an owner\n"),
+];
 
 #[test]
 fn links_are_told_with_those_who_owe_them(rt: HostRuntime) -> Result<(), Fail> {
-    let table = [
-        ("0 Put 0.0.2\n", "    stack: 2 ~> end\n"),
-        (
-            "0 Put 0.0.2\n",
-            "    slot 2: Empty, generation 1, count 0; queued, pass 0 owes its link to the end\n",
-        ),
-        (
-            "0 Put 0.0.2\n0 Tie\n0 Put 0.0.0\n",
-            "    stack: 0 ~> 2 -> end\n",
-        ),
-        (
-            "0 Put 0.0.2\n0 Tie\n0 Put 0.0.0\n0 Tie\n0 Take 0.0\n",
-            "    chain: 0 -> 2 -> end\n",
-        ),
-        (
-            "0 Put 0.0.2\n0 Tie\n",
-            "    slot 2: Empty, generation 1, count 0; queued, linked to the end\n",
-        ),
-        ("1 Adopt 0\n", "1 Adopt moved: the shard has an owner\n"),
-    ];
-    for (lines, part) in table {
-        let text = trace_of(rt.alloc(), lines)?;
-        holds(&rt, text.as_str().contains(part));
+    for (lines, part) in &LINKS {
+        has(&rt, rt.alloc(), lines, part)?;
     }
     Ok(())
 }
 
+// Lines after those by which pass 1 holds a key, and the reason of the last.
+const READS_SKIPPED: [(&str, &str); 4] = [
+    (
+        "1 Read 4096 2\n",
+        "the pass has not read the class of this key",
+    ),
+    (
+        "1 Read 4096 0\n1 Read 4096 2\n",
+        "the pass has not read the length of this key's value",
+    ),
+    (
+        "1 Read 4096 0\n1 Read 4096 1\n1 Read 4096 3\n",
+        "the value has no such word",
+    ),
+    ("0 Read 4096 0\n", "the pass has no hold on this key"),
+];
+
 #[test]
 fn reads_that_are_skipped_say_why(rt: HostRuntime) -> Result<(), Fail> {
-    let table = [
-        (
-            "1 Read 4096 2\n",
-            "the pass has not read the class of this key",
-        ),
-        (
-            "1 Read 4096 0\n1 Read 4096 2\n",
-            "the pass has not read the length of this key's value",
-        ),
-        (
-            "1 Read 4096 0\n1 Read 4096 1\n1 Read 4096 3\n",
-            "the value has no such word",
-        ),
-        ("0 Read 4096 0\n", "the pass has no hold on this key"),
-    ];
-    for (lines, reason) in table {
-        let lines = format!(in rt.alloc(); "{HELD}{lines}")?;
-        let text = trace_of(rt.alloc(), lines.as_str())?;
-        holds(&rt, text.as_str().contains(reason));
+    for (lines, reason) in &READS_SKIPPED {
+        has_once_held(&rt, rt.alloc(), lines, reason)?;
     }
     Ok(())
+}
+
+// Asserts that the run of a script ends well, and that its trace has both parts.
+fn says_both(rt: &impl Abort, alloc: Global, script: &str, one: &str, other: &str) {
+    let (ended, output) = trace(alloc, script);
+    agree(rt, ended, Ok(()));
+    let text = String::from_utf8(output).expect(rt, "it is a text");
+    holds(rt, text.as_str().contains(one));
+    holds(rt, text.as_str().contains(other));
 }
 
 #[test]
@@ -230,48 +255,40 @@ fn a_pass_has_16_holds_at_most(rt: HostRuntime) -> Result<(), Fail> {
     for _ in 0..17 {
         script.push_str("0 Enter get 16777216\n")?;
     }
-    let (ended, output) = trace(rt.alloc(), script.as_str());
-    agree(&rt, ended, Ok(()));
-    let text = String::from_utf8(output).expect(&rt, "it is a text");
-    holds(&rt, text.as_str().contains("holds 16777216 16 times\n"));
-    holds(
+    says_both(
         &rt,
-        text.as_str()
-            .contains("0 Enter skipped: the pass has 16 holds already\n"),
+        rt.alloc(),
+        script.as_str(),
+        "holds 16777216 16 times\n",
+        "0 Enter skipped: the pass has 16 holds already\n",
     );
     Ok(())
 }
 
+// Lines after those by which pass 1 holds a key, and a part of the trace.
+const HOLDS: [(&str, &str); 3] = [
+    ("", "  pass 1: idle; holds 4096\n"),
+    ("1 Enter get 4096\n", "  pass 1: idle; holds 4096 2 times\n"),
+    ("1 Enter get 4096\n1 Drop 4096\n", "1 Drop Released 4096\n"),
+];
+
 #[test]
 fn holds_are_counted(rt: HostRuntime) -> Result<(), Fail> {
-    let table = [
-        ("", "  pass 1: idle; holds 4096\n"),
-        ("1 Enter get 4096\n", "  pass 1: idle; holds 4096 2 times\n"),
-        ("1 Enter get 4096\n1 Drop 4096\n", "1 Drop Released 4096\n"),
-    ];
-    for (lines, part) in table {
-        let lines = format!(in rt.alloc(); "{HELD}{lines}")?;
-        let text = trace_of(rt.alloc(), lines.as_str())?;
-        holds(&rt, text.as_str().contains(part));
+    for (lines, part) in &HOLDS {
+        has_once_held(&rt, rt.alloc(), lines, part)?;
     }
     Ok(())
 }
 
 #[test]
-fn keys_have_the_tag_of_the_header(rt: HostRuntime) -> Result<(), Fail> {
+fn keys_have_the_tag_of_the_header(rt: HostRuntime) {
     let script =
         "version 2\nheap tagged 1 1 1 tag 1\n0 Enter get 1048576\n0 Enter get 72057594038976512\n";
-    let (ended, output) = trace(rt.alloc(), script);
-    agree(&rt, ended, Ok(()));
-    let text = String::from_utf8(output).expect(&rt, "it is a text");
-    holds(
+    says_both(
         &rt,
-        text.as_str()
-            .contains("0 Enter skipped: the key has not the tag of the header\n"),
+        rt.alloc(),
+        script,
+        "0 Enter skipped: the key has not the tag of the header\n",
+        "0 Enter Gone 72057594038976512\n",
     );
-    holds(
-        &rt,
-        text.as_str().contains("0 Enter Gone 72057594038976512\n"),
-    );
-    Ok(())
 }

@@ -70,20 +70,25 @@ fn live<'a>(
     total(&mut all).live
 }
 
+// What all passes together know of eight pages, one of which has a value.
+fn one_value_is_counted(rt: &impl Abort, alloc: Global, all: &mut Whole<'_, Wide>) {
+    let page = all.accounts(0, 0).expect(rt, "a page");
+    agree(rt, (page.class, page.live, page.queued), (Some(0), 1, 47));
+    agree(rt, all.accounts(0, 8), None);
+    let totals = total(all);
+    let counts = (totals.live, totals.used_pages, totals.blank_pages);
+    agree(rt, counts, (1, 1, 7));
+    let pages = all_accounts(alloc, all).expect(rt, "the accounts");
+    agree(rt, pages.len(), 8);
+}
+
 #[test]
 fn passes_that_met_know_what_each_page_has(rt: HostRuntime) {
     let (heap, seats) = opened(&rt, rt.alloc(), 2);
     let (owner, reader) = owner_and_reader(&rt, rt.alloc(), &heap, seats);
     let (pass, _) = owner_left(&rt, owner, &Value::from(7));
     let mut all = all_of_two(&rt, pass, reader);
-    let page = all.accounts(0, 0).expect(&rt, "a page");
-    agree(&rt, (page.class, page.live, page.queued), (Some(0), 1, 47));
-    agree(&rt, all.accounts(0, 8), None);
-    let totals = total(&mut all);
-    let counts = (totals.live, totals.used_pages, totals.blank_pages);
-    agree(&rt, counts, (1, 1, 7));
-    let pages = all_accounts(rt.alloc(), &mut all).expect(&rt, "the accounts");
-    agree(&rt, pages.len(), 8);
+    one_value_is_counted(&rt, rt.alloc(), &mut all);
 }
 
 #[test]

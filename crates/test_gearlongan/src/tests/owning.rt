@@ -1,5 +1,5 @@
 //! Tests of adopting, preparing and leaving a shard.
-use super::{adopted, agree, left, opened, owner_and_reader};
+use super::{adopted, agree, left, on_a_heap, opened, owner_and_reader};
 use gearlongan::{Pass, Reader, Refusal, Shard, Value, Wide};
 use std::alloc::Global;
 use std::process::Abort;
@@ -40,39 +40,63 @@ fn what_one_owner_stored_the_next_removes(rt: HostRuntime) {
     agree(&rt, pass.remove(key), Err(Refusal::Gone));
 }
 
-#[test]
-fn a_page_is_made_ready_for_values_of_a_class(rt: HostRuntime) {
-    let (heap, seats) = opened(&rt, rt.alloc(), 2);
-    let (mut owner, _) = owner_and_reader(&rt, rt.alloc(), &heap, seats);
-    // Class 0 is that of values of one word, and class 1 that of values of two.
-    agree(&rt, owner.prepare(0), Ok(0));
-    agree(&rt, owner.prepare(1), Ok(1));
-    let two = owner.insert(&Value::of([7, 8])).expect(&rt, "a key");
-    let one = owner.insert(&Value::from(9)).expect(&rt, "a key");
-    agree(&rt, owner.fetch(two), Ok(Value::of([7, 8])));
-    agree(&rt, owner.fetch(one), Ok(Value::from(9)));
+// Makes a page ready for values of one word and one for values of two, and stores both. Class 0 is that of values of
+// one word, and class 1 that of values of two.
+fn prepare_two_pages(rt: &impl Abort, owner: &mut Shard<'_, Wide>, _reader: &mut Pass<'_, Wide>) {
+    agree(rt, owner.prepare(0), Ok(0));
+    agree(rt, owner.prepare(1), Ok(1));
+    let two = owner.insert(&Value::of([7, 8])).expect(rt, "a key");
+    let one = owner.insert(&Value::from(9)).expect(rt, "a key");
+    agree(rt, owner.fetch(two), Ok(Value::of([7, 8])));
+    agree(rt, owner.fetch(one), Ok(Value::from(9)));
 }
 
-// Counts the pages that are left and the slots that are out, as values come and go.
-fn count_what_is_out(rt: &impl Abort, owner: &mut Shard<'_, Wide>, reader: &mut Pass<'_, Wide>) {
-    agree(rt, owner.pages_left(), 8);
-    agree(rt, owner.slots_out(), 0);
+#[test]
+fn a_page_is_made_ready_for_values_of_a_class(rt: HostRuntime) {
+    on_a_heap(&rt, rt.alloc(), prepare_two_pages);
+}
+
+// Asserts that so many pages are left and slots are out.
+fn count(rt: &impl Abort, owner: &Shard<'_, Wide>, pages_left: u64, slots_out: u64) {
+    agree(rt, owner.pages_left(), pages_left);
+    agree(rt, owner.slots_out(), slots_out);
+}
+
+// Counts what is left and what is out, as two values come.
+fn count_inserts(rt: &impl Abort, owner: &mut Shard<'_, Wide>) -> (u64, u64) {
+    count(rt, owner, 8, 0);
     let first = owner.insert(&Value::from(1)).expect(rt, "a key");
     let second = owner.insert(&Value::from(2)).expect(rt, "a key");
-    agree(rt, owner.pages_left(), 7);
-    agree(rt, owner.slots_out(), 2);
-    agree(rt, owner.remove(first), Ok(()));
-    agree(rt, owner.slots_out(), 1);
-    // What another pass removes is out until the owner collects it.
-    agree(rt, reader.remove(second), Ok(()));
-    agree(rt, owner.slots_out(), 1);
+    count(rt, owner, 7, 2);
+    (first, second)
+}
+
+// The same as a value goes. What another pass removes is out until the owner collects it.
+fn count_removals(
+    rt: &impl Abort,
+    owner: &mut Shard<'_, Wide>,
+    reader: &mut Pass<'_, Wide>,
+    keys: (u64, u64),
+) {
+    agree(rt, owner.remove(keys.0), Ok(()));
+    count(rt, owner, 7, 1);
+    agree(rt, reader.remove(keys.1), Ok(()));
+    count(rt, owner, 7, 1);
     owner.collect();
-    agree(rt, owner.slots_out(), 0);
+    count(rt, owner, 7, 0);
+}
+
+// Both.
+fn count_inserts_and_removals(
+    rt: &impl Abort,
+    owner: &mut Shard<'_, Wide>,
+    reader: &mut Pass<'_, Wide>,
+) {
+    let keys = count_inserts(rt, owner);
+    count_removals(rt, owner, reader, keys);
 }
 
 #[test]
 fn an_owner_knows_how_full_its_shard_is(rt: HostRuntime) {
-    let (heap, seats) = opened(&rt, rt.alloc(), 2);
-    let (mut owner, mut reader) = owner_and_reader(&rt, rt.alloc(), &heap, seats);
-    count_what_is_out(&rt, &mut owner, &mut reader);
+    on_a_heap(&rt, rt.alloc(), count_inserts_and_removals);
 }

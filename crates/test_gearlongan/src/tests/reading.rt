@@ -1,5 +1,5 @@
 //! Tests of looking up, holding and reading a value.
-use super::{FIRST_KEY, agree, opened, owner_and_reader};
+use super::{FIRST_KEY, agree, on_a_heap};
 use gearlongan::{Hold, Pass, Reader, Refusal, Shard, Value, Wide};
 use std::process::Abort;
 
@@ -17,9 +17,7 @@ fn get_read_and_release(rt: &impl Abort, owner: &mut Shard<'_, Wide>, reader: &m
 
 #[test]
 fn a_key_is_got_read_and_released(rt: HostRuntime) {
-    let (heap, seats) = opened(&rt, rt.alloc(), 2);
-    let (mut owner, mut reader) = owner_and_reader(&rt, rt.alloc(), &heap, seats);
-    get_read_and_release(&rt, &mut owner, &mut reader);
+    on_a_heap(&rt, rt.alloc(), get_read_and_release);
 }
 
 // Reads into a value of its own, while the key is held and after it.
@@ -40,9 +38,7 @@ fn read_into_ones_own(rt: &impl Abort, owner: &mut Shard<'_, Wide>, reader: &mut
 
 #[test]
 fn a_value_is_read_into_the_callers(rt: HostRuntime) {
-    let (heap, seats) = opened(&rt, rt.alloc(), 2);
-    let (mut owner, mut reader) = owner_and_reader(&rt, rt.alloc(), &heap, seats);
-    read_into_ones_own(&rt, &mut owner, &mut reader);
+    on_a_heap(&rt, rt.alloc(), read_into_ones_own);
 }
 
 // Reads by a guard.
@@ -58,49 +54,62 @@ fn read_by_a_guard(rt: &impl Abort, owner: &mut Shard<'_, Wide>, reader: &mut Pa
 
 #[test]
 fn a_guard_is_a_hold_that_keeps_its_place(rt: HostRuntime) {
-    let (heap, seats) = opened(&rt, rt.alloc(), 2);
-    let (mut owner, mut reader) = owner_and_reader(&rt, rt.alloc(), &heap, seats);
-    read_by_a_guard(&rt, &mut owner, &mut reader);
+    on_a_heap(&rt, rt.alloc(), read_by_a_guard);
 }
 
-// Fetches a value, looks at it in place, and takes it; then it is gone.
+// Asserts that each of these calls finds the key gone, and that 0 is no key.
+fn fetch_and_take_nothing(rt: &impl Abort, reader: &mut Pass<'_, Wide>, key: u64) {
+    agree(rt, reader.fetch(key), Err(Refusal::Gone));
+    let length = reader.with(key, |value| value.words().len());
+    agree(rt, length, Err(Refusal::Gone));
+    agree(rt, reader.take(key), Err(Refusal::Gone));
+    agree(rt, reader.fetch(0), Err(Refusal::BadKey));
+}
+
+// Fetches a value, looks at it in place, and takes it. Then the key is gone.
 fn fetch_and_take(rt: &impl Abort, owner: &mut Shard<'_, Wide>, reader: &mut Pass<'_, Wide>) {
     let key = owner.insert(&Value::of([7, 8, 9])).expect(rt, "a key");
     agree(rt, reader.fetch(key), Ok(Value::of([7, 8, 9])));
     agree(rt, reader.with(key, |value| value.words().len()), Ok(3));
     agree(rt, owner.take(key), Ok(Value::of([7, 8, 9])));
-    agree(rt, reader.fetch(key), Err(Refusal::Gone));
-    agree(
-        rt,
-        reader.with(key, |value| value.words().len()),
-        Err(Refusal::Gone),
-    );
-    agree(rt, reader.take(key), Err(Refusal::Gone));
-    agree(rt, reader.fetch(0), Err(Refusal::BadKey));
+    fetch_and_take_nothing(rt, reader, key);
+}
+
+// Takes as many holds on a key as a pass may have.
+fn take_all_holds(rt: &impl Abort, reader: &mut Pass<'_, Wide>, key: u64) {
+    for _ in 0..16 {
+        agree(rt, reader.get(key), Ok(Hold { key }));
+    }
+    agree(rt, reader.take(key), Err(Refusal::HoldsFull));
+}
+
+// Looks at the value, and into a value of its own.
+fn look_twice(rt: &impl Abort, reader: &mut Pass<'_, Wide>, key: u64, value: &mut Value) {
+    agree(rt, reader.look(key), Ok(Value::of([7, 8, 9])));
+    agree(rt, reader.look_into(key, value), Ok(()));
+    agree(rt, value.words(), [7, 8, 9].as_slice());
+}
+
+// Asserts that both looks find the key gone, and leave the value as it is.
+fn look_at_nothing(rt: &impl Abort, reader: &mut Pass<'_, Wide>, key: u64, value: &mut Value) {
+    agree(rt, reader.look(key), Err(Refusal::Gone));
+    agree(rt, reader.look_into(key, value), Err(Refusal::Gone));
+    agree(rt, value.words(), [7, 8, 9].as_slice());
 }
 
 // Looks at a value with as many holds as a pass may have, and once more when the key is gone.
 fn look_with_holds(rt: &impl Abort, owner: &mut Shard<'_, Wide>, reader: &mut Pass<'_, Wide>) {
     let key = owner.insert(&Value::of([7, 8, 9])).expect(rt, "a key");
-    for _ in 0..16 {
-        agree(rt, reader.get(key), Ok(Hold { key }));
-    }
-    agree(rt, reader.take(key), Err(Refusal::HoldsFull));
-    agree(rt, reader.look(key), Ok(Value::of([7, 8, 9])));
+    take_all_holds(rt, reader, key);
     let mut value = Value::from(5);
-    agree(rt, reader.look_into(key, &mut value), Ok(()));
-    agree(rt, value.words(), [7, 8, 9].as_slice());
+    look_twice(rt, reader, key, &mut value);
     agree(rt, owner.remove(key), Ok(()));
-    agree(rt, reader.look(key), Err(Refusal::Gone));
-    agree(rt, reader.look_into(key, &mut value), Err(Refusal::Gone));
-    agree(rt, value.words(), [7, 8, 9].as_slice());
+    look_at_nothing(rt, reader, key, &mut value);
 }
 
 #[test]
 fn a_look_needs_no_hold(rt: HostRuntime) {
-    let (heap, seats) = opened(&rt, rt.alloc(), 2);
-    let (mut owner, mut reader) = owner_and_reader(&rt, rt.alloc(), &heap, seats);
-    look_with_holds(&rt, &mut owner, &mut reader);
+    on_a_heap(&rt, rt.alloc(), look_with_holds);
 }
 
 // Fetches into a value of its own, and once more when the key is gone.
@@ -116,45 +125,59 @@ fn fetch_into_ones_own(rt: &impl Abort, owner: &mut Shard<'_, Wide>, reader: &mu
 
 #[test]
 fn a_value_is_fetched_into_the_callers(rt: HostRuntime) {
-    let (heap, seats) = opened(&rt, rt.alloc(), 2);
-    let (mut owner, mut reader) = owner_and_reader(&rt, rt.alloc(), &heap, seats);
-    fetch_into_ones_own(&rt, &mut owner, &mut reader);
+    on_a_heap(&rt, rt.alloc(), fetch_into_ones_own);
 }
 
-// Fetches and gets three keys at a time: one was removed, and one is no key. Each has its own result.
-fn fetch_and_get_each(rt: &impl Abort, owner: &mut Shard<'_, Wide>, reader: &mut Pass<'_, Wide>) {
+// Stores two values, and removes the second.
+fn store_and_remove(rt: &impl Abort, owner: &mut Shard<'_, Wide>) -> (u64, u64) {
     let key = owner.insert(&Value::of([7, 8])).expect(rt, "a key");
     let gone = owner.insert(&Value::from(9)).expect(rt, "a key");
     agree(rt, owner.remove(gone), Ok(()));
-    let keys = [gone, 0, key];
+    (key, gone)
+}
+
+// Fetches three keys at a time: one was removed, and one is no key. Each has its own result.
+fn fetch_three(rt: &impl Abort, reader: &mut Pass<'_, Wide>, key: u64, gone: u64) {
     let mut values = [Ok(Value::from(0)), Ok(Value::from(0)), Ok(Value::from(0))];
-    reader.fetch_each(&keys, &mut values);
+    reader.fetch_each(&[gone, 0, key], &mut values);
     let [first, second, third] = values;
     agree(rt, first, Err(Refusal::Gone));
     agree(rt, second, Err(Refusal::BadKey));
     agree(rt, third, Ok(Value::of([7, 8])));
+}
+
+// Gets the same three.
+fn get_three(rt: &impl Abort, owner: &mut Shard<'_, Wide>, key: u64, gone: u64) {
     let mut holds = [Err(Refusal::Full), Err(Refusal::Full), Err(Refusal::Full)];
-    owner.get_each(&keys, &mut holds);
+    owner.get_each(&[gone, 0, key], &mut holds);
     agree(rt, holds[0], Err(Refusal::Gone));
     agree(rt, holds[1], Err(Refusal::BadKey));
     agree(rt, holds[2], Ok(Hold { key }));
-    agree(rt, owner.read(Hold { key }), Ok(Value::of([7, 8])));
-    agree(rt, owner.release(Hold { key }), Ok(()));
-    agree(rt, owner.release(Hold { key }), Err(Refusal::NotHeld));
+}
+
+// Reads by a hold and gives it back, once.
+fn read_and_release(rt: &impl Abort, owner: &mut Shard<'_, Wide>, hold: Hold) {
+    agree(rt, owner.read(hold), Ok(Value::of([7, 8])));
+    agree(rt, owner.release(hold), Ok(()));
+    agree(rt, owner.release(hold), Err(Refusal::NotHeld));
+}
+
+// Both, of values that are there and not.
+fn fetch_and_get_three(rt: &impl Abort, owner: &mut Shard<'_, Wide>, reader: &mut Pass<'_, Wide>) {
+    let (key, gone) = store_and_remove(rt, owner);
+    fetch_three(rt, reader, key, gone);
+    get_three(rt, owner, key, gone);
+    read_and_release(rt, owner, Hold { key });
 }
 
 #[test]
 fn a_batch_has_a_result_for_each_key(rt: HostRuntime) {
-    let (heap, seats) = opened(&rt, rt.alloc(), 2);
-    let (mut owner, mut reader) = owner_and_reader(&rt, rt.alloc(), &heap, seats);
-    fetch_and_get_each(&rt, &mut owner, &mut reader);
+    on_a_heap(&rt, rt.alloc(), fetch_and_get_three);
 }
 
 #[test]
 fn fetch_with_and_take_leave_no_hold(rt: HostRuntime) {
-    let (heap, seats) = opened(&rt, rt.alloc(), 2);
-    let (mut owner, mut reader) = owner_and_reader(&rt, rt.alloc(), &heap, seats);
-    fetch_and_take(&rt, &mut owner, &mut reader);
+    on_a_heap(&rt, rt.alloc(), fetch_and_take);
 }
 
 // Holds a key that its owner removes.
@@ -170,7 +193,5 @@ fn hold_and_remove(rt: &impl Abort, owner: &mut Shard<'_, Wide>, reader: &mut Pa
 
 #[test]
 fn what_is_held_stays_readable_when_it_is_removed(rt: HostRuntime) {
-    let (heap, seats) = opened(&rt, rt.alloc(), 2);
-    let (mut owner, mut reader) = owner_and_reader(&rt, rt.alloc(), &heap, seats);
-    hold_and_remove(&rt, &mut owner, &mut reader);
+    on_a_heap(&rt, rt.alloc(), hold_and_remove);
 }

@@ -35,7 +35,14 @@ fn a_layout_refuses_a_shape_that_is_too_large_for_it(rt: HostRuntime) {
     agree(&rt, Heap::<Wide>::open(rt.alloc(), five).is_ok(), true);
 }
 
-// The key of the first value of a heap. It fetches the value.
+// The key of a value that is stored. It fetches the value.
+fn stored<L: KeyLayout>(rt: &impl Abort, owner: &mut Shard<'_, L>) -> u64 {
+    let key = owner.insert(&Value::from(7)).expect(rt, "a key");
+    agree(rt, owner.fetch(key), Ok(Value::from(7)));
+    key
+}
+
+// The key of the first value of a heap.
 fn first_key<L: KeyLayout>(rt: &impl Abort, alloc: Global) -> u64 {
     let shape = Shape::new(1, 1, 1).expect(rt, "a shape");
     let (heap, seats) = Heap::<L>::open(alloc, shape).expect(rt, "a heap");
@@ -46,9 +53,7 @@ fn first_key<L: KeyLayout>(rt: &impl Abort, alloc: Global) -> u64 {
     let Ok(mut owner) = Shard::adopt(alloc, pass, 0) else {
         panic!(rt; "no shard")
     };
-    let key = owner.insert(&Value::from(7)).expect(rt, "a key");
-    agree(rt, owner.fetch(key), Ok(Value::from(7)));
-    key
+    stored(rt, &mut owner)
 }
 
 #[test]

@@ -14,8 +14,9 @@ fn a_heap_gives_its_passes_as_states(rt: HostRuntime) {
     };
     agree(&rt, states.len(), 3);
     let mut states = states.into_iter();
-    let mut state = states.next().expect(&rt, "a state");
-    agree(&rt, state.get(&heap, FIRST_KEY), Err(Refusal::Gone));
+    let state = states.next().expect(&rt, "a state");
+    let mut pass = Pass::on(&heap, state);
+    agree(&rt, pass.get(FIRST_KEY), Err(Refusal::Gone));
 }
 
 // Begins to step a pass by hand, and ends that before a step.

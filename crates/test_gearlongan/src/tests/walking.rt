@@ -1,5 +1,5 @@
 //! Tests of the keys of a shard, one after the other, as its owner finds them.
-use super::{agree, opened, owner_and_reader};
+use super::{agree, on_a_heap};
 use gearlongan::{Hold, NextKey, Pass, Reader, Refusal, Shard, Value, Wide, next_own_key};
 use std::process::Abort;
 
@@ -15,13 +15,13 @@ fn finds(rt: &impl Abort, owner: &mut Shard<'_, Wide>, from: u64, key: u64) -> u
         key,
         behind: behind(key),
     };
-    agree(rt, next_own_key(owner, from), Ok(Some(next)));
+    agree(rt, next_own_key(owner, from), Some(next));
     next.behind
 }
 
 // Asserts that the walk ends.
 fn ends(rt: &impl Abort, owner: &mut Shard<'_, Wide>, from: u64) {
-    agree(rt, next_own_key(owner, from), Ok(None));
+    agree(rt, next_own_key(owner, from), None);
 }
 
 // Walks over two values of one word and one of two words, which is on the next page.
@@ -52,33 +52,37 @@ fn walk_over_the_last(
     finds(rt, owner, 0, third);
 }
 
-#[test]
-fn an_owner_finds_the_keys_of_its_shard(rt: HostRuntime) {
-    let (heap, seats) = opened(&rt, rt.alloc(), 2);
-    let (mut owner, mut reader) = owner_and_reader(&rt, rt.alloc(), &heap, seats);
-    ends(&rt, &mut owner, 0);
-    let keys = walk_over_three(&rt, &mut owner);
-    walk_over_the_last(&rt, &mut owner, &mut reader, keys);
-    ends(&rt, &mut owner, u64::MAX);
+// Walks over no value, over three, and over the one that is left.
+fn walk_as_values_come_and_go(
+    rt: &impl Abort,
+    owner: &mut Shard<'_, Wide>,
+    reader: &mut Pass<'_, Wide>,
+) {
+    ends(rt, owner, 0);
+    let keys = walk_over_three(rt, owner);
+    walk_over_the_last(rt, owner, reader, keys);
+    ends(rt, owner, u64::MAX);
 }
 
-// Asserts that a walk finds the key and leaves no hold on it, except while the owner has 16 of its own.
-fn walk_with_holds(rt: &impl Abort, owner: &mut Shard<'_, Wide>, key: u64) {
+#[test]
+fn an_owner_finds_the_keys_of_its_shard(rt: HostRuntime) {
+    on_a_heap(&rt, rt.alloc(), walk_as_values_come_and_go);
+}
+
+// Asserts that a walk finds the key while the owner has 16 holds on it, and leaves no hold of its own.
+fn walk_with_holds(rt: &impl Abort, owner: &mut Shard<'_, Wide>, _reader: &mut Pass<'_, Wide>) {
+    let key = owner.insert(&Value::from(7)).expect(rt, "a key");
     for _ in 0..16 {
         agree(rt, owner.get(key), Ok(Hold { key }));
     }
-    agree(rt, next_own_key(owner, 0), Err(Refusal::HoldsFull));
+    finds(rt, owner, 0, key);
     for _ in 0..16 {
         agree(rt, owner.release(Hold { key }), Ok(()));
     }
-    finds(rt, owner, 0, key);
     agree(rt, owner.release(Hold { key }), Err(Refusal::NotHeld));
 }
 
 #[test]
-fn a_walk_needs_room_for_a_hold(rt: HostRuntime) {
-    let (heap, seats) = opened(&rt, rt.alloc(), 2);
-    let (mut owner, _) = owner_and_reader(&rt, rt.alloc(), &heap, seats);
-    let key = owner.insert(&Value::from(7)).expect(&rt, "a key");
-    walk_with_holds(&rt, &mut owner, key);
+fn a_walk_needs_no_room_for_a_hold(rt: HostRuntime) {
+    on_a_heap(&rt, rt.alloc(), walk_with_holds);
 }
