@@ -7,9 +7,9 @@ import shutil
 import signal
 import subprocess
 import tempfile
+import time
 from base64 import b64decode
 
-NAMES = ("chromium", "chromium-browser", "google-chrome")
 # (not every machine has a sandbox for it, and it opens pages of this repository alone)
 FLAGS = ["--headless=new", "--remote-debugging-pipe", "--disable-gpu", "--no-first-run", "--hide-scrollbars",
          "--disable-extensions", "--disable-background-networking", "--disable-component-update", "--disable-sync",
@@ -19,7 +19,7 @@ SECONDS = 120
 
 
 def found():
-    return next((path for name in NAMES if (path := shutil.which(name))), None)
+    return shutil.which("chromium") or shutil.which("chromium-browser") or shutil.which("google-chrome")
 
 
 class Browser:
@@ -72,29 +72,32 @@ class Browser:
 
     def note(self, got):
         """Keeps what the page reports: exceptions, failed assertions and errors of its console."""
-        words = got.get("params", {})
-        if got.get("method") == "Runtime.exceptionThrown":
-            details = words["exceptionDetails"]
-            self.errors.append(details.get("exception", {}).get("description", details["text"]))
-        elif got.get("method") == "Runtime.consoleAPICalled" and words["type"] in ("error", "assert", "warning"):
-            self.errors.append(" ".join(str(word.get("value", word.get("description"))) for word in words["args"]))
-        elif got.get("method") == "Log.entryAdded" and words["entry"]["level"] == "error":
-            self.errors.append(words["entry"]["text"])
+        method, words = got.get("method"), got.get("params", {})
+        if method == "Runtime.exceptionThrown" or (
+                method == "Runtime.consoleAPICalled" and words["type"] in ("error", "assert", "warning")) or (
+                method == "Log.entryAdded" and words["entry"]["level"] == "error"):
+            self.errors.append(json.dumps(words))
 
     def open(self, path, place=""):
         """Opens a file anew, at a place of it."""
         for url in ("about:blank", f"file://{path}{place}"):
             self.call("Page.navigate", url=url)
-            self.run("""new Promise((done) => {
-                if (document.readyState === "complete") done(true);
-                else window.addEventListener("load", () => done(true));
-            })""")
+            self.until('document.readyState === "complete"')
 
     def run(self, code):
         got = self.call("Runtime.evaluate", expression=code, returnByValue=True, awaitPromise=True)
         if "exceptionDetails" in got:
             raise RuntimeError(got["exceptionDetails"].get("exception", {}).get("description", "an exception"))
         return got["result"].get("value")
+
+    def until(self, code):
+        """Waits for what this is, once it is something."""
+        end = time.monotonic() + SECONDS
+        while not (found := self.run(code)):
+            if time.monotonic() > end:
+                raise RuntimeError(f"the page did not come to {code}")
+            time.sleep(0.02)
+        return found
 
     def of(self, name, what):
         return self.run(f'document.getElementById("{name}").{what}')

@@ -20,71 +20,45 @@ class Row:
     events before the story begins; the row before it is itself. `y` is where it is drawn."""
 
     def __init__(self, steps, before=None):
-        self.steps, self.before, self.is_setup, self.y, self.lines = [], before or self, not before, 0, []
-        self.page, self.shard = (before.page, before.shard) if before else (None, None)
-        for step in steps:
-            self.take(step)
+        first, self.last = steps[0], steps[-1]
+        self.before, self.is_setup, self.y, self.lines = before or self, not before, 0, []
+        self.comment, self.reason = first.comment, self.last.answer if self.last.answer.startswith("skipped") else ""
+        self.number = f"{first.number}-{self.last.number}" if len(steps) > 1 else str(first.number)
+        self.event = event_of(steps) if before else [summary(steps)]
+        self.high = STEP + SECOND * (len(self.event) - 1)
+        parts = {part.name.split()[0]: part for part in self.last.parts.values()}
+        self.slots = [(look_of(slot), label(slot)) for slot in parts["page"].slots()] if "page" in parts else []
+        lists = [it for kind in sorted(parts) for it in parts[kind].links().items()]
+        self.links = {name: links for name, links in lists if links}
+        self.words = words_of(parts)
 
-    def take(self, step):
-        self.steps.append(step)
-        self.page, self.shard = step.shown("page") or self.page, step.shown("shard") or self.shard
-
-    def goes_on_with(self, step):
-        """Whether the next event is of the same kind and of the same pass, so that both are one row."""
-        is_alike = step.name() in ALIKE and self.last().event.split()[:2] == step.event.split()[:2]
-        return not self.is_setup and not step.comment and is_alike
-
-    def last(self):
-        return self.steps[-1]
-
-    def number(self):
-        first, last = self.steps[0].number, self.last().number
-        return str(last) if last == first else f"{first}-{last}"
-
-    def event(self):
-        """The event, and the reply to the pass, in one line or in two."""
-        if self.is_setup:
-            return [summary(self.steps)]
-        event, reply = self.steps[0].action(), reply_of(self.last().answer)
-        lines = [event, f": {reply}" if reply else ""]
-        if len(self.steps) > 1:
-            lines = again(event, len(self.steps))
-        joined = "".join(lines)
-        return [joined] if len(joined) <= LONGEST else [line.strip(" :,") for line in lines]
-
-    def reason(self):
-        return self.last().answer if self.last().answer.startswith("skipped") else ""
-
-    def high(self):
-        return STEP + SECOND * (len(self.event()) - 1)
-
-    def slots(self):
-        return [(look_of(slot), label(slot)) for slot in self.page.slots()] if self.page else []
-
-    def links(self):
-        lists = [it for part in (self.page, self.shard) if part for it in part.links().items()]
-        return {name: links for name, links in lists if links}
-
-    def words(self):
-        about = self.page.rows[""] if self.page else [""]
-        flag = {"not armed": "", "armed": "armed"}.get(about[-1], "flag taken" if "taken" in about[-1] else "")
-        owner = self.shard.rows[""][0]
-        return {"class": about[0].replace(",", ":"),
-                "owner": "no owner" if owner == "left" else owner.replace("owner ", "owner: "), "flag": flag}
-
-    def shared(self, changing):
-        """What is said in words of page and shard, each with whether it is new. What never changes is not said."""
-        for name, now in self.words().items():
-            old = self.before.words()[name]
+    def pieces(self, changing):
+        """What is said of the page and the shard: texts, each with its kind and width. An arrow has no text. What is
+        new is bold, and what never changes is not said."""
+        for name, now in self.words.items():
+            old = self.before.words[name]
             if name in changing and now and (now != old or name == "flag" or now == "no owner"):
-                yield now, now != old
+                yield now, "bold" if now != old else "", len(now) * LETTERS + 12
+        for name, links in self.links.items():
+            kind = "bold" if self.before.links.get(name) != links else ""
+            yield name, kind, len(name) * LETTERS + 6
+            for item, is_owed in links:
+                yield item, kind, len(item) * LETTERS
+                yield "", "owed" if is_owed else "line", 23
+            yield "end", "grey", 3 * LETTERS + 10
 
 
-def again(event, times):
-    """Alike events in a row: words that a pass reads, and those that it stores once it has begun to fill a slot."""
-    if event.startswith("Read"):
-        return [event.rsplit(" ", 1)[0], f", {times} times"]
-    return [event, ", Fill" if times == 2 else f", Fill {times - 1} times"]
+def event_of(steps):
+    """The event, and the reply to the pass, in one line or in two. Alike events are words that a pass reads, and those
+    that it stores once it has begun to fill a slot."""
+    event, reply, times = steps[0].action(), reply_of(steps[-1].answer), len(steps)
+    lines = [event, f": {reply}" if reply else ""]
+    if times > 1 and event.startswith("Read"):
+        lines = [event.rsplit(" ", 1)[0], f", {times} times"]
+    elif times > 1:
+        lines = [event, ", Fill" if times == 2 else f", Fill {times - 1} times"]
+    joined = "".join(lines)
+    return [joined] if len(joined) <= LONGEST else [line.strip(" :,") for line in lines]
 
 
 def label(slot):
@@ -107,15 +81,27 @@ def summary(steps):
     return ", ".join(dict.fromkeys(all_inserts if name == "Publish" else name for name in names if name != "Fill"))
 
 
+def words_of(parts):
+    about, owner = parts["page"].rows[""] if "page" in parts else [""], parts["shard"].rows[""][0]
+    flag = {"not armed": "", "armed": "armed"}.get(about[-1], "flag taken" if "taken" in about[-1] else "")
+    return {"class": about[0].replace(",", ":"),
+            "owner": "no owner" if owner == "left" else owner.replace("owner ", "owner: "), "flag": flag}
+
+
 def rows_of(steps):
-    """The rows. The events before the first comment that follows an event are the setup."""
+    """The rows. The events before the first comment that follows an event are the setup. Events of the same kind and of
+    the same pass, one after the other, are one row."""
     begun = next(at for at, step in enumerate(steps) if at and step.comment)
-    rows = [Row(steps[:begun])]
-    for step in steps[begun:]:
-        if rows[-1].goes_on_with(step):
-            rows[-1].take(step)
+    groups = [[step] for step in steps[begun:begun + 1]]
+    for step in steps[begun + 1:]:
+        is_alike = step.name() in ALIKE and groups[-1][-1].event.split()[:2] == step.event.split()[:2]
+        if is_alike and not step.comment:
+            groups[-1].append(step)
         else:
-            rows.append(Row([step], rows[-1]))
+            groups.append([step])
+    rows = [Row(steps[:begun])]
+    for group in groups:
+        rows.append(Row(group, rows[-1]))
     return rows
 
 
@@ -124,27 +110,22 @@ class Lanes:
 
     def __init__(self, trace):
         self.rows, self.names = rows_of(trace.steps), sorted({step.by() for step in trace.steps})
-        self.lane = int(max(len(line) for row in self.rows[1:] for line in row.event()) * LETTERS) + BAR + 17
-        self.changing = {name for name in self.rows[0].words() if len({row.words()[name] for row in self.rows}) > 1}
+        self.lane = int(max(len(line) for row in self.rows[1:] for line in row.event) * LETTERS) + BAR + 17
+        self.changing = {name for name in self.rows[0].words if len({row.words[name] for row in self.rows}) > 1}
         self.after = LEFT + len(self.names) * self.lane
         # (the column of links and words is left out if there are none)
-        widest = max(sum(len(words) * LETTERS + 12 for words, _ in row.shared(self.changing))
-                     + sum(links_width(name, links) for name, links in row.links().items()) for row in self.rows)
+        widest = max(sum(wide for _, _, wide in row.pieces(self.changing)) for row in self.rows)
         self.shared = max(180, 8 + widest) if widest else 0
         self.width = int(self.after + SLOTS * SLOT + self.shared) + 4
-        self.bottom = self.place()
+        y = TOP
+        for row in self.rows:
+            row.lines = textwrap.wrap(row.comment, int((self.width - 16) / LETTERS), break_on_hyphens=False)
+            row.y = y + LINE * len(row.lines) + (3 if row.lines else 0)
+            y = row.y + row.high + (LINE if row.reason else 0)
+        self.bottom = y
         about = (f"A lane for each of {len(self.names)} passes and a row for each event. Next to each event are the "
                  "slots of the page after it, those that changed framed, and the links of the page and of the shard.")
         self.picture = Picture(self.width, self.bottom + 56, trace.title, about)
-
-    def place(self):
-        """Says where each row is. Returns where the last one ends."""
-        y = TOP
-        for row in self.rows:
-            row.lines = textwrap.wrap(row.steps[0].comment, int((self.width - 16) / LETTERS), break_on_hyphens=False)
-            row.y = y + LINE * len(row.lines) + (3 if row.lines else 0)
-            y = row.y + row.high() + (LINE if row.reason() else 0)
-        return y
 
     def drawn(self):
         self.draw_heads()
@@ -154,11 +135,10 @@ class Lanes:
             for number, line in enumerate(row.lines):
                 self.draw_line(8, row.y - 8 - LINE * (len(row.lines) - 1 - number), line, "story")
             self.draw_event(row)
-            self.draw_slots(row)
-            self.draw_shared(row, self.after + SLOTS * SLOT + 8)
-            if row.reason():
-                self.draw_line(LEFT + BAR + 3, row.y + row.high() + 8, row.reason(), "red")
-        draw_legend(self.picture, self.bottom + 8)
+            self.draw_after(row)
+            if row.reason:
+                self.draw_line(LEFT + BAR + 3, row.y + row.high + 8, row.reason, "red")
+        self.draw_legend(self.bottom + 8)
         return self.picture
 
     def draw_heads(self):
@@ -172,62 +152,44 @@ class Lanes:
         """From each event to the next one, whether the pass is inside a call or has a hold."""
         ends = [row.y + CELL / 2 for row in self.rows[1:]] + [self.bottom - STEP + CELL]
         for row, end in zip(self.rows, ends):
-            line = row.last().passes.get(name, "idle")
+            line = row.last.passes.get(name, "idle")
             if "holds" in line or "idle" not in line:
                 kind = "hold" if "holds" in line else "call"
                 self.picture.box(x, row.y + CELL / 2, BAR, end - row.y - CELL / 2, kind, 0)
 
     def draw_event(self, row):
-        self.picture.text(LEFT - 6, row.y + 14, row.number(), "grey", 11, "end")
-        at, wide = (0, len(self.names)) if row.is_setup else (self.names.index(row.last().by()), 1)
-        kind = "zero" if row.is_setup or row.reason() else "plain"
-        self.picture.cell(LEFT + at * self.lane + BAR + 3, row.y, wide * self.lane - BAR - 9, row.high() - STEP + CELL,
-                          row.event(), kind, 11)
+        self.picture.text(LEFT - 6, row.y + 14, row.number, "grey", 11, "end")
+        at, wide = (0, len(self.names)) if row.is_setup else (self.names.index(row.last.by()), 1)
+        kind = "zero" if row.is_setup or row.reason else "plain"
+        self.picture.cell(LEFT + at * self.lane + BAR + 3, row.y, wide * self.lane - BAR - 9, row.high - STEP + CELL,
+                          row.event, kind, 11)
 
     def draw_line(self, x, y, line, kind):
         """A line of text on white, so that no bar goes through it."""
         self.picture.box(x - 2, y - 11, len(line) * LETTERS + 4, LINE - 1, "page", 0)
         self.picture.text(x, y, line, kind, 11)
 
-    def draw_slots(self, row):
-        for number, (look, words) in enumerate(row.slots()[:SLOTS]):
+    def draw_after(self, row):
+        """The slots, and what is said of the page and the shard. The arrow of a link that is owed is dashed."""
+        for number, (look, words) in enumerate(row.slots[:SLOTS]):
             x = self.after + number * SLOT
             self.picture.cell(x, row.y, SLOT - 4, CELL, [words], look, 11)
-            if row.before.slots()[number] != (look, words):
+            if row.before.slots[number] != (look, words):
                 self.picture.box(x, row.y, SLOT - 4, CELL, "changed")
+        x = self.after + SLOTS * SLOT + 8
+        for text, kind, wide in row.pieces(self.changing):
+            if text:
+                self.picture.text(x, row.y + 14, text, kind, 11)
+            else:
+                self.picture.arrow(x + 2, row.y + 10, x + 21, row.y + 10, kind)
+            x += wide
 
-    def draw_shared(self, row, x):
-        for words, is_new in row.shared(self.changing):
-            self.picture.text(x, row.y + 14, words, "bold" if is_new else "", 11)
-            x += len(words) * LETTERS + 12
-        for name, links in row.links().items():
-            draw_links(self.picture, x, row.y, name, links, row.before.links().get(name) != links)
-            x += links_width(name, links)
-
-
-def links_width(name, links):
-    return (len(name) + 3) * LETTERS + 16 + sum(len(item) * LETTERS + 23 for item, _ in links)
-
-
-def draw_links(picture, x, y, name, links, is_new):
-    """A stack or a chain: its items, and between them arrows, dashed where the link is not written."""
-    kind = "bold" if is_new else ""
-    picture.text(x, y + 14, name, kind, 11)
-    x += len(name) * LETTERS + 6
-    for item, is_owed in links:
-        picture.text(x, y + 14, item, kind, 11)
-        x += len(item) * LETTERS
-        picture.arrow(x + 2, y + 10, x + 21, y + 10, "owed" if is_owed else "line")
-        x += 23
-    picture.text(x, y + 14, "end", "grey", 11)
-
-
-def draw_legend(picture, y):
-    picture.text(8, y + 14, "g generation, c count", "grey", 11)
-    picture.box(176, y + 1, 30, 18, "changed")
-    picture.text(214, y + 14, "changed by the event", "grey", 11)
-    picture.arrow(376, y + 10, 404, y + 10, "owed")
-    picture.text(412, y + 14, "a link that is not written yet", "grey", 11)
-    for x, kind, words in ((8, "call", "the pass is inside a call"), (214, "hold", "it has a hold on the key")):
-        picture.box(x, y + 24, BAR, 18, kind, 0)
-        picture.text(x + 12, y + 37, words, "grey", 11)
+    def draw_legend(self, y):
+        self.picture.text(8, y + 14, "g generation, c count", "grey", 11)
+        self.picture.box(176, y + 1, 30, 18, "changed")
+        self.picture.text(214, y + 14, "changed by the event", "grey", 11)
+        self.picture.arrow(376, y + 10, 404, y + 10, "owed")
+        self.picture.text(412, y + 14, "a link that is not written yet", "grey", 11)
+        for x, kind, words in ((8, "call", "the pass is inside a call"), (214, "hold", "it has a hold on the key")):
+            self.picture.box(x, y + 24, BAR, 18, kind, 0)
+            self.picture.text(x + 12, y + 37, words, "grey", 11)

@@ -8,24 +8,10 @@ import subprocess
 import textwrap
 from pathlib import Path
 
-# The events of a script by what they are for. The page's simulator has the same.
+# The events of a script by what they are for. The page has the same, with their words in a sentence.
 EVENTS = json.loads((Path(__file__).parent / "events.json").read_text())
-HELP = """Commands
-  undo          takes the last line back; `undo 3` takes three
-  list          prints the lines so far, which are a script
-  next          lists what each pass could do next; `next 1` of pass 1 alone
-  save FILE     writes the lines to a file
-  ?             prints this
-  quit          ends; so does Ctrl-D
-
-Lines of a script. The first is a header: heap LAYOUT SHARDS SEGMENTS PASSES, as in heap tiny 1 1 2. Each other one is a
-pass and an event, as in 0 Adopt 0. A SHARD is a number, as 0, a PAGE of it is 0.2, and a SLOT of that is 0.2.1. A CLASS
-is from 0 to 7. PART 0 of a value is its class, part 1 its length, and part 2 its first word.
-
-{}
-
-docs/SCRIPTS.md says of each what it asks and does.""".format(
-    "\n".join(f"  {topic:13} {', '.join(events)}" for topic, events in EVENTS.items()))
+HELP = (Path(__file__).parent / "prompt.txt").read_text().rstrip().replace(
+    "@EVENTS@", "\n".join(f"  {topic:13} {', '.join(events)}" for topic, events in EVENTS.items()))
 START = "? lists the commands. The first line is a header: heap tiny 1 1 2"
 FAULT = re.compile(r"script_trace: fault \d+ (?:Script line (\d+) )?(\w+)")
 # Not more shards are tried.
@@ -75,12 +61,10 @@ class Prompt(cmd.Cmd):
     def default(self, line):
         try:
             grown = self.trace_of([*self.lines, line])
+            print(grown[len(self.trace):], end="")
+            self.lines, self.trace = [*self.lines, line], grown
         except Fault as fault:
             print(f"not done: {fault}")
-            return
-        print(grown[len(self.trace):], end="")
-        self.lines.append(line)
-        self.trace = grown
 
     def trace_of(self, lines):
         """The trace of these lines. A line that the program refuses raises a Fault."""
@@ -106,10 +90,9 @@ class Prompt(cmd.Cmd):
         try:
             with open(path, "x") as opened:
                 opened.writelines(f"{line}\n" for line in self.lines)
+            print(f"{path} has {len(self.lines)} lines")
         except OSError as error:
             print(f"not saved: {error.strerror if path else 'save FILE'}")
-        else:
-            print(f"{path} has {len(self.lines)} lines")
 
     def do_next(self, only):
         header = next((line.split() for line in self.lines if line.startswith("heap ")), None)
@@ -126,7 +109,7 @@ class Prompt(cmd.Cmd):
         is asked event by event. An event that is skipped changes nothing, so one run tries them in a row up to the
         first that is not."""
         places = self.places(shards)
-        left, found = [event for form in sum(EVENTS.values(), []) for event in filled(form, places)], []
+        left, found = [event for forms in EVENTS.values() for form in forms for event in filled(form, places)], []
         while left:
             lines = [f"{number} {event}".replace(" WORD ..", "").replace("CLASS", "7") for event in left]
             tried = self.trace_of([*self.lines, *lines])[len(self.trace):]

@@ -13,16 +13,8 @@ PROGRAM = program("shardheap")
 STORY, FORK = "two_removers", 8
 STEPS, SEED = 25, 7
 
-READY = """new Promise((done, fail) => {
-    const end = Date.now() + 60000;
-    (function look() {
-        const { program } = document.documentElement.dataset;
-        const isDrawn = document.getElementById("choices").getAttribute("aria-busy") === "false";
-        if (program === "ready" && isDrawn) done(true);
-        else if (program === "none" || Date.now() > end) fail(new Error("the choices did not come"));
-        else setTimeout(look, 20);
-    })();
-})"""
+READY = """(({ program }) => (program === "none" || document.querySelector('#choices[aria-busy="false"]')) && program
+    )(document.documentElement.dataset)"""
 CHIPS = """(root) => [...root.querySelectorAll(".chip")].map((chip) => [chip.querySelector(".event").textContent,
     chip.querySelector(".reply")?.textContent ?? ""])"""
 CHOICES = f"""[...document.querySelectorAll("#choices [data-pass]")].map((row) => [row.dataset.pass, ({CHIPS})(row)])"""
@@ -37,9 +29,9 @@ class Choices:
         self.act('document.getElementById("choose").open = true')
 
     def act(self, code):
-        found = self.page.run(code)
-        self.page.run(READY)
-        return found
+        self.page.run(code)
+        if self.page.until(READY) == "none":
+            raise RuntimeError("the page has no program")
 
     def press(self, name):
         self.act(f'document.getElementById("{name}").click()')
@@ -85,7 +77,7 @@ def check_fork(page, path):
     yield from same("what pass 2 can do then", choices.all()["2"], {"Mark": "Gone 4096"})
     yield from same("pass 2 marks then", choices.choose("2", "Mark"), "2 Mark Gone 4096")
     page.key("u", 85)
-    page.run(READY)
+    page.until(READY)
     yield from same("a step back", choices.line(), "1 Mark Removed 4096")
     yield from choices.check_replies()
     choices.press("again")
@@ -118,8 +110,8 @@ def check_scripts(page, path, texts, seen):
     choices = Choices(page, path)
     for name, text in texts.items():
         choices.do_lines([one.removeprefix("> ") for one in text.splitlines() if one.startswith(("> ", ";"))])
-        steps = trace.read(text).steps
-        for fault in compare_step(page.run(seen), steps[-1], len(steps)):
+        story = trace.read(text)
+        for fault in compare_step(page.run(seen), story, len(story.steps)):
             yield f"{name} done by the page: {fault}"
 
 

@@ -3,50 +3,30 @@ the picture or overlaps another one is refused when it is drawn: all letters of 
 
 import re
 from html import escape, unescape
+from pathlib import Path
 
 # How wide a letter is, for each size of letters in use.
 LETTER = {10: 6.05, 11: 6.65, 12: 7.25, 14: 8.45}
 
+STYLE = (Path(__file__).parent / "picture.css").read_text().strip()
 TEXT = re.compile(r'<text x="(.*?)" y="(.*?)" font-size="(\d+)" text-anchor="(\w+)" class=".*?">(.*)</text>')
-
-STYLE = """text{font-family:'DejaVu Sans Mono',Menlo,Consolas,monospace;fill:#222}
-.page{fill:#ffffff}.plain{fill:#fafafa;stroke:#666}.frame{fill:none;stroke:#bbb}.dark{fill:#555;stroke:#555}
-.live{fill:#cdeccd;stroke:#3f7f3f}.marked{fill:#f8dcae;stroke:#a06a10}.retired{fill:#d4d4d4;stroke:#777}
-.own{fill:#d9e6f8;stroke:#3a66a0}.hand{fill:#fdf3b0;stroke:#9a8410}.queued{fill:#e8dbf4;stroke:#7a4fa3}
-.zero{fill:#f2f2f2;stroke:#aaa}.tag{fill:#f6cfd4;stroke:#a03a48}
-.line{stroke:#333;fill:none;stroke-width:1.3}.owed{stroke:#b02020;fill:none;stroke-width:1.3;stroke-dasharray:5 3}
-.thin{stroke:#999;fill:none}.red{fill:#b02020}.grey{fill:#666}.white{fill:#fff}.bold{font-weight:bold}
-.story{fill:#444;font-style:italic}.changed{fill:none;stroke:#111;stroke-width:2.4}
-.call{fill:#9a9a9a}.hold{fill:#3f9f3f}.head{fill:#333}.owed-head{fill:#b02020}
-@media (prefers-color-scheme:dark){text{fill:#e8eaed}
-.page{fill:#121417}.plain{fill:#1b1e23;stroke:#8f96a0}.frame{stroke:#4a515b}.dark{fill:#aab2bc;stroke:#aab2bc}
-.live{fill:#1c3a23;stroke:#63b873}.marked{fill:#46310e;stroke:#dba04a}.retired{fill:#33363b;stroke:#8f96a0}
-.own{fill:#1b304e;stroke:#7aa7e6}.hand{fill:#3d3710;stroke:#d6c14a}.queued{fill:#342548;stroke:#b790e0}
-.zero{fill:#23272d;stroke:#6c7580}.tag{fill:#4a2229;stroke:#e0848f}
-.line{stroke:#c4cad2}.owed{stroke:#ffa69d}.thin{stroke:#6c7580}.red{fill:#ffa69d}.grey{fill:#a2abb6}
-.white{fill:#121417}.story{fill:#b4bcc6}.changed{stroke:#f0c53a}.call{fill:#6c7580}.hold{fill:#5fc46a}
-.head{fill:#c4cad2}.owed-head{fill:#ffa69d}}"""
 
 
 class Picture:
     """A picture of this size. Its title and what is seen on it are for readers who cannot see it."""
 
     def __init__(self, width, height, title, about):
-        self.width, self.height = width, height
-        self.title, self.about = title, about
+        self.width, self.height, self.title, self.about = width, height, title, about
         self.items, self.spans = [], []
 
-    def add(self, item):
-        self.items.append(item)
-
     def box(self, x, y, width, height, kind="plain", round_by=3):
-        self.add(f'<rect x="{num(x)}" y="{num(y)}" width="{num(width)}" height="{num(height)}" '
-                 f'rx="{round_by}" class="{kind}"/>')
+        self.items.append(f'<rect x="{num(x)}" y="{num(y)}" width="{num(width)}" height="{num(height)}" '
+                          f'rx="{round_by}" class="{kind}"/>')
 
     def text(self, x, y, text, kind="", size=12, anchor="start"):
         self.claim(x, y, text, size, anchor)
-        self.add(f'<text x="{num(x)}" y="{num(y)}" font-size="{size}" text-anchor="{anchor}" '
-                 f'class="{kind}">{escape(text)}</text>')
+        self.items.append(f'<text x="{num(x)}" y="{num(y)}" font-size="{size}" text-anchor="{anchor}" '
+                          f'class="{kind}">{escape(text)}</text>')
 
     def claim(self, x, y, text, high, anchor):
         """Refuses a text of this size that leaves the picture or overlaps another."""
@@ -70,8 +50,8 @@ class Picture:
 
     def arrow(self, x1, y1, x2, y2, kind="line"):
         head = "owed-head" if kind == "owed" else "head"
-        self.add(f'<line x1="{num(x1)}" y1="{num(y1)}" x2="{num(x2)}" y2="{num(y2)}" class="{kind}" '
-                 f'marker-end="url(#{head})"/>')
+        self.items.append(f'<line x1="{num(x1)}" y1="{num(y1)}" x2="{num(x2)}" y2="{num(y2)}" class="{kind}" '
+                          f'marker-end="url(#{head})"/>')
 
     def written(self):
         heads = "".join(

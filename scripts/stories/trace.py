@@ -2,11 +2,16 @@
 checks of the page share it. The page itself reads traces by story/trace.js, into the same rows."""
 
 import re
-from dataclasses import dataclass, field
+from dataclasses import dataclass
+from typing import NamedTuple
 
 from tree import TOP
 
 STORIES = TOP / "examples/watch"
+# A step of a trace: comments, an event, its answer, and lines of pages, shards and passes.
+STEP = re.compile(r"((?:;.*\n)*)> (\d.*)\n\d+ \w+ (.*)\n((?: .*\n)*)")
+PART = re.compile(r"^  (page [\d.]+|shard \d+): (.*)\n((?:    .*\n)*)", re.M)
+PASS = re.compile(r"^  pass (\d+): (.+)", re.M)
 LINK = re.compile(r"(\d+) ([-~])> ")
 # How an empty slot is drawn, by the first word that is said of it.
 EMPTY = {"own": "own", "in": "hand", "queued": "queued"}
@@ -34,8 +39,8 @@ class Part:
 
     def links(self):
         """The items of each list, each with whether its link is owed: `1 -> 0 ~> end`."""
-        return {row: [(item, link == "~") for item, link in LINK.findall(words[0])]
-                for row, words in self.rows.items() if row in LISTS}
+        return {row: [(item, link == "~") for item, link in LINK.findall(" ".join(words))]
+                for row, words in self.rows.items()}
 
 
 @dataclass
@@ -48,7 +53,7 @@ class Step:
     comment: str
     before: "Step | None"
     parts: dict
-    passes: dict = field(default_factory=dict)
+    passes: dict
 
     def by(self):
         return self.event.split()[0]
@@ -67,69 +72,38 @@ class Step:
         ties = f"ties {'slot' if part.name.startswith('page') else 'page'} {part.number()}.{item} "
         return next(number for number, line in self.passes.items() if line.startswith(ties))
 
-    def touched(self):
-        return [part for part in self.parts.values() if part.step == self.number]
-
-    def shown(self, kind):
-        return next((part for part in self.touched() if part.name.startswith(kind)), None)
+    def shown(self, kind=""):
+        """The pages and shards that the step showed, or those of a kind."""
+        return [part for part in self.parts.values() if part.step == self.number and part.name.startswith(kind)]
 
 
-class Trace:
-    """The title, the lines of the header, and the steps."""
-
-    def __init__(self):
-        self.title, self.header, self.steps, self.told, self.event, self.part = "", [], [], [], "", None
-
-    def comment(self, text):
-        """The first one before the header is the title."""
-        if self.title or self.header:
-            self.told.append(text)
-        else:
-            self.title = text
-
-    def echo(self, text):
-        if text[0].isdigit():
-            self.event = " ".join(text.split())
-        else:
-            self.header.append(text)
-
-    def answer(self, text):
-        before = self.steps[-1] if self.steps else None
-        parts = dict(before.parts) if before else {}
-        self.steps.append(Step(len(self.steps) + 1, self.event, text, " ".join(self.told), before, parts))
-        self.told = []
-
-    def page_or_shard(self, name, about):
-        step = self.steps[-1]
-        self.part = step.parts[name] = Part(name, step.number, {"": about.split("; ")})
-
-    def slots(self, first, last, kind, generation, count, rest):
-        words = [kind, f"generation {generation}", f"count {count}", rest or ""]
-        self.part.rows.update({f"slot {at}": words for at in range(int(first), int(last or first) + 1)})
-
-    def list(self, name, text):
-        self.part.rows[name] = [text]
-
-    def of_pass(self, number, text):
-        self.steps[-1].passes[number] = text
+class Trace(NamedTuple):
+    title: str
+    header: list
+    steps: list
 
 
-LISTS = ("stack", "chain", "bell", "bell chain")
-# Each kind of line, and what takes it.
-LINES = [(re.compile(form), taken_by) for form, taken_by in (
-    (r" *; *(.*)", Trace.comment), (r"> (.+)", Trace.echo), (r"\d+ \w+ (.+)", Trace.answer),
-    (r"    slots? (\d+)(?: to (\d+))?: (\w+), generation (\d+), count (\d+)(?:; (.+))?", Trace.slots),
-    (rf"    ({'|'.join(LISTS)}): (.+)", Trace.list),
-    (r"  (page \d+\.\d+|shard \d+): (.+)", Trace.page_or_shard), (r"  pass (\d+): (.+)", Trace.of_pass),
-    (r"", lambda trace: None))]
+def rows_of(about, lines):
+    """The rows of a part. A line of slots is a row of each: `slots 1 to 2: Empty, generation 1, count 0; own`."""
+    rows = {"": about.split("; ")}
+    for name, said in re.findall(r"^    (.+?): (.+)", lines, re.M):
+        places, (state, _, rest) = [int(at) for at in re.findall(r"\d+", name)], said.partition("; ")
+        slots = range(places[0], places[-1] + 1) if places else []
+        rows |= {f"slot {at}": [*state.split(", "), rest] for at in slots} or {name: [said]}
+    return rows
 
 
 def read(text):
-    trace = Trace()
-    for line in text.splitlines():
-        found, taken_by = next((found, taken_by) for form, taken_by in LINES if (found := form.fullmatch(line)))
-        taken_by(trace, *found.groups())
-    return trace
+    """The trace of a text. Its first comment is the title. Beside its steps it has the lines of the header alone."""
+    title, header = re.fullmatch(r"(?:; *(.*)\n)?((?:> .*\n)*)\n*", STEP.sub("", text)).groups("")
+    steps = [None]
+    for told, event, answer, lines in STEP.findall(text):
+        number, before = len(steps), steps[-1]
+        parts = dict(before.parts) if before else {}
+        parts |= {name: Part(name, number, rows_of(about, rows)) for name, about, rows in PART.findall(lines)}
+        comment, passes = " ".join(re.findall("^; *(.*)", told, re.M)), dict(PASS.findall(lines))
+        steps.append(Step(number, " ".join(event.split()), answer, comment, before, parts, passes))
+    return Trace(title, [line.removeprefix("> ") for line in header.splitlines()], steps[1:])
 
 
 def stories():

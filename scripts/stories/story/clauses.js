@@ -2,49 +2,42 @@
 // so that a reader can add them up. That they hold after each step is proved. A section of docs/HOW-IT-WORKS.md
 // explains each clause. The log is drawn with them.
 
-import { shapeOf } from "./choices.js";
 import { el, gloss } from "./dom.js";
-import { handsThatBegin, itemsOf, partsOf, repliesUpTo, slotsOf, stateOf } from "./state.js";
+import { handsThatBegin, itemsOf, partsOf, repliesUpTo, slotsOf, stateOf } from "./trace.js";
 
-// At which bits of a key its generation, shard and page begin.
-const LAYOUTS = { tiny: [12n, 10n, 6n], wide: [24n, 16n, 6n], tagged: [20n, 14n, 6n] };
-const TAGGED = (1n << 52n) - 1n;
-
-function placeOf(layout, text) {
-  const [generation, shard, page] = LAYOUTS[layout];
-  const key = BigInt(text) & (layout === "tagged" ? TAGGED : ~0n);
-  const part = (from, to) => (key >> from) & ((1n << (to - from)) - 1n);
-  return { at: `${part(shard, generation)}.${part(page, shard)}.${part(0n, page)}`, generation: key >> generation };
-}
-
-function count(number, what, many = `${what}s`) {
-  return `${number} ${number === 1 ? what : many}`;
-}
-
+const count = (number, what, many = `${what}s`) => `${number} ${number === 1 ? what : many}`;
 const sumOf = (numbers) => numbers.reduce((sum, number) => sum + number, 0);
+
+/** A key as it was issued: the slot that its pass filled, and the slot's generation then. */
+function issuedBy({ answer, before, pass, ...frame }) {
+  const [, key, , ...words] = answer.split(" ");
+  const [, at] = /^fills slot (\S+)/.exec(before.passes.get(pass).hand);
+  return { key, at, words: words.join(" "), generation: slotOf(slotsAt(frame), at).generation };
+}
+
+const slotsAt = (frame) => partsOf(frame, "page").flatMap(slotsOf);
+const slotOf = (slots, place) => slots.find(({ at }) => at === place);
 
 /** All that the clauses speak of: pages, shards, slots, keys, holds and passes, as the trace has shown them. */
 function sightOf(story, frame) {
-  const { layout } = shapeOf(story);
   const passes = [...frame.passes.values()];
-  const log = repliesUpTo(story, frame).map(({ answer }) => answer.split(" "));
-  const keys = log.filter(([kind]) => kind === "Insert").map(([, key, , ...words]) => ({
-    key, words: words.join(" "), ...placeOf(layout, key),
-    isRemoved: log.some(([kind, other]) => kind === "Removed" && other === key),
-  }));
+  const log = repliesUpTo(story, frame);
+  const keys = log.filter(({ event }) => event[0] === "Publish").map(issuedBy);
+  const issued = (key) => keys.find((one) => one.key === key);
   const holds = passes.flatMap(({ pass, has }) => has.flatMap((word) => {
     const [, key, times = 1] = /^holds (\d+)(?: (\d+) times)?$/.exec(word) ?? [];
-    return key ? [{ pass, key, times: Number(times), ...placeOf(layout, key) }] : [];
+    return key ? [{ pass, times: Number(times), ...issued(key) }] : [];
   }));
   const visits = passes.flatMap(({ hand }) => {
     const [, key, slot] = /^(?:removes (\d+)|leaves slot (\S+))$/.exec(hand) ?? [];
-    return key || slot ? [slot ?? placeOf(layout, key).at] : [];
+    return key || slot ? [slot ?? issued(key).at] : [];
   });
-  const pages = partsOf(frame, "page");
-  return { frame, passes, pages, shards: partsOf(frame, "shard"), slots: pages.flatMap(slotsOf), keys, holds, visits };
+  const removed = log.map(({ answer }) => /^Removed (\d+)/.exec(answer)?.[1]);
+  return {
+    frame, passes, keys, removed, holds, visits, slots: slotsAt(frame), pages: partsOf(frame, "page"),
+    shards: partsOf(frame, "shard"),
+  };
 }
-
-const slotOf = ({ slots }, { at }) => slots.find((slot) => slot.at === at);
 
 function counted({ slots, holds, visits }) {
   return slots.flatMap((slot) => {
@@ -55,28 +48,28 @@ function counted({ slots, holds, visits }) {
   });
 }
 
-// What the six states of a slot are called in a sum.
+// The six states of a slot, as a sum has them.
 const STATES = { live: "live", marked: "marked", retired: "retired", own: "mine", hand: "in hand", queued: "queued" };
 
 function oneKind({ pages }) {
   return pages.flatMap((page) => {
     const [, all] = /^class \d+, (\d+) slots/.exec(page.rows.get("")[0]) ?? [];
     const states = slotsOf(page).map(({ kind, rest }) => stateOf(kind, rest));
-    const counts = Object.keys(STATES).map((state) => [STATES[state], states.filter((one) => one === state).length]);
+    const counts = Object.entries(STATES).map(([state, name]) => [name, states.filter((one) => one === state).length]);
     const said = counts.filter(([, number]) => number).map(([state, number]) => `${number} ${state}`).join(" + ");
     const sum = sumOf(counts.map(([, number]) => number));
     return all ? [[`page ${page.number}: ${all} slots = ${said}`, sum === Number(all)]] : [];
   });
 }
 
-function keysAgree(sight) {
-  return sight.keys.map((key) => {
-    const { kind, generation } = slotOf(sight, key);
-    const isPast = key.generation < BigInt(generation);
-    const isNow = key.generation === BigInt(generation)
-      && (kind === "Live" ? !key.isRemoved : kind !== "Empty" && key.isRemoved);
-    const said = `key ${key.key} of generation ${key.generation} ${key.isRemoved ? "was removed" : "is present"}`;
-    return [`${said}; slot ${key.at} is ${kind} in generation ${generation}`, isPast ? key.isRemoved : isNow];
+function keysAgree({ keys, removed, slots }) {
+  return keys.map(({ key, at, generation }) => {
+    const slot = slotOf(slots, at);
+    const isRemoved = removed.includes(key);
+    const isNow = generation === slot.generation && slot.kind !== "Empty" && isRemoved === (slot.kind !== "Live");
+    const said = `key ${key} of generation ${generation} ${isRemoved ? "was removed" : "is present"}`;
+    const holds = generation < slot.generation ? isRemoved : isNow;
+    return [`${said}; slot ${at} is ${slot.kind} in generation ${slot.generation}`, holds];
   });
 }
 
@@ -88,14 +81,13 @@ function finished({ slots, frame }) {
   });
 }
 
-function held(sight) {
-  return sight.holds.map(({ pass, key, at, generation }) => {
-    const issued = sight.keys.find((one) => one.key === key);
-    const found = slotOf(sight, { at });
-    const words = found.rest === "the empty value" ? "" : found.rest.replace("value ", "");
-    const isThere = ["Live", "Marked"].includes(found.kind) && BigInt(found.generation) === generation;
-    const text = `pass ${pass} holds ${key}, issued with ${issued.words || "no word"}; ${found.rest} in slot ${at}`;
-    return [text, isThere && words === issued.words];
+function held({ holds, slots }) {
+  return holds.map(({ pass, key, at, generation, words }) => {
+    const found = slotOf(slots, at);
+    const now = found.rest === "the empty value" ? "" : found.rest.replace("value ", "");
+    const isThere = ["Live", "Marked"].includes(found.kind) && found.generation === generation;
+    const text = `pass ${pass} holds ${key}, issued with ${words || "no word"}; ${found.rest} in slot ${at}`;
+    return [text, isThere && now === words];
   });
 }
 
@@ -110,9 +102,9 @@ function owed({ pages, shards, frame }) {
   });
 }
 
-function mustRing({ hand, next }, page) {
-  return hand === `rings for page ${page}` || (next.endsWith(" Ring") && hand.startsWith(`ties slot ${page}.`));
-}
+const mustRing = ({ hand, next }, page) => (
+  hand === `rings for page ${page}` || (next.endsWith(" Ring") && hand.startsWith(`ties slot ${page}.`))
+);
 
 function duty({ pages, shards, passes }) {
   return pages.flatMap((page) => {

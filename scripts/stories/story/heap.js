@@ -1,7 +1,8 @@
-// Draws the shards and pages as the trace last showed them: slots as boxes, stacks, chains and bells as arrows.
+// Draws the shards and pages as the trace last showed them: slots as boxes, stacks, chains and bells as arrows. Of each
+// pass it draws what it has in hand, which event comes next of it, and what it owns and holds.
 
 import { arrow, el, gloss, heard, lit, steady } from "./dom.js";
-import { handsThatBegin, itemsOf, stateOf, wordsAt } from "./state.js";
+import { handsThatBegin, itemsOf, stateOf, wordsAt } from "./trace.js";
 
 const FIELDS = ["kind", "generation", "count", "rest"];
 
@@ -64,6 +65,39 @@ function partCard(frame, name) {
   return card;
 }
 
-export function heapCards(story, frame) {
-  return story.parts.map((name) => partCard(frame, name));
+export const heapCards = (story, frame) => story.parts.map((name) => partCard(frame, name));
+
+/** What a pass owns or holds, without the verb for those who see its label. */
+function withoutVerb({ has }, verb) {
+  return has.filter((word) => word.startsWith(verb)).flatMap((word, at) => (
+    [at ? el("br") : "", el("span", "heard", `${verb} `), word.slice(verb.length + 1), " "]
+  ));
 }
+
+const ROWS = {
+  "in hand": ({ hand }) => [hand],
+  next: ({ next }) => (next ? [el("span", "heard", "next "), el("span", "next", next)] : []),
+  owns: (pass) => withoutVerb(pass, "owns"),
+  holds: (pass) => withoutVerb(pass, "holds"),
+};
+
+function row(label, pass) {
+  const values = pass ? ROWS[label](pass) : [];
+  const none = gloss(label === "in hand" ? "nothing" : "–");
+  return el("div", "row", el("dt", "gloss", label), el("dd", "", ...(values.length ? values : [none])));
+}
+
+function passCard(frame, number) {
+  const pass = frame.passes.get(number);
+  const isChanged = frame.before !== null && frame.before.passes.get(number)?.text !== pass?.text;
+  const name = el("h3", pass ? "" : "gloss", `pass ${number}`);
+  if (isChanged) name.append(heard(" (changed)"));
+  const rows = Object.keys(ROWS).map((label) => row(label, pass));
+  const card = el("article", `card pass${pass ? "" : " unseen"}`, name, " ", el("dl", "", ...rows));
+  card.classList.toggle("changed", isChanged);
+  card.classList.toggle("acts", number === frame.pass);
+  card.setAttribute("aria-label", `pass ${number}`);
+  return steady(card, `pass ${number}`);
+}
+
+export const passCards = (story, frame) => story.passes.map((number) => passCard(frame, number));

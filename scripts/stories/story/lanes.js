@@ -48,8 +48,7 @@ export function markStep(box, step) {
   const rows = [...box.querySelectorAll("tr.step")];
   rows.forEach((row, at) => {
     row.classList.toggle("later", at + 1 > step);
-    if (at + 1 === step) row.setAttribute("aria-current", "step");
-    else row.removeAttribute("aria-current");
+    row.ariaCurrent = at + 1 === step ? "step" : null;
   });
   const row = rows[step - 1];
   const { parentElement: cell } = row.querySelector(".chip");

@@ -1,13 +1,11 @@
 // Shows the stories: picks one, steps through it, and keeps the step in the address of the page.
 
 import { facts, sectionLink } from "./clauses.js";
-import { arrow, find } from "./dom.js";
-import { heapCards } from "./heap.js";
+import { arrow, find, measured, setHeights } from "./dom.js";
+import { heapCards, passCards } from "./heap.js";
 import { lanesTable, markStep } from "./lanes.js";
-import { passCards } from "./passes.js";
-import { doScript, drawSimulator, startSimulator } from "./simulate.js";
-import { measured, setHeights } from "./steady.js";
-import { addStory, current, freeName, isTyped, now, setDisabled, shown, stories } from "./stories.js";
+import { doScript, drawSimulator, startSimulator, undo } from "./simulate.js";
+import { addStory, current, freeName, now, setDisabled, shown, stories } from "./stories.js";
 import { told } from "./told.js";
 
 function drawParts(frame) {
@@ -31,11 +29,6 @@ function draw() {
   drawSimulator();
 }
 
-function measure() {
-  find("lanes").style.setProperty("--seen", `${find("lanes").clientWidth}px`);
-  now.heights = measured(find("stage"), current().frames, drawParts);
-}
-
 /** Goes to a step of the story, or to the nearest that it has. */
 function go(step) {
   now.step = Math.max(1, Math.min(current().frames.length, step));
@@ -51,7 +44,8 @@ function show(name, step) {
   find("header").textContent = header.join("; ");
   find("section").replaceChildren(...(section ? ["Explained in ", sectionLink(section)] : []));
   find("lanes").replaceChildren(lanesTable(current(), go));
-  measure();
+  find("lanes").style.setProperty("--seen", `${find("lanes").clientWidth}px`);
+  now.heights = measured(find("stage"), current().frames, drawParts);
   go(step);
 }
 
@@ -74,10 +68,11 @@ async function openFile(event) {
 }
 
 function onKey(event) {
-  const direction = { ArrowRight: 1, ArrowLeft: -1 }[event.key];
-  if (isTyped(event, "input, select, textarea") || !direction) return;
+  const act = { ArrowRight: () => go(now.step + 1), ArrowLeft: () => go(now.step - 1), u: undo }[event.key];
+  const isTyped = event.target.matches("input:not([type=range]), select, textarea");
+  if (!act || isTyped || event.altKey || event.ctrlKey || event.metaKey) return;
   event.preventDefault();
-  go(now.step + direction);
+  act();
 }
 
 function goToHash() {

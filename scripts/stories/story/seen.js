@@ -17,6 +17,7 @@
   const all = (root, selector) => [...root.querySelectorAll(selector)];
   const texts = (root, selector) => all(root, selector).map(said);
   const text = (id) => document.getElementById(id).textContent;
+  const label = (card) => card.getAttribute("aria-label");
 
   /** The words of a part by its rows: its own, those of each slot, and its lists. `lit` is "" or ".lit". */
   function rows(card, lit) {
@@ -29,7 +30,6 @@
 
   function part(card) {
     return {
-      name: card.getAttribute("aria-label"),
       age: bare(card.querySelector(".age")?.textContent ?? ""),
       rows: rows(card, ""),
       lit: rows(card, ".lit").filter(([, words]) => words.length),
@@ -40,7 +40,6 @@
 
   function pass(card) {
     return {
-      name: card.getAttribute("aria-label").split(" ")[1],
       text: texts(card, "dd").filter(Boolean).join(" "),
       acts: card.classList.contains("acts"),
       changed: card.classList.contains("changed"),
@@ -50,7 +49,7 @@
   /** The places of all that must not move. */
   function places() {
     const boxes = all(document, "#heap .card, #passes .card").flatMap((card) => {
-      const name = card.getAttribute("aria-label");
+      const name = label(card);
       const kind = said(card.querySelector(".about") ?? card).split(";")[0];
       return [[name, card], ...all(card, ".slot").map((slot, at) => [`${name} (${kind}), box ${at}`, slot])];
     });
@@ -77,8 +76,8 @@
     line: said(document.querySelector("#told .line")),
     sentence: said(document.querySelector("#told .sentence")),
     changes: texts(document, "#told .changes li"),
-    parts: all(document, "#heap .card").map(part),
-    passes: all(document, "#passes .card").map(pass),
+    parts: Object.fromEntries(all(document, "#heap .card").map((card) => [label(card), part(card)])),
+    passes: Object.fromEntries(all(document, "#passes .card").map((card) => [label(card).split(" ")[1], pass(card)])),
     rows: texts(document, "#lanes tbody tr.step"),
     here: texts(document, "#lanes tr[aria-current] th"),
     broken: texts(document, ".case.broken"),

@@ -1,25 +1,18 @@
 // The simulator: the reader chooses whose next step is done. From a story that makes a script of the reader's own. It
 // has the lines of the story up to the step, and then the steps that were chosen.
 
-import { isNext, possible, shapeOf } from "./choices.js";
-import { openCore } from "./core.js";
+import { isNext, openCore, possible, shapeOf } from "./choices.js";
 import { el, find, gloss } from "./dom.js";
 import { chip } from "./lanes.js";
-import { addStory, current, freeName, isTyped, now, setDisabled, shown, stories } from "./stories.js";
+import { addStory, current, freeName, now, setDisabled, shown, stories } from "./stories.js";
 
-const FRESH = [
-  "; A heap with one value. Its owner is pass 0.", "heap tiny 1 1 3", "0 Adopt 0", "0 Read 0.0", "0 SetClass 0.0 7",
-  "0 Fill 0.0.0 7", "0 Fill", "0 Publish",
-];
 const LEFT = "; From here on the reader chose the steps.";
 // So many events of a kind are shown at once.
 const SHOWN = 3;
 
 const simulator = { core: null, show: null, round: 0, passToFocus: null };
 
-function isOpen() {
-  return find("choose").open && simulator.core !== null;
-}
+const isOpen = () => find("choose").open && simulator.core !== null;
 
 /** Does these lines, as the reader's own script of this name, and shows its last step. `from` is where it began. */
 function doLines(name, lines, from) {
@@ -36,9 +29,7 @@ function doLines(name, lines, from) {
 }
 
 /** The name of what the reader does: that of the story, if it is the reader's own. */
-function ownName() {
-  return current().isOwn ? now.name : freeName("mine");
-}
+const ownName = () => (current().isOwn ? now.name : freeName("mine"));
 
 /** Does the event that the reader chose. The story's own next event goes on with the story. */
 function choose(pass, event) {
@@ -52,14 +43,9 @@ function choose(pass, event) {
   doLines(ownName(), lines, story.from ?? { name: now.name, step: now.step });
 }
 
-function undo() {
+export function undo() {
   const { isOwn, frames, lines, from } = current();
-  if (isOwn && frames.length > 1) doLines(now.name, lines.slice(0, frames.at(-2).lines), from);
-}
-
-function again() {
-  const { from } = current();
-  if (from) simulator.show(from.name, from.step);
+  if (isOpen() && isOwn && frames.length > 1) doLines(now.name, lines.slice(0, frames.at(-2).lines), from);
 }
 
 export function doScript(name, text, from) {
@@ -92,8 +78,6 @@ function choiceRow(pass, events) {
   return row;
 }
 
-const pause = () => new Promise((done) => window.setTimeout(done, 0));
-
 /** Draws what each pass can do next. If another step is shown meanwhile, it ends. */
 async function drawChoices() {
   simulator.round += 1;
@@ -102,7 +86,7 @@ async function drawChoices() {
   const rows = [];
   find("choices").setAttribute("aria-busy", "true");
   for (let pass = 0; pass < shapeOf(current()).passes; pass += 1) {
-    await pause();
+    await new Promise((done) => window.setTimeout(done, 0));
     if (round !== simulator.round) return;
     rows.push(choiceRow(String(pass), possible(core, current(), shown(), String(pass), value)));
   }
@@ -123,15 +107,13 @@ export function drawSimulator() {
 export async function startSimulator(show) {
   simulator.show = show;
   const acts = {
-    undo, again, fresh: () => doLines(freeName("mine"), FRESH),
+    undo, again: () => current().from && simulator.show(current().from.name, current().from.step),
+    fresh: () => doScript(freeName("mine"), find("fresh-lines").textContent),
     "do-lines": () => doScript(ownName(), find("script").value, current().from),
   };
   for (const [id, act] of Object.entries(acts)) find(id).addEventListener("click", act);
   find("value").addEventListener("change", drawSimulator);
   find("choose").addEventListener("toggle", drawSimulator);
-  document.addEventListener("keydown", (event) => {
-    if (event.key === "u" && !isTyped(event, "input:not([type=range]), textarea, select") && isOpen()) undo();
-  });
   try {
     simulator.core = await openCore(find("program").textContent);
     document.documentElement.dataset.program = "ready";

@@ -1,27 +1,23 @@
 // The stories of the page, and the step that is shown. The reader's own are among them.
 
 import { find } from "./dom.js";
-import { partNames, passNames } from "./state.js";
 import { readTrace } from "./trace.js";
 
 export const stories = new Map();
 export const now = { name: "", step: 1, heights: new Map() };
 
-export function current() {
-  return stories.get(now.name);
-}
-
-export function shown() {
-  return current().frames[now.step - 1];
-}
+export const current = () => stories.get(now.name);
+export const shown = () => current().frames[now.step - 1];
 
 /** Adds a story: its trace, and what is the same in all steps. `more` is what the trace does not say of it. */
 export function addStory(name, text, more = {}) {
-  const { title, header, lines, frames } = readTrace(text);
+  const trace = readTrace(text);
+  const { frames } = trace;
+  const parts = [...frames.at(-1).parts.keys()].sort(new Intl.Collator("en", { numeric: true }).compare);
+  const passes = new Set(frames.flatMap((frame) => [frame.pass, ...frame.passes.keys()]));
   if (!stories.has(name)) find("which").append(new Option(name, name));
   stories.set(name, {
-    title: title || name, header, lines, frames, parts: partNames(frames), passes: passNames(frames),
-    start: 1, ...more,
+    ...trace, title: trace.title || name, parts, passes: [...passes].sort((a, b) => a - b), start: 1, ...more,
   });
 }
 
@@ -34,9 +30,4 @@ export function freeName(name) {
 /** Says that a button has nothing to do at this step, or something. It stays where the focus is. */
 export function setDisabled(id, isDisabled) {
   find(id).setAttribute("aria-disabled", String(isDisabled));
-}
-
-/** Whether a key is typed into one of these elements, or with another key that is held. */
-export function isTyped(event, places) {
-  return event.target.matches(places) || event.altKey || event.ctrlKey || event.metaKey;
 }
