@@ -1,4 +1,4 @@
-"""Three forms of scripts whose answers are judged without a model of the heap:
+"""Four forms of scripts whose answers are judged without a model of the heap:
 
 - `Ordered`: a script of calls in one order, by a post and a wait at each change of pass. Mode threads has to print what
   mode heap prints.
@@ -6,6 +6,7 @@
   tool_history judges its answers, by times that are the phases. The account lines have to follow from the answers.
 - `Stepped`: calls of several passes, each a list of events, that are mixed for mode steps. Mode heap has to answer the
   calls in the same way, in the order in which their steps decided them.
+- `Called`: calls in one order for tool_calls, looks among them. tool_history judges its answers.
 
 Each form has `script()`, and `wrongs(run)`. The function `run` takes a mode and a script, and returns its status and
 output, or None if it did not end.
@@ -22,6 +23,24 @@ GENERATIONS = {TINY: 3, WIDE: 2**32 - 1}
 MOST_HOLDS = {TINY: 4, WIDE: 2**20}
 ACCOUNT = re.compile(r"page (\d+\.\d+) class \d" + "".join(
     rf" {kind} (\d+)" for kind in ("live", "marked", "retired", "mine", "hand", "queued")))
+
+
+# What an answer is in a history, by its call.
+ENTRIES = {("get", "ok"): "Got", ("remove", "ok"): "Removed", ("release", "ok"): "Released",
+           ("get", "refused 3"): "Crowded", ("get", "refused 2"): "Gone", ("look", "refused 2"): "Gone",
+           ("remove", "refused 2"): "Gone"}
+
+
+def entry_of(words, answer, key):
+    """The entry of a history that a call on a key and its answer are, or None."""
+    if key is None:
+        return None
+    if words[0] == "insert":
+        return " ".join(["Insert", str(key), str(len(words) - 2), *words[2:]])
+    if words[0] == "look" and answer[0] != "refused":
+        return " ".join(["Seen", str(key), *answer])
+    entry = ENTRIES.get((words[0], " ".join(answer[:2])))
+    return entry and f"{entry} {key}"
 
 
 def accounts(output):
@@ -104,16 +123,10 @@ class Phased:
 
     def history(self, answered):
         lines = [f"history {self.passes} {MOST_HOLDS[self.layout]}"]
-        words = {("get", "ok"): "Got", ("remove", "ok"): "Removed", ("release", "ok"): "Released",
-                 ("get", "refused 2"): "Gone", ("remove", "refused 2"): "Gone", ("get", "refused 3"): "Crowded"}
         for call, answer, key in answered:
-            word = words.get((call.words[0], " ".join(answer[:2])))
-            if call.words[0] == "insert":
-                word = " ".join(["Insert", str(key), str(len(call.words) - 2), *call.words[2:]])
-            elif word is not None:
-                word = f"{word} {key}"
-            if word is not None and key is not None:
-                lines.append(f"{2 * call.phase} {2 * call.phase + 1} {call.by} {word}")
+            entry = entry_of(call.words, answer, key)
+            if entry:
+                lines.append(f"{2 * call.phase} {2 * call.phase + 1} {call.by} {entry}")
         return "\n".join(lines) + "\n"
 
     def expected(self, answered):
@@ -226,3 +239,39 @@ class Stepped:
         if accounts(heap[1]) != accounts(ran[1]):
             found.append("the account lines of heap are not those of the mixed steps of its calls")
         return found
+
+
+class Called:
+    def __init__(self, dice):
+        layout, passes = dice.choice((TINY, WIDE)), dice.randint(2, 4)
+        self.head, self.lines = f"history {passes} {MOST_HOLDS[layout]}", [f"heap {layout} 1 1 {passes}", "0 adopt 0"]
+        names = []
+        for number in range(dice.randint(1, 200)):
+            command = dice.choice(("insert", "look", "look", "look", "get", "get", "release", "remove"))
+            if command == "insert" or not names:
+                names.append(f"n{number}")
+                value = [str(dice.getrandbits(64)) for _ in range(dice.choice((0, 1, 2, 16)))]
+                self.lines.append(" ".join(["0", "insert", names[-1], *value]))
+            else:
+                self.lines.append(f"{dice.randrange(passes)} {command} {dice.choice(names[-4:])}")
+
+    def script(self):
+        return "\n".join(["version 3", *self.lines]) + "\n"
+
+    def history(self, output):
+        keys, lines = {}, [self.head]
+        for line, reply in zip(self.lines[1:], output.splitlines(), strict=True):
+            (by, *words), answer = line.split(), reply.split()[2:]
+            if words[0] == "insert" and answer[0] != "refused":
+                keys[words[1]] = answer[0]
+            entry = entry_of(words, answer, keys.get(words[1]))
+            lines += [f"{by} {entry}"] if entry else []
+        return "\n".join(lines) + "\n"
+
+    def wrongs(self, _run):
+        ran = rows.run(rows.Row("tool_calls", (), self.script()))
+        if ran.status != 0:
+            return [f"tool_calls ended with status {ran.status}: {ran.error}"]
+        judged = rows.run(rows.Row("tool_history", (), self.history(ran.text())))
+        legal = judged.output.startswith(b"legal")
+        return [] if legal else [f"tool_history says of the answers of tool_calls: {judged.output + judged.error}"]

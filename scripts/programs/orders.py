@@ -16,6 +16,10 @@ REMOVAL = ("Enter remove 4096", "Mark", "Drop", "Finish", "Put", "Tie", "Ring", 
 REMOVERS = "\n".join(["heap tiny 1 1 6", "0 Adopt 0", "0 Read 0.0", "0 SetClass 0.0 7", "0 Fill 0.0.0 0", "0 Fill",
                       "0 Publish", MARK, *(f"{number} {step}" for number in range(1, 6) for step in REMOVAL), ""])
 REMOVERS_STATES, REMOVERS_MEMORY = 118_577, 100_000_000
+# Six passes each remove a key of their own, so all combinations of how far each is are met.
+APART = "\n".join(["version 3", "heap tiny 1 1 7", "0 adopt 0", *(f"0 insert 0.{page}.0 0" for page in range(6)), MARK,
+                   *(f"{page + 1} remove {4096 + 64 * page}" for page in range(6)), ""])
+APART_STATES = 7**6
 # One pass of 20,000 steps, which would not end in time if each step did those before it again.
 LONG = "heap tiny 1 1 1\n" + "0 Adopt 0\n0 Leave\n" * 10_000
 # 64 passes that each want a shard: more states than memory has room for.
@@ -74,6 +78,8 @@ def bounded():
     """Large walks, and a file of outcomes that has no end."""
     yield Row("tool_orders", (), REMOVERS, output=begins(f"; states {REMOVERS_STATES}\n"), name="five removers",
               seconds=SECONDS, limits={resource.RLIMIT_AS: REMOVERS_MEMORY})
+    yield Row("tool_orders", (), APART, output=begins(f"; states {APART_STATES}\n; ends 1\n"), name="six removers apart",
+              seconds=SECONDS)
     yield Row("tool_orders", (), LONG, output=begins("; states 20001\n"), name="one long pass", seconds=SECONDS)
     yield cut(["--bytes", CROWD_BYTES], "heap tiny 1 1 64\n" + CROWD, f"{CROWD_BYTES} bytes: states ", "64 adopters",
               CROWD_MEMORY)
