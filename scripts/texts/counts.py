@@ -88,16 +88,18 @@ TO_READ = [
     ("the actions, and the table `row`: what each action requires, does and leaves", "sh_step/src action moves body;"
      " sh_step/specs Plans Collections Operations Parts Rows Moves"),
     ("what a list of events leaves, and what was put on each list", "sh_core/specs Words Worlds Lists"),
-    ("the theorem, with the definitions that its clauses cite", "sh_core/specs Tallies Stacks Bells LinkWords InHeap"
+    ("the theorem, with the definitions that its clauses cite", "sh_core/specs Tallies Stacks Bells InHeap"
      " Looks Variants Refines; sh_step/specs Conditions Ends; sh_core/src claims"),
     ("the rule of the running heap, and the file that touches its words", "sh_step/specs Footsteps; sh_core/specs Kept"
      " Trails; sh_table/specs Views Tales TableNumbers Reached Orders; sh_table/src rule table"),
     ("what the calls of a pass do", "sh_pass/specs Deciding Growing Passes Rooms Fetching Remaining Receipts;"
      " sh_pass/src keeping room pass receipt"),
-    ("what the calls of an owner do", "sh_pass/specs Owners; sh_shard/specs Pages Turning Works Leaving Filing Bounds"
-     " Shards RemoteFrees; sh_shard/src shard shard/adopting shard/calls shard/collecting shard/insert shard/leaving"),
+    ("what the calls of an owner do", "sh_pass/specs Owners; sh_shard/specs Slots Pages Turning Works Leaving Filing"
+     " Bounds Shards RemoteFrees; sh_shard/src shard shard/adopting shard/calls shard/collecting shard/insert"
+     " shard/leaving"),
     ("what the contracts of 7 to 9 cite besides", "sh_step/specs Fits; sh_core/specs Outcomes; sh_table/specs Seats"
-     " Steps Whole; sh_lists/specs Numbers; sh_queue/specs Numbers Queues; sh_shard/specs Steps Returning"),
+     " Steps Whole; sh_lists/specs Lists Numbers; sh_states/specs States; sh_queue/specs Numbers Queues;"
+     " sh_shard/specs Steps Returning"),
 ]
 # counts of one file: its path, and what is counted there
 IN_ONE_FILE = {

@@ -15,7 +15,7 @@ import re
 from checks import told
 from tree import CRATES
 
-MOST = 54
+MOST = 52
 OTHERS = ("test_", "tool_", "example_")
 QUOTED = r"""\"(?:\\.|[^"\\])*\"|'(?:\\.|[^'\\])'"""
 COMMENT = re.compile(rf"({QUOTED})|//[^\n]*")
@@ -24,7 +24,7 @@ FUNCTION = re.compile(r"\bfn (\w+)")
 LET = re.compile(r"\blet\s+")
 WORD = re.compile(r"\b[a-z_]\w*\b")
 READS = re.compile(r"\bfn (\w+)(?:<[^(]*>)?\(\s*(&self\b)?[^;{]*?(?=\n\s*(?:requires|ensures|where)\b|[;{])")
-CALL = re.compile(r"(?:^|[;{}])\s*(?:\w+\s*\.\s*)+(\w+)\s*\([^;{}]*\)\s*;")
+CALL = re.compile(r"(?:^|[;{}])\s*(?:\w+\s*\.\s*)+(\w+)\s*\((?:[^;{}()]|\([^;{}()]*\))*\)\s*;")
 BORROW = re.compile(r"(?:^|[;{}])\s*&\s*\w[\w.\s]*;")
 NO_NAMES = {"mut", "ref", "box", "_"}
 
