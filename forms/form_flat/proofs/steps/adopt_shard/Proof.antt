@@ -1,0 +1,4 @@
+use Rattle.form_flat.proofs.steps.adopt_shard.Statement.{statement}
+
+pub adopt_shard_spec : {M : Type 1} → statement M
+adopt_shard_spec = ?

@@ -1,0 +1,4 @@
+use Rattle.form_flat.proofs.steps.push_gained.Statement.{statement}
+
+pub push_gained_spec : {M : Type 1} → statement M
+push_gained_spec = ?

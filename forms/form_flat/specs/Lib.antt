@@ -1,0 +1,2 @@
+pub mod Flat
+pub use Rattle.sh_pass.specs.Passes

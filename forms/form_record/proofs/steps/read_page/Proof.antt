@@ -1,0 +1,4 @@
+use Rattle.form_record.proofs.steps.read_page.Statement.{statement}
+
+pub read_page_spec : {M : Type 1} → statement M
+read_page_spec = ?

@@ -1,0 +1,2 @@
+pub mod Members
+pub use Rattle.sh_pass.specs.Passes

@@ -1,0 +1,4 @@
+use Rattle.form_typed.proofs.steps.insert_at.Statement.{statement}
+
+pub insert_at_spec : {M : Type 1} → statement M
+insert_at_spec = ?

@@ -1,0 +1,2 @@
+pub mod Typed
+pub use Rattle.sh_pass.specs.Passes
