@@ -33,6 +33,8 @@ pub struct ChunkMember {
     pub(crate) note: Note<Share<Chunked>>,
     // How many shards the chunk has.
     pub(crate) shards: u32,
+    // The shard that it adopted last.
+    pub(crate) shard: usize,
 }
 
 // A `PoolSlot` ends in `give_pass` or in `lose`: what is dropped is lost.
@@ -43,6 +45,7 @@ impl Drop for ChunkMember {
             pool_slot,
             note: _,
             shards: _,
+            shard: _,
         } = self;
         pool_slot.lose();
     }
@@ -56,6 +59,7 @@ impl ChunkMember {
             pool_slot,
             note: _,
             shards: _,
+            shard: _,
         } = self;
         if member.owns_shard() {
             // Refused if another caller's free is yet to end.
@@ -87,6 +91,7 @@ fn met_by(kept: Share<Chunked>, note: Note<Share<Chunked>>, taken: Taken<Chunked
         pool_slot,
         note,
         shards,
+        shard: 0,
     }
 }
 
@@ -348,7 +353,9 @@ fn adopt_at(alloc: Global, place: &mut Option<ChunkMember>, shard: usize) -> Res
         Some(met) => {
             // Between its calls a member has the shape of its heap, by which the steps are counted.
             let _known = met.member.shape();
-            met.member.adopt(alloc, shard as u64)
+            met.member.adopt(alloc, shard as u64)?;
+            met.shard = shard;
+            Ok(())
         }
         None => unreachable!(),
     }

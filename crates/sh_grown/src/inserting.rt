@@ -1,6 +1,6 @@
 // How a caller inserts: over the chunks, and at last into a new one.
 ghost use Rattle.std.specs.Prelude.{◌≡◌, ◌<◌, ◌≤◌, ◌-◌, ℕ, IfErr, IfOk, IfSome, MatchResult, None, Ok, OnErr, OnOk};
-ghost use Rattle.std.specs.Prelude.{◌+◌, Err};
+ghost use Rattle.std.specs.Prelude.{◌+◌, ◌*◌, ◌^◌, Err};
 ghost use Rattle.std.specs.Prelude.{false, get_or, length, true};
 ghost use Rattle.sh_chunk.specs.Chunks.{chunk_of};
 ghost use Rattle.sh_grown.specs.Callers.{Meets, Stays, WhyWithout};
@@ -216,7 +216,7 @@ impl Caller {
             let Ok(()) = self.meet(chunk as usize) else {
                 return Ok(Tried::Refused(owned));
             };
-            let tried = tried_after(owned, self.try_shards(alloc, chunk, value, false))?;
+            let tried = tried_after(owned, self.try_turns(alloc, chunk, value))?;
             let Tried::Refused(so_far) = tried else {
                 return Ok(tried);
             };
@@ -242,7 +242,7 @@ impl Caller {
         for number in 0..self.growing.chunks_allowed() {
             let chunk = number as u8;
             self.meet_opened(alloc, chunk)?;
-            let tried = tried_after(owned, self.try_shards(alloc, chunk, value, true))?;
+            let tried = tried_after(owned, self.try_shards(alloc, chunk, value))?;
             let Tried::Refused(so_far) = tried else {
                 return Ok(tried);
             };
@@ -251,33 +251,23 @@ impl Caller {
         Ok(Tried::Refused(owned))
     }
 
-    // Stores a value in the first shard of a chunk that it can own and that has room, if `collects` after a collect in
-    // the shard. Its next walk begins behind that shard.
+    // Stores a value in the first shard of a chunk that it can own and that has room after a collect.
     #[tactic(auto, using(crate::proofs::Walked::has_met_then))]
-    fn try_shards(
-        &mut self,
-        alloc: Global,
-        chunk: u8,
-        value: &Value,
-        collects: bool,
-    ) -> Result<Tried, Refusal>
+    fn try_shards(&mut self, alloc: Global, chunk: u8, value: &Value) -> Result<Tried, Refusal>
         requires { HasMet self.old.met.items chunk }
         ensures tries { TriesInsert value.now self.old.met.items result self.new.met.items }
-        ensures refused { collects ≡ true → OnRefused result
+        ensures refused { OnRefused result
             (λ owned. ChunkRefused owned value.now chunk self.old.met.items self.new.met.items) }
         ensures steps { TakesIn chunk (λ shards. steps_of shards shards shards (length value.now)) self.old self.new }
         ensures stays { Stays self.old self.new }
     {
         let shards = self.shards_in(chunk);
         let first = self.first_shard(chunk, shards, value);
-        let behind = self.try_range(alloc, chunk, first, shards, value, collects)?;
+        let behind = self.try_range(alloc, chunk, first, shards, value)?;
         let Tried::Refused(owned) = behind else {
             return Ok(behind);
         };
-        tried_after(
-            owned,
-            self.try_range(alloc, chunk, 0, first, value, collects),
-        )
+        tried_after(owned, self.try_range(alloc, chunk, 0, first, value))
     }
 
     // The same in the shards from this one on, below another.
@@ -288,11 +278,10 @@ impl Caller {
         from: usize,
         to: usize,
         value: &Value,
-        collects: bool,
     ) -> Result<Tried, Refusal>
         requires { HasMet self.old.met.items chunk }
         ensures tries { TriesInsert value.now self.old.met.items result self.new.met.items }
-        ensures refused { collects ≡ true → OnRefused result
+        ensures refused { OnRefused result
             (λ owned. RangeRefused owned value.now chunk from to self.old.met.items self.new.met.items) }
         ensures steps { TakesIn chunk (λ shards. steps_of (to - from) (to - from) (to - from) (length value.now))
             self.old self.new }
@@ -300,18 +289,19 @@ impl Caller {
     {
         let mut owned = false;
         for shard in from..to {
-            let tried = tried_after(owned, self.try_shard(alloc, chunk, shard, value, collects))?;
+            let tried = tried_after(owned, self.try_shard(alloc, chunk, shard, value, true))?;
             let Tried::Refused(so_far) = tried else {
-                self.note_room(chunk, shard + 1, value);
+                self.note_room(chunk, value);
                 return Ok(tried);
             };
+            self.note_full(chunk, value);
             owned = so_far;
         }
         Ok(Tried::Refused(owned))
     }
 
     // The same in this shard.
-    fn try_shard(
+    pub(crate) fn try_shard(
         &mut self,
         alloc: Global,
         chunk: u8,
@@ -386,8 +376,9 @@ impl Caller {
     }
 
     // How many shards a chunk has that it has met, and otherwise 0.
-    fn shards_in(&self, chunk: u8) -> usize
-        ensures { IfSome (get_or self.now.met.items chunk None) (λ met. result ≡ met.shards) }
+    pub(crate) fn shards_in(&self, chunk: u8) -> usize
+        ensures few { result < 2 ^ 32 }
+        ensures count { IfSome (get_or self.now.met.items chunk None) (λ met. result ≡ met.shards) }
     {
         match self.met.get(chunk as usize) {
             Some(place) => shards_at(place) as usize,

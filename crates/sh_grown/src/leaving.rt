@@ -64,6 +64,7 @@ impl Caller {
         ensures keeps { KeepsMembers self.old.met.items self.new.met.items }
         ensures stays { Stays self.old self.new }
     {
+        self.note_left(chunk);
         leave_at(&mut self.met[chunk])
     }
 
@@ -86,6 +87,9 @@ impl Caller {
     /// shard is of the first chunk, the number cannot be claimed again. If it is of a later one, the number can, and
     /// that chunk then refuses its calls as `Taken`.
     pub fn give_back(self) {
+        for chunk in 0..self.met.len() {
+            self.note_left(chunk);
+        }
         let Caller {
             growing: _,
             number: _,

@@ -35,6 +35,7 @@ mod store;
 mod told_keys;
 pub mod totals;
 mod tried;
+mod turns;
 mod walking;
 
 pub use caller::Caller;

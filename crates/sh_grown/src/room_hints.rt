@@ -1,5 +1,6 @@
-//! Where inserts found room last: a word of the heap for each class of values, which its callers share. It says where
-//! the next walk begins, and nothing else depends on it, so it may be out of date.
+//! Where inserts found room last, and which shards had none: two words of the heap for each class of values, which its
+//! callers share. They say in which order shards are tried, and nothing else depends on them, so they may be out of
+//! date.
 ghost use Rattle.std.specs.Prelude.{◌≤◌};
 
 use crate::caller::Caller;
@@ -16,15 +17,58 @@ const CHUNK_BITS: u32 = 8;
 
 const CHUNK: u64 = 0xff;
 
-/// Where walks begin.
+// Chunks with more shards share their bits in a word of full shards.
+const SHARDS_ALONE: usize = 16;
+
+/// Where walks begin, and what they try last.
 #[derive(Drop)]
 pub(crate) struct RoomHints {
     // For each class the chunk in which a walk found room last, and the number behind its shard there.
     rooms: [AtomicU64; CLASSES],
+    // For each class the shards in which an insert found no room: a bit for each.
+    full: [AtomicU64; CLASSES],
+}
+
+// A shard of a chunk that has this many.
+#[derive(Clone, Copy)]
+struct Place {
+    chunk: usize,
+    shards: usize,
+    shard: usize,
+}
+
+impl Place {
+    // How many shards the chunks before have, if they have the shapes of their numbers.
+    fn before(self) -> usize {
+        if self.chunk == 0 {
+            0
+        } else if self.chunk % 2 == 0 {
+            self.shards.wrapping_mul(3)
+        } else {
+            self.shards.wrapping_mul(2)
+        }
+    }
+
+    fn bit(self) -> u64 {
+        1 << (self.before().wrapping_add(self.shard) % 64)
+    }
 }
 
 fn word() -> AtomicU64 {
     AtomicU64::new(0)
+}
+
+fn words() -> [AtomicU64; CLASSES] {
+    [
+        word(),
+        word(),
+        word(),
+        word(),
+        word(),
+        word(),
+        word(),
+        word(),
+    ]
 }
 
 fn class_in(value: &Value) -> usize {
@@ -38,16 +82,8 @@ impl RoomHints {
     // A walk begins in the first shard of the first chunk.
     pub(crate) fn new() -> RoomHints {
         RoomHints {
-            rooms: [
-                word(),
-                word(),
-                word(),
-                word(),
-                word(),
-                word(),
-                word(),
-                word(),
-            ],
+            rooms: words(),
+            full: words(),
         }
     }
 
@@ -59,16 +95,59 @@ impl RoomHints {
         ((word & CHUNK) as u8, (word >> CHUNK_BITS) as usize)
     }
 
-    fn set_last_room(&self, class: usize, chunk: u8, next: usize) {
+    // The shards that had no room, from the first one of this chunk on.
+    fn full_from(&self, class: usize, first: Place) -> u64 {
+        match self.full.get(class) {
+            Some(full) => full
+                .load(Ordering::SeqCst)
+                .rotate_right((first.before() % 64) as u32),
+            None => 0,
+        }
+    }
+
+    // Writes the bits of full shards only if they change. What another thread writes at once may be lost.
+    fn set_full(&self, class: usize, cleared: u64, set: u64) {
+        if let Some(full) = self.full.get(class) {
+            let old = full.load(Ordering::SeqCst);
+            let new = old & !cleared | set;
+            if new != old {
+                full.store(new, Ordering::SeqCst);
+            }
+        }
+    }
+
+    // An insert found room here.
+    fn set_room(&self, class: usize, place: Place) {
+        let (last, _) = self.last_room(class);
+        if last as usize != place.chunk && SHARDS_ALONE < place.shards {
+            self.set_full(class, u64::MAX, 0);
+        } else {
+            self.set_full(class, place.bit(), 0);
+        }
+        self.set_last_room(class, place.chunk, place.shard.wrapping_add(1));
+    }
+
+    // Its owner leaves it, and may have removed values of any class.
+    fn set_left(&self, place: Place) {
+        for class in 0..CLASSES {
+            self.set_full(class, place.bit(), 0);
+        }
+    }
+
+    fn set_last_room(&self, class: usize, chunk: usize, next: usize) {
         if let Some(room) = self.rooms.get(class) {
-            room.store((next as u64) << CHUNK_BITS | chunk as u64, Ordering::SeqCst);
+            room.store(
+                (next as u64) << CHUNK_BITS | chunk as u64 & CHUNK,
+                Ordering::SeqCst,
+            );
         }
     }
 
     // A chunk was opened, which has room for each class.
     fn set_opened(&self, chunk: u8) {
         for class in 0..CLASSES {
-            self.set_last_room(class, chunk, 0);
+            self.set_last_room(class, chunk as usize, 0);
+            self.set_full(class, u64::MAX, 0);
         }
     }
 }
@@ -113,9 +192,50 @@ impl Caller {
         }
     }
 
-    // Its walk found room for the value in this chunk, in the shard before this number.
-    pub(crate) fn note_room(&self, chunk: u8, next: usize, value: &Value) {
-        let hints = &self.growing.heap().hints;
-        hints.set_last_room(class_in(value), chunk, next);
+    // The shard that it owns in this chunk.
+    fn owned_in(&self, chunk: usize) -> Option<Place> {
+        let Some(Some(met)) = self.met.get(chunk) else {
+            return None;
+        };
+        if !met.member.owns_shard() {
+            return None;
+        }
+        Some(Place {
+            chunk,
+            shards: met.shards as usize,
+            shard: met.shard,
+        })
+    }
+
+    // Which shards of a chunk with this many had no room for a value of the class: a bit for each, from the lowest on.
+    pub(crate) fn full_in(&self, chunk: u8, shards: usize, value: &Value) -> u64 {
+        let first = Place {
+            chunk: chunk as usize,
+            shards,
+            shard: 0,
+        };
+        self.growing.heap().hints.full_from(class_in(value), first)
+    }
+
+    // The shard that it owns in this chunk had room for the value.
+    pub(crate) fn note_room(&self, chunk: u8, value: &Value) {
+        if let Some(place) = self.owned_in(chunk as usize) {
+            self.growing.heap().hints.set_room(class_in(value), place);
+        }
+    }
+
+    // It had none.
+    pub(crate) fn note_full(&self, chunk: u8, value: &Value) {
+        if let Some(place) = self.owned_in(chunk as usize) {
+            let hints = &self.growing.heap().hints;
+            hints.set_full(class_in(value), 0, place.bit());
+        }
+    }
+
+    // It is about to leave that shard.
+    pub(crate) fn note_left(&self, chunk: usize) {
+        if let Some(place) = self.owned_in(chunk) {
+            self.growing.heap().hints.set_left(place);
+        }
     }
 }

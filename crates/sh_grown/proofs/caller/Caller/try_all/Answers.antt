@@ -48,7 +48,7 @@ loop-number-preserved c =
       each = refused (λ (a : Result Tried Refusal). OnRefused a (λ here. AllRefused here (number + 1) value old new)) all
           c.in_ok-tried.tried c.in-Refused.so_far c.in_ok-tried.ensures c.in-Refused.is
           (chunks_after owned value number old mid met new c.try_shards.result i.each i.keeps meets
-          c.try_shards.ensures.tries (c.try_shards.ensures.refused refl));
+          c.try_shards.ensures.tries c.try_shards.ensures.refused);
       steps =
           let was = c.args.self.now in
           let before = c.loop-number.self in

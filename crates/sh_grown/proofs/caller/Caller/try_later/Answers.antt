@@ -32,23 +32,23 @@ loop-number-preserved c =
     let mid = c.loop-number.self in
     let begun : Stays old mid = record { growing = i.stays.growing; number = i.stays.number } in
     let met = c.meet.new.self in
-    let new = c.try_shards.new.self in
+    let new = c.try_turns.new.self in
     let stays = stays_then old mid met begun c.meet.ensures.stays in
     let tried : TriesInsert value old.met.items (Ok (Refused c.in-Refused.so_far)) new.met.items =
     refused (λ (a : Result Tried Refusal). TriesInsert value old.met.items a new.met.items)
-    (tried_after c.loop-number.owned c.try_shards.result) c.in_ok-tried.tried c.in-Refused.so_far
+    (tried_after c.loop-number.owned c.try_turns.result) c.in_ok-tried.tried c.in-Refused.so_far
     c.in_ok-tried.ensures c.in-Refused.is
-    (tries_after value old.met.items met.met.items new.met.items c.loop-number.owned c.try_shards.result
+    (tries_after value old.met.items met.met.items new.met.items c.loop-number.owned c.try_turns.result
     (keeps_then old.met.items mid.met.items met.met.items i.keeps c.meet.ensures.keeps)
     (λ e. owned_then value old.met.items mid.met.items met.met.items (i.own e) c.meet.ensures.keeps)
-    c.try_shards.ensures.tries) in
-    let after = stays_then old met new stays c.try_shards.ensures.stays in
+    c.try_turns.ensures.tries) in
+    let after = stays_then old met new stays c.try_turns.ensures.stays in
     record {
       stays = record { growing = after.growing; number = after.number };
       keeps = tried.0;
       own = tried.1;
       steps = below_next k most old mid met new begun c.meet.ensures.stays i.steps
-          (met_each k most mid met c.meet.result c.meet.ensures.met) c.try_shards.ensures.steps;
+          (met_each k most mid met c.meet.result c.meet.ensures.met) c.try_turns.ensures.steps;
     }
 
 -- the chunk is not open
@@ -83,10 +83,10 @@ returns-in_err-tried-clause-steps c =
     let mid = c.loop-number.self in
     let begun : Stays old mid = record { growing = i.stays.growing; number = i.stays.number } in
     let met = c.meet.new.self in
-    let new = c.try_shards.new.self in
+    let new = c.try_turns.new.self in
     below_each (k + 1) most old new
     (below_next k most old mid met new begun c.meet.ensures.stays i.steps
-    (met_each k most mid met c.meet.result c.meet.ensures.met) c.try_shards.ensures.steps)
+    (met_each k most mid met c.meet.result c.meet.ensures.met) c.try_turns.ensures.steps)
 
 pub returns-in_default-tried-clause-steps : goal.returns-in_default-tried-clause-steps
 returns-in_default-tried-clause-steps c =
@@ -97,10 +97,10 @@ returns-in_default-tried-clause-steps c =
     let mid = c.loop-number.self in
     let begun : Stays old mid = record { growing = i.stays.growing; number = i.stays.number } in
     let met = c.meet.new.self in
-    let new = c.try_shards.new.self in
+    let new = c.try_turns.new.self in
     below_each (k + 1) most old new
     (below_next k most old mid met new begun c.meet.ensures.stays i.steps
-    (met_each k most mid met c.meet.result c.meet.ensures.met) c.try_shards.ensures.steps)
+    (met_each k most mid met c.meet.result c.meet.ensures.met) c.try_turns.ensures.steps)
 
 pub returns-clause-steps : goal.returns-clause-steps
 returns-clause-steps c =
@@ -114,12 +114,12 @@ returns-in_err-tried-clause-tries c =
     let old = c.args.self.now.met.items in
     let mid = c.loop-number.self.met.items in
     let met = c.meet.new.self.met.items in
-    let new = c.try_shards.new.self.met.items in
+    let new = c.try_turns.new.self.met.items in
     let p = err_from_is_err_and c.from_residual.result c.from_residual.ensures.1 in
     rw (p.1, p.2) (subst (λ (a : Result Tried Refusal). TriesInsert value old a new) (sym c.in_err-tried.ensures)
-    (tries_after value old met new c.loop-number.owned c.try_shards.result
+    (tries_after value old met new c.loop-number.owned c.try_turns.result
     (keeps_then old mid met i.keeps c.meet.ensures.keeps)
-    (λ e. owned_then value old mid met (i.own e) c.meet.ensures.keeps) c.try_shards.ensures.tries))
+    (λ e. owned_then value old mid met (i.own e) c.meet.ensures.keeps) c.try_turns.ensures.tries))
 
 pub returns-in_default-tried-clause-tries : goal.returns-in_default-tried-clause-tries
 returns-in_default-tried-clause-tries c =
@@ -128,9 +128,9 @@ returns-in_default-tried-clause-tries c =
     let old = c.args.self.now.met.items in
     let mid = c.loop-number.self.met.items in
     let met = c.meet.new.self.met.items in
-    let new = c.try_shards.new.self.met.items in
+    let new = c.try_turns.new.self.met.items in
     returned (λ (a : Result Tried Refusal). TriesInsert value old a new)
-    (tried_after c.loop-number.owned c.try_shards.result) c.in_ok-tried.tried c.in_ok-tried.ensures
-    (tries_after value old met new c.loop-number.owned c.try_shards.result
+    (tried_after c.loop-number.owned c.try_turns.result) c.in_ok-tried.tried c.in_ok-tried.ensures
+    (tries_after value old met new c.loop-number.owned c.try_turns.result
     (keeps_then old mid met i.keeps c.meet.ensures.keeps)
-    (λ e. owned_then value old mid met (i.own e) c.meet.ensures.keeps) c.try_shards.ensures.tries)
+    (λ e. owned_then value old mid met (i.own e) c.meet.ensures.keeps) c.try_turns.ensures.tries)

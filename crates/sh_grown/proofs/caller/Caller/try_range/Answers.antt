@@ -26,7 +26,7 @@ loop-shard-init c =
       steps = takes_none (λ other. other == c.args.chunk)
           (λ s. steps_of (c.args.from - c.args.from) (c.args.from - c.args.from) (c.args.from - c.args.from)
           (length c.args.value.now)) was;
-      refused = λ collects. range_none false c.args.value.now c.args.chunk c.args.from items;
+      refused = range_none false c.args.value.now c.args.chunk c.args.from items;
     }
 
 pub loop-shard-preserved : goal.loop-shard-preserved
@@ -56,18 +56,18 @@ loop-shard-preserved c =
           let few : (shard - c.args.from) + 1 ≤ (shard + 1) - c.args.from = omega (arith, low) in
           shard_more c.args.chunk (shard - c.args.from) ((shard + 1) - c.args.from) words c.args.self.now
           c.loop-shard.self c.try_shard.new.self few i.stays i.steps c.try_shard.ensures.steps;
-      refused = λ collects. refused
+      refused = refused
           (λ (a : Result Tried Refusal). OnRefused a
           (λ here. RangeRefused here value c.args.chunk c.args.from (shard + 1) old new)) all c.in_ok-tried.tried
           c.in-Refused.so_far c.in_ok-tried.ensures c.in-Refused.is
-          (range_after owned value c.args.chunk c.args.from shard old mid new c.try_shard.result (i.refused collects)
-          i.keeps c.try_shard.ensures.tries (c.try_shard.ensures.refused collects));
+          (range_after owned value c.args.chunk c.args.from shard old mid new c.try_shard.result i.refused
+          i.keeps c.try_shard.ensures.tries (c.try_shard.ensures.refused refl));
     }
 
 pub returns-clause-refused : goal.returns-clause-refused
 returns-clause-refused c =
     let past = c.loop-shard-test.false in
-    λ collects shard low less. c.loop-shard.invariant.refused collects shard low (omega (arith, past, less))
+    λ shard low less. c.loop-shard.invariant.refused shard low (omega (arith, past, less))
 
 pub returns-in_err-tried-clause-tries : goal.returns-in_err-tried-clause-tries
 returns-in_err-tried-clause-tries c =

@@ -17,6 +17,5 @@ invariant-loop-shard l = record {
   steps : TakesIn l.chunk
       (λ s. steps_of (l.shard - l.fn.from) (l.shard - l.fn.from) (l.shard - l.fn.from) (length l.value)) l.initial.self
       l.self;
-  refused : l.fn.collects ≡ true
-      → RangeRefused l.owned l.value l.chunk l.fn.from l.shard l.initial.self.met.items l.self.met.items;
+  refused : RangeRefused l.owned l.value l.chunk l.fn.from l.shard l.initial.self.met.items l.self.met.items;
 }
