@@ -31,10 +31,6 @@ pub struct Caller {
     pub(crate) number: usize,
     // The chunk in which its last insert found room: the next one looks there first.
     pub(crate) front: u8,
-    // The chunk in which its last walk over shards found room, and the number behind its shard there. As a walk begins,
-    // they say where.
-    pub(crate) walked: u8,
-    pub(crate) next: usize,
     // Its member in each chunk that it has met, up to the last one of these. There is room for all chunks.
     pub(crate) met: Vec<Option<ChunkMember>>,
     ghost of_chunks: { AreOfChunks growing met.items } by { Prim.hlevel props },
@@ -67,8 +63,6 @@ impl GrowingShare {
             growing,
             number,
             front: 0,
-            walked: 0,
-            next: 0,
             met,
         })
     }

@@ -9,13 +9,13 @@ ghost use Rattle.sh_chunk.specs.Chunks.{chunked};
 ghost use Rattle.sh_grown.specs.ChunkShapes.{IsShaped};
 
 use crate::chunk_shapes::chunk_shape;
+use crate::room_hints::RoomHints;
 use once_cell::race::{Note, OnceBox};
 use sh_chunk::{CHUNKS, Chunked};
 use sh_pool::{Pool, Share};
 use sh_shape::Shape;
 use sh_value::Refusal;
 use std::alloc::Global;
-use std::sync::atomic::AtomicU64;
 
 /// A heap that grows: a list of chunks, each in a cell that is written once. Threads share it, and each has a caller.
 ///
@@ -26,8 +26,7 @@ pub struct Growing {
     // The shape of the first chunk.
     first: Shape,
     passes: u32,
-    // Where a walk of a caller found room last.
-    pub(crate) room: AtomicU64,
+    pub(crate) hints: RoomHints,
     ghost same_passes: { first.passes ≡ passes },
     ghost few_shards: { first.shards ≤ 2 ^ chunked.shard_bits },
     ghost few_pages: { segment_pages * first.segments ≤ 2 ^ chunked.page_bits },
@@ -150,7 +149,7 @@ impl Growing {
             cells,
             first: shape,
             passes,
-            room: AtomicU64::new(0),
+            hints: RoomHints::new(),
         })
     }
 

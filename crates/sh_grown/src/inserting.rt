@@ -24,9 +24,9 @@ impl Caller {
     ///
     /// It tries the chunk of its last insert, and then each chunk in which it owns a shard. Then it collects in the
     /// chunk of its last insert, and tries that again. Then it walks over shards: round a chunk, and over each later
-    /// one that is open. It begins at the shard in which the last walk of any caller found room, or behind it if that
-    /// walk was its own. At last it walks over each chunk, from the first one on, and collects in each shard before it
-    /// tries that. So values of another length may be stored where all others were removed. It opens a chunk only after
+    /// one that is open. It begins behind the shard in which the last walk of any caller found room for a value of the
+    /// same class. At last it walks over each chunk, from the first one on, and collects in each shard before it tries
+    /// that. So values of another length may be stored where all others were removed. It opens a chunk only after
     /// it was refused each shard of each chunk below. A walk leaves the shard that the caller owns in a chunk.
     ///
     /// Refused as `Full` or `NoShard` only if the heap may have no more chunks, and this call was refused each shard.
@@ -201,8 +201,8 @@ impl Caller {
         tried_after(owned, self.try_later(alloc, value))
     }
 
-    // The same in the first shard with room that it can own, of the chunks from that of the last walk on, up to the
-    // first one that is not open.
+    // The same in the first shard with room that it can own, of the chunks from that of the class's last walk on, up to
+    // the first one that is not open.
     #[cold]
     #[inline(never)]
     fn try_later(&mut self, alloc: Global, value: &Value) -> Result<Tried, Refusal>
@@ -211,8 +211,7 @@ impl Caller {
         ensures stays { Stays self.old self.new }
     {
         let mut owned = false;
-        (self.walked, self.next) = self.walk_begin();
-        for number in self.walked as usize..self.growing.chunks_allowed() {
+        for number in self.first_chunk(value) as usize..self.growing.chunks_allowed() {
             let chunk = number as u8;
             let Ok(()) = self.meet(chunk as usize) else {
                 return Ok(Tried::Refused(owned));
@@ -270,7 +269,7 @@ impl Caller {
         ensures stays { Stays self.old self.new }
     {
         let shards = self.shards_in(chunk);
-        let first = self.first_shard(chunk, shards);
+        let first = self.first_shard(chunk, shards, value);
         let behind = self.try_range(alloc, chunk, first, shards, value, collects)?;
         let Tried::Refused(owned) = behind else {
             return Ok(behind);
@@ -303,9 +302,7 @@ impl Caller {
         for shard in from..to {
             let tried = tried_after(owned, self.try_shard(alloc, chunk, shard, value, collects))?;
             let Tried::Refused(so_far) = tried else {
-                self.walked = chunk;
-                self.next = shard + 1;
-                self.growing.set_last_room(chunk, shard + 1);
+                self.note_room(chunk, shard + 1, value);
                 return Ok(tried);
             };
             owned = so_far;
@@ -374,11 +371,13 @@ impl Caller {
         let Some(mut note) = self.growing.note(number) else {
             return Err(Refusal::Taken);
         };
+        let was_open = self.growing.heap().is_open(number);
         let share = match self.growing.opened(alloc, chunk, &mut note) {
             Ok(share) => share,
             Err(Refusal::Memory) => return Err(Refusal::Memory),
             Err(_) => return Err(Refusal::Taken),
         };
+        self.growing.heap().note_opened(chunk, was_open);
         let Some(met) = meet(share, note, self.number) else {
             return Err(Refusal::Taken);
         };

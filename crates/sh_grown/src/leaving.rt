@@ -90,8 +90,6 @@ impl Caller {
             growing: _,
             number: _,
             front: _,
-            walked: _,
-            next: _,
             met,
         } = self;
         return_each_to_pool(met);

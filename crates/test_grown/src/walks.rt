@@ -60,23 +60,23 @@ fn place_of_next(rt: &impl Abort, alloc: Global, caller: &mut Caller) -> (u64, u
 }
 
 // Chunks of 2, 1, 1, 2 and 2 shards. The walk of another caller found the first shard of chunk 4, and chunk 5 is open.
-// A caller with number 1 begins there, and not in the second shard or in chunk 5. While it owns the shard, the other
-// one inserts in the second.
+// A caller with number 0 begins behind that shard, and not in the first one or in chunk 5. While it owns the second, the
+// other one inserts in the first.
 #[test]
-fn a_walk_begins_where_another_caller_found_room(rt: HostRuntime) {
+fn a_walk_begins_behind_where_another_caller_found_room(rt: HostRuntime) {
     let growing = GrowingShare::open(rt.alloc(), 2, 6).expect(&rt, "a heap");
-    let mut other = growing.claim(rt.alloc()).expect(&rt, "another caller");
     let mut caller = growing.claim(rt.alloc()).expect(&rt, "a caller");
-    agree(&rt, caller.number(), 1);
+    let mut other = growing.claim(rt.alloc()).expect(&rt, "another caller");
+    agree(&rt, caller.number(), 0);
     let _keys = stored(&rt, rt.alloc(), &mut other, 2305);
     agree(&rt, growing.heap().open_ahead(rt.alloc()), Ok(5));
     agree(&rt, other.leave(), Ok(()));
-    agree(&rt, place_of_next(&rt, rt.alloc(), &mut caller), (4, 0));
-    agree(&rt, place_of_next(&rt, rt.alloc(), &mut other), (4, 1));
+    agree(&rt, place_of_next(&rt, rt.alloc(), &mut caller), (4, 1));
+    agree(&rt, place_of_next(&rt, rt.alloc(), &mut other), (4, 0));
 }
 
-// The first walk of `high` begins at the second of two shards, where `low` found room, and goes on with the first, in
-// which one slot is free.
+// The first walk of `high` begins behind the second of two shards, where `low` found room: with the first, in which one
+// slot is free.
 #[test]
 fn a_walk_goes_round_the_shards_of_its_chunk(rt: HostRuntime) {
     let growing = GrowingShare::open(rt.alloc(), 2, 1).expect(&rt, "a heap");
@@ -88,9 +88,9 @@ fn a_walk_goes_round_the_shards_of_its_chunk(rt: HostRuntime) {
         return;
     };
     agree(&rt, low.remove(*first), Ok(()));
+    agree(&rt, place_of_next(&rt, rt.alloc(), &mut high), (0, 0));
     agree(&rt, place_of_next(&rt, rt.alloc(), &mut high), (0, 1));
     let _keys = stored(&rt, rt.alloc(), &mut high, 382);
-    agree(&rt, place_of_next(&rt, rt.alloc(), &mut high), (0, 0));
     agree(
         &rt,
         high.insert(rt.alloc(), &Value::from(8)),
