@@ -33,8 +33,9 @@ class Row:
     seconds: float = 60
     # limits of the system, as {resource.RLIMIT_AS: 1 << 20}
     limits: dict = dataclasses.field(default_factory=dict)
-    # a file that takes the output, and variables of the environment
+    # files that take the output and the errors, and variables of the environment
     to: str = ""
+    errors_to: str = ""
     variables: dict = dataclasses.field(default_factory=dict)
 
     def called(self):
@@ -46,9 +47,10 @@ class Ran(typing.NamedTuple):
     status: int | None
     output: bytes
     error: bytes
-    # seconds of the processor, and how often its threads gave up their processor
+    # seconds of the processor, how often its threads gave up their processor, and how many bytes of the input it read
     spent: float
     switches: int
+    read: int
 
     def text(self):
         return self.output.decode(errors="replace")
@@ -72,26 +74,29 @@ def run(row):
 
     before = resource.getrusage(resource.RUSAGE_CHILDREN)
     with contextlib.ExitStack() as stack:
-        given = row.given
-        if isinstance(given, pathlib.Path):
-            given = given.read_bytes()
-        files = [stack.enter_context(tempfile.TemporaryFile()) for _ in range(3)]
-        files[0].write(in_bytes(given))
-        files[0].seek(0)
-        to = stack.enter_context(open(row.to, "wb")) if row.to else files[1]
+        given, output, error = (stack.enter_context(tempfile.TemporaryFile()) for _ in range(3))
+        if isinstance(row.given, pathlib.Path):
+            given = os.open(row.given, os.O_RDONLY)
+            stack.callback(os.close, given)
+        else:
+            given.write(in_bytes(row.given))
+            given.seek(0)
+            given = given.fileno()
+        to, errors_to = (stack.enter_context(open(it, "wb")) if it else None for it in (row.to, row.errors_to))
         words = [path, *map(str, row.words)]
         try:
-            status = subprocess.run(words, stdin=files[0], stdout=to, stderr=files[2], timeout=row.seconds,
-                                    env={**os.environ, **row.variables},
+            status = subprocess.run(words, stdin=given, stdout=to or output, stderr=errors_to or error,
+                                    timeout=row.seconds, env={**os.environ, **row.variables},
                                     preexec_fn=limit if row.limits else None).returncode
         except subprocess.TimeoutExpired:
             status = None
-        for file in files:
+        read = os.lseek(given, 0, os.SEEK_CUR)
+        for file in (output, error):
             file.seek(0)
-        output, error = files[1].read(), files[2].read()
+        output, error = output.read(), error.read()
     after = resource.getrusage(resource.RUSAGE_CHILDREN)
     spent = after.ru_utime + after.ru_stime - before.ru_utime - before.ru_stime
-    return Ran(status, output, error, spent, after.ru_nvcsw - before.ru_nvcsw)
+    return Ran(status, output, error, spent, after.ru_nvcsw - before.ru_nvcsw, read)
 
 
 def difference(what, wanted, found):
@@ -146,6 +151,8 @@ def planted():
     yield shell("echo 7", output=lambda text: [f"it is {text.strip()}"]), "it is 7"
     yield shell("while :; do :; done", limits={resource.RLIMIT_CPU: 1}), "status -24 in place of status 0"
     yield shell("echo a", to="/dev/full"), " in place of status 0"
+    yield shell("echo a >&2", errors_to="/dev/full"), " in place of status 0"
+    yield shell("cat", given=pathlib.Path("/")), " in place of status 0"
 
 
 def self_test():

@@ -27,6 +27,66 @@ def trace_rows():
             yield f"{trace.name} has no script"
     yield Row("script_trace", (), "heap tiny 1 1 1\n0 adopt 0\n", 2,
               error="script_trace: fault 14 Script line 2 Command\n", name="a script of calls")
+    yield Row("script_trace", (), "heap tiny 1 1 2\n0 Adopt 0\n; a page\n0 Read 0.0\n0 SetClass 0.0 7\n", output=FIRST,
+              error="", name="a first script")
+    yield from part_rows()
+
+
+# The trace of a first script. A comment stands behind what came before it.
+FIRST = """> heap tiny 1 1 2
+> 0 Adopt 0
+0 Adopt moved
+  shard 0: owner pass 0
+    bell: none
+    bell chain: none
+  pass 0: idle; owns shard 0
+
+; a page
+> 0 Read 0.0
+0 Read moved
+  page 0.0: blank; owner pass 0; not armed
+  pass 0: idle; owns shard 0
+
+> 0 SetClass 0.0 7
+0 SetClass moved
+  page 0.0: class 7, 3 slots of 16; owner pass 0; not armed
+    slots 0 to 2: Empty, generation 1, count 0; own of pass 0
+    stack: none
+    chain: none
+  pass 0: idle; owns shard 0
+
+"""
+# What stands before the lines of a row of parts.txt.
+OPENED = "heap tiny 2 1 2\n0 Adopt 0\n0 Read 0.0\n0 SetClass 0.0 7\n"
+BEFORE = {"opened": OPENED, "held": OPENED + "0 Fill 0.0.0 7\n0 Fill\n0 Publish\n1 Enter get 4096\n"}
+# As many holds as a pass may have and one more, and a key with a tag and without it.
+HOLDS = ("heap wide 1 1 1\n0 Adopt 0\n0 Read 0.0\n0 SetClass 0.0 7\n0 Fill 0.0.0\n0 Publish\n"
+         + "0 Enter get 16777216\n" * 17)
+TAGS = "version 2\nheap tagged 1 1 1 tag 1\n0 Enter get 1048576\n0 Enter get 72057594038976512\n"
+
+
+def has(*parts):
+    return lambda text: [f"the trace has no {part!r}" for part in parts if part not in text]
+
+
+def rows_of(file):
+    """The rows of a file, without its comments, as printf writes them."""
+    for line in (STORIES / file).read_text().splitlines():
+        if not line.startswith("#"):
+            yield [part.encode().decode("unicode_escape") for part in f"{line} ".split(" | ")]
+
+
+def part_rows():
+    """The trace of each script of parts.txt has its part, and each of faults.txt ends with its fault."""
+    for before, lines, part in rows_of("parts.txt"):
+        yield Row("script_trace", (), BEFORE[before] + lines, output=has(part.rstrip(" ")), error="", name=repr(lines))
+    yield Row("script_trace", (), HOLDS, output=has("holds 16777216 16 times\n", "0 Enter skipped: the pass has 16 holds"
+              " already\n"), error="", name="17 holds")
+    yield Row("script_trace", (), TAGS, output=has("0 Enter skipped: the key has not the tag of the header\n",
+              "0 Enter Gone 72057594038976512\n"), error="", name="tags")
+    for fault, script in rows_of("faults.txt"):
+        script = script.rstrip(" ")
+        yield Row("script_trace", (), script, 2, error=f"script_trace: {fault}\n", name=repr(script))
 
 
 def write_traces():

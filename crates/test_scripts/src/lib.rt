@@ -1,13 +1,12 @@
-//! Tests of scripts: their grammar, whole runs, traces, and the program that runs them.
+//! Tests of scripts: their grammar, whole runs, and how faults are reported. Scripts with all that comes out of the
+//! program are rows of `scripts/programs`.
 #![tactic(auto)]
 
 #[cfg(test)]
 mod assertions;
 #[cfg(test)]
-mod program;
-#[cfg(test)]
 mod replay;
 #[cfg(test)]
-mod script;
+mod report;
 #[cfg(test)]
-mod show;
+mod script;

@@ -2,7 +2,6 @@
 //! scripts, and workers in threads. Scripts with their whole output are data in `examples/worked`, which
 //! `scripts/program-checks examples` runs.
 mod ends;
-mod forged;
 mod gates;
 mod hands;
 mod refused;

@@ -13,10 +13,10 @@ use std::thread::Threads;
 
 /// A reader that gives at most `most` bytes a read. After `left` reads one fails, and those after it succeed.
 #[derive(Drop)]
-pub struct Reading<'a> {
-    pub rest: &'a [u8],
-    pub most: usize,
-    pub left: u64,
+struct Reading<'a> {
+    rest: &'a [u8],
+    most: usize,
+    left: u64,
 }
 
 impl Read for Reading<'_> {
@@ -34,8 +34,17 @@ impl Read for Reading<'_> {
     }
 }
 
+// A reader that does not fail.
+fn gives(script: &str, most: usize) -> Reading<'_> {
+    Reading {
+        rest: script.as_bytes(),
+        most,
+        left: u64::MAX,
+    }
+}
+
 /// The way in which a write fails.
-#[derive(Clone, Copy, Debug)]
+#[derive(Clone, Copy)]
 enum Failure {
     /// By an error.
     Error,
@@ -75,6 +84,28 @@ impl Write for Writing {
     }
 }
 
+// A writer that does not fail.
+fn takes(alloc: Global, most: usize) -> Writing {
+    Writing {
+        taken: Vec::new(alloc),
+        most,
+        grows: 0,
+        left: u64::MAX,
+        failure: Failure::Error,
+    }
+}
+
+// Runs the script of a mode, with accounts.
+fn run<R: Threads + Wait + Sync + Abort>(
+    rt: &R,
+    alloc: Global,
+    mode: Mode,
+    reader: &mut Reading<'_>,
+    writer: &mut Writing,
+) -> Result<(), Fault> {
+    replay(rt, alloc, reader, writer, mode, true)
+}
+
 /// The script is read by at most `most` bytes a read, one of which fails, and nothing is written.
 fn fails_at_read<R: Threads + Wait + Sync + Abort>(
     rt: &R,
@@ -83,20 +114,15 @@ fn fails_at_read<R: Threads + Wait + Sync + Abort>(
     most: usize,
     left: usize,
 ) {
-    let mode = worked.mode;
     let mut reader = Reading {
         rest: worked.script.as_bytes(),
         most,
         left: left as u64,
     };
-    let mut out = Vec::new(alloc);
-    let ended = replay(rt, alloc, &mut reader, &mut out, mode, true);
-    agree(
-        rt,
-        (mode, most, left, ended),
-        (mode, most, left, Err(Fault::Io)),
-    );
-    holds(rt, out.is_empty());
+    let mut writer = takes(alloc, 1000);
+    let ended = run(rt, alloc, worked.mode, &mut reader, &mut writer);
+    agree(rt, ended, Err(Fault::Io));
+    holds(rt, writer.taken.is_empty());
     // Nothing is read after the read that fails.
     let read = most.saturating_mul(left).min(worked.script.len());
     agree(
@@ -115,7 +141,7 @@ fn fails_at_write<R: Threads + Wait + Sync + Abort>(
     left: usize,
     failure: Failure,
 ) {
-    let mode = worked.mode;
+    let mut reader = gives(worked.script, 1000);
     let mut writer = Writing {
         taken: Vec::new(alloc),
         most,
@@ -123,51 +149,29 @@ fn fails_at_write<R: Threads + Wait + Sync + Abort>(
         left: left as u64,
         failure,
     };
-    let mut script = worked.script.as_bytes();
-    let ended = replay(rt, alloc, &mut script, &mut writer, mode, true);
-    agree(
-        rt,
-        (mode, most, left, ended),
-        (mode, most, left, Err(Fault::Io)),
-    );
-    holds(
-        rt,
-        worked
-            .output
-            .as_bytes()
-            .starts_with(writer.taken.as_slice()),
-    );
+    let ended = run(rt, alloc, worked.mode, &mut reader, &mut writer);
+    agree(rt, ended, Err(Fault::Io));
+    let output = worked.output.as_bytes();
+    holds(rt, output.starts_with(writer.taken.as_slice()));
     // Nothing is written after the write that fails.
     agree(rt, writer.taken.len(), most.saturating_mul(left));
 }
 
 /// With ends that do not fail, and that move at most `most` bytes each time, the whole output goes out.
-fn goes_out_whole<R: Threads + Wait + Sync + Abort>(
+pub fn goes_out_whole<R: Threads + Wait + Sync + Abort>(
     rt: &R,
     alloc: Global,
-    worked: Worked,
+    mode: Mode,
+    script: &str,
+    output: &str,
     most: usize,
 ) {
-    let mode = worked.mode;
-    let mut reader = Reading {
-        rest: worked.script.as_bytes(),
-        most,
-        left: u64::MAX,
-    };
-    let mut writer = Writing {
-        taken: Vec::new(alloc),
-        most,
-        grows: 0,
-        left: u64::MAX,
-        failure: Failure::Error,
-    };
-    let ended = replay(rt, alloc, &mut reader, &mut writer, mode, true);
-    agree(rt, (mode, most, ended), (mode, most, Ok(())));
-    agree(
-        rt,
-        (mode, most, writer.taken.as_slice()),
-        (mode, most, worked.output.as_bytes()),
-    );
+    let mut reader = gives(script, most);
+    let mut writer = takes(alloc, most);
+    let ended = run(rt, alloc, mode, &mut reader, &mut writer);
+    agree(rt, ended, Ok(()));
+    agree(rt, writer.taken.as_slice(), output.as_bytes());
+    holds(rt, reader.rest.is_empty());
 }
 
 // All at once, a few bytes at a time, and byte by byte.
@@ -182,7 +186,14 @@ fn a_read_that_fails_once_ends_the_run(rt: HostRuntime) -> Result<(), Fail> {
             for left in 0..reads {
                 fails_at_read(&rt, rt.alloc(), worked, most, left);
             }
-            goes_out_whole(&rt, rt.alloc(), worked, most);
+            goes_out_whole(
+                &rt,
+                rt.alloc(),
+                worked.mode,
+                worked.script,
+                worked.output,
+                most,
+            );
         }
     }
     Ok(())
@@ -198,7 +209,14 @@ fn a_write_that_fails_once_ends_the_run(rt: HostRuntime) -> Result<(), Fail> {
                     fails_at_write(&rt, rt.alloc(), worked, most, left, failure);
                 }
             }
-            goes_out_whole(&rt, rt.alloc(), worked, most);
+            goes_out_whole(
+                &rt,
+                rt.alloc(),
+                worked.mode,
+                worked.script,
+                worked.output,
+                most,
+            );
         }
     }
     Ok(())
@@ -214,13 +232,8 @@ fn a_long_output_goes_out_by_short_writes(rt: HostRuntime) -> Result<(), Fail> {
         output.push_str("0 Tie skipped\n0 Drop skipped\n")?;
     }
     let mut reader = script.as_bytes();
-    let mut writer = Writing {
-        taken: Vec::new(rt.alloc()),
-        most: 1,
-        grows: 3,
-        left: u64::MAX,
-        failure: Failure::Error,
-    };
+    let mut writer = takes(rt.alloc(), 1);
+    writer.grows = 3;
     let result = replay_alone(rt.alloc(), &mut reader, &mut writer, Mode::Steps, true);
     agree(&rt, result, Ok(()));
     holds(&rt, writer.taken.as_slice() == output.as_bytes());

@@ -1,8 +1,11 @@
 //! Tests of what a gate observes: each call of each pass by its number, before it and after it.
 use crate::assertions::{agree, holds};
 use sh_replay::{Gate, Mode, replay_gated};
+use std::alloc::Global;
+use std::process::Abort;
+use std::sync::Wait;
 use std::sync::atomic::{AtomicU64, Ordering};
-use std::thread::yield_now;
+use std::thread::{Threads, yield_now};
 
 /// The passes, and the calls of each.
 const PASSES: usize = 2;
@@ -95,23 +98,28 @@ impl Gate for Notes {
     }
 }
 
+/// Runs a script in mode threads with this gate. It writes this output.
+pub fn passes<R: Threads + Wait + Sync + Abort, G: Gate + Sync>(
+    rt: &R,
+    alloc: Global,
+    script: &str,
+    output: &str,
+    gate: &G,
+) {
+    let mut reader = script.as_bytes();
+    let mut out = Vec::new(alloc);
+    let end = replay_gated(rt, alloc, &mut reader, &mut out, Mode::Threads, false, gate);
+    agree(rt, end, Ok(()));
+    agree(rt, out.as_slice(), output.as_bytes());
+}
+
 #[test]
 fn a_gate_is_told_of_each_call_before_and_after_it(rt: HostRuntime) {
     let script =
         "heap tiny 1 1 2\n0 adopt 0\n0 insert a 7\n1 get a\n1 read a\n0 leave\n1 release a\n";
+    let output = "0 adopt ok\n0 insert 4096\n1 get ok\n1 read 1 7\n0 leave ok\n1 release ok\n";
     let gate = Notes::new();
-    let mut reader = script.as_bytes();
-    let mut out = Vec::new(rt.alloc());
-    let end = replay_gated(
-        &rt,
-        rt.alloc(),
-        &mut reader,
-        &mut out,
-        Mode::Threads,
-        false,
-        &gate,
-    );
-    agree(&rt, end, Ok(()));
+    passes(&rt, rt.alloc(), script, output, &gate);
     agree(&rt, gate.missed.load(Ordering::SeqCst), 0);
     agree(&rt, gate.count.load(Ordering::SeqCst), TOLD as u64);
     for pass in 0..PASSES {
@@ -123,6 +131,4 @@ fn a_gate_is_told_of_each_call_before_and_after_it(rt: HostRuntime) {
             last = after;
         }
     }
-    let output = "0 adopt ok\n0 insert 4096\n1 get ok\n1 read 1 7\n0 leave ok\n1 release ok\n";
-    agree(&rt, out.as_slice(), output.as_bytes());
 }

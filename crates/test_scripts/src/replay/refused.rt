@@ -6,11 +6,52 @@ use sh_script::Fault;
 use std::alloc::Global;
 use std::process::Abort;
 use std::sync::Wait;
-use std::test::Fail;
 use std::thread::Threads;
 
-/// Runs a script twice. One run may be refused memory: then it ends with a fault and nothing written, or it continues.
-/// It then has the refusal as a reply, and writes one of the other outputs. The other run writes the usual output.
+// Whether a run ended as one that was refused memory: with a fault and nothing written, or it continued. It then has
+// the refusal as a reply, and wrote one of the other outputs.
+fn is_refused(mode: Mode, end: Result<(), Fault>, out: &[u8], others: &[&str]) -> bool {
+    match end {
+        Ok(()) => others.iter().any(|other| out == other.as_bytes()),
+        // (a thread that could not be started)
+        Err(Fault::Io) => mode == Mode::Threads && out.is_empty(),
+        Err(fault) => fault == Fault::Memory && out.is_empty(),
+    }
+}
+
+// Runs a script, with accounts.
+fn run<R: Threads + Wait + Sync + Abort>(
+    rt: &R,
+    alloc: Global,
+    mode: Mode,
+    script: &str,
+    out: &mut Vec<u8>,
+) -> Result<(), Fault> {
+    let mut reader = script.as_bytes();
+    replay(rt, alloc, &mut reader, out, mode, true)
+}
+
+// Runs a script. Returns whether it wrote the usual output; if not, it was refused memory.
+fn runs<R: Threads + Wait + Sync + Abort>(
+    rt: &R,
+    alloc: Global,
+    mode: Mode,
+    script: &str,
+    output: &str,
+    others: &[&str],
+) -> bool {
+    let Ok(mut out) = Vec::with_capacity(alloc, 1024) else {
+        return false;
+    };
+    let end = run(rt, alloc, mode, script, &mut out);
+    if end == Ok(()) && out.as_slice() == output.as_bytes() {
+        return true;
+    }
+    holds(rt, is_refused(mode, end, out.as_slice(), others));
+    false
+}
+
+/// Runs a script twice. One run may be refused memory; the other writes the usual output.
 fn survives<R: Threads + Wait + Sync + Abort>(
     rt: &R,
     alloc: Global,
@@ -19,48 +60,19 @@ fn survives<R: Threads + Wait + Sync + Abort>(
     output: &str,
     others: &[&str],
 ) {
-    let mut refused = false;
-    for _ in 0..2 {
-        let Ok(mut out) = Vec::with_capacity(alloc, 1024) else {
-            holds(rt, !refused);
-            refused = true;
-            continue;
-        };
-        let mut reader = script.as_bytes();
-        let end = replay(rt, alloc, &mut reader, &mut out, mode, true);
-        if end == Ok(()) && out.as_slice() == output.as_bytes() {
-            continue;
-        }
-        holds(rt, !refused);
-        refused = true;
-        match end {
-            Ok(()) => holds(
-                rt,
-                others
-                    .iter()
-                    .any(|other| out.as_slice() == other.as_bytes()),
-            ),
-            Err(fault) => {
-                // `Io` is a thread that could not be started.
-                holds(
-                    rt,
-                    fault == Fault::Memory || fault == Fault::Io && mode == Mode::Threads,
-                );
-                holds(rt, out.is_empty());
-            }
-        }
-    }
+    let first = runs(rt, alloc, mode, script, output, others);
+    let second = runs(rt, alloc, mode, script, output, others);
+    holds(rt, first || second);
 }
 
 #[test]
-fn refused_memory_in_mode_plain(rt: HostRuntime) -> Result<(), Fail> {
+fn refused_memory_in_mode_plain(rt: HostRuntime) {
     let script = "heap tiny 1 1 2\n0 adopt 0\n0 insert a 7\n1 get a\n1 read a\n1 release a\n";
     let output = "0 adopt ok\n0 insert 4096\n1 get ok\n1 read 1 7\n1 release ok\n";
     // If the insert is refused.
     let other =
         "0 adopt ok\n0 insert refused 8 Memory\n1 get unbound\n1 read unbound\n1 release unbound\n";
     survives(&rt, rt.alloc(), Mode::Plain, script, output, &[other]);
-    Ok(())
 }
 
 /// A shard of two owners, one after the other. The lists of the names and lines outgrow a room of 4, 8 and 16.
@@ -92,7 +104,7 @@ const OWNERS_REFUSED: [&str; 3] = [
 ];
 
 #[test]
-fn refused_memory_in_mode_heap(rt: HostRuntime) -> Result<(), Fail> {
+fn refused_memory_in_mode_heap(rt: HostRuntime) {
     survives(
         &rt,
         rt.alloc(),
@@ -101,11 +113,10 @@ fn refused_memory_in_mode_heap(rt: HostRuntime) -> Result<(), Fail> {
         OWNERS_OUTPUT,
         &OWNERS_REFUSED,
     );
-    Ok(())
 }
 
 #[test]
-fn refused_memory_in_mode_threads(rt: HostRuntime) -> Result<(), Fail> {
+fn refused_memory_in_mode_threads(rt: HostRuntime) {
     survives(
         &rt,
         rt.alloc(),
@@ -114,16 +125,14 @@ fn refused_memory_in_mode_threads(rt: HostRuntime) -> Result<(), Fail> {
         OWNERS_OUTPUT,
         &OWNERS_REFUSED,
     );
-    Ok(())
 }
 
 /// Runs the script of two owners once. It ends well, and the output is the usual one, or the one in which this growth
 /// was refused and reported as a reply. It must be the latter if an allocation of that growth is refused:
 /// `scripts/refuse-memory` has their numbers.
 fn tells<R: Threads + Wait + Sync + Abort>(rt: &R, alloc: Global, mode: Mode, growth: usize) {
-    let mut reader = OWNERS.as_bytes();
     let mut out = Vec::new(alloc);
-    let end = replay(rt, alloc, &mut reader, &mut out, mode, true);
+    let end = run(rt, alloc, mode, OWNERS, &mut out);
     agree(rt, end, Ok(()));
     let refused = OWNERS_REFUSED[growth.min(2)];
     holds(
@@ -175,7 +184,6 @@ const EVENTS_OUTPUT: &str =
     page 0.0 class 7 live 0 marked 0 retired 0 mine 3 hand 0 queued 0\n";
 
 #[test]
-fn refused_memory_in_mode_steps(rt: HostRuntime) -> Result<(), Fail> {
+fn refused_memory_in_mode_steps(rt: HostRuntime) {
     survives(&rt, rt.alloc(), Mode::Steps, EVENTS, EVENTS_OUTPUT, &[]);
-    Ok(())
 }

@@ -1,8 +1,7 @@
-//! Tests of scripts of more than one read, of the greatest number of bytes, and of more.
-use super::ends::Reading;
-use crate::assertions::{agree, holds};
-use sh_replay::{Mode, replay};
-use sh_script::{Cause, Fault};
+//! Tests of scripts of more than one read.
+use super::ends::goes_out_whole;
+use crate::assertions::agree;
+use sh_replay::Mode;
 use std::alloc::{AllocError, Global};
 use std::test::Fail;
 
@@ -48,47 +47,11 @@ fn a_script_of_several_reads_is_run(rt: HostRuntime) -> Result<(), Fail> {
     // One read takes at most 4,096 bytes.
     for pieces in [64, 65, 200] {
         for (mode, last, output) in WORKED {
+            let script = script_of(rt.alloc(), pieces, last)?;
+            agree(&rt, script.len(), 64 * pieces);
             for most in [1_000_000, 4095, 7] {
-                let script = script_of(rt.alloc(), pieces, last)?;
-                agree(&rt, script.len(), 64 * pieces);
-                let rest = script.as_bytes();
-                let mut reader = Reading {
-                    rest,
-                    most,
-                    left: u64::MAX,
-                };
-                let mut out = Vec::new(rt.alloc());
-                let result = replay(&rt, rt.alloc(), &mut reader, &mut out, mode, true);
-                agree(&rt, result, Ok(()));
-                agree(&rt, out.as_slice(), output.as_bytes());
-                holds(&rt, reader.rest.is_empty());
+                goes_out_whole(&rt, rt.alloc(), mode, script.as_str(), output, most);
             }
-        }
-    }
-    Ok(())
-}
-
-#[test]
-fn a_script_of_the_limit_is_run_and_one_byte_more_is_a_fault(rt: HostRuntime) -> Result<(), Fail> {
-    for (mode, last, output) in WORKED {
-        let mut script = script_of(rt.alloc(), 16_384, last)?;
-        agree(&rt, script.len(), 1_048_576);
-        let mut reader = script.as_bytes();
-        let mut out = Vec::new(rt.alloc());
-        let result = replay(&rt, rt.alloc(), &mut reader, &mut out, mode, true);
-        agree(&rt, result, Ok(()));
-        agree(&rt, out.as_slice(), output.as_bytes());
-
-        // Of a longer text, one byte more than a script may have is read.
-        let size = Err(Fault::Script(0, Cause::Size));
-        for unread in 0..3 {
-            script.push_str("\n")?;
-            let mut reader = script.as_bytes();
-            let mut out = Vec::new(rt.alloc());
-            let result = replay(&rt, rt.alloc(), &mut reader, &mut out, mode, true);
-            agree(&rt, result, size);
-            holds(&rt, out.is_empty());
-            agree(&rt, reader.len(), unread);
         }
     }
     Ok(())

@@ -1,6 +1,7 @@
 //! Tests of mode threads: each pass makes its calls in a thread of its own.
+use super::gates::passes;
 use crate::assertions::agree;
-use sh_replay::{Gate, Mode, replay_gated};
+use sh_replay::Gate;
 use std::sync::atomic::{AtomicBool, AtomicU64, Ordering};
 use std::thread::yield_now;
 
@@ -48,19 +49,7 @@ fn workers_run_together(rt: HostRuntime) {
         here: [AtomicBool::new(false), AtomicBool::new(false)],
         missed: AtomicU64::new(0),
     };
-    let mut reader = script.as_bytes();
-    let mut out = Vec::new(rt.alloc());
-    let end = replay_gated(
-        &rt,
-        rt.alloc(),
-        &mut reader,
-        &mut out,
-        Mode::Threads,
-        false,
-        &gate,
-    );
-    agree(&rt, end, Ok(()));
-    agree(&rt, gate.missed.load(Ordering::SeqCst), 0);
     let output = "0 get refused 1 BadKey\n1 get refused 1 BadKey\n";
-    agree(&rt, out.as_slice(), output.as_bytes());
+    passes(&rt, rt.alloc(), script, output, &gate);
+    agree(&rt, gate.missed.load(Ordering::SeqCst), 0);
 }
