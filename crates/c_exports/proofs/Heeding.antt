@@ -1,6 +1,7 @@
 -- A receipt that a pass made is of its own heap, and of that of another pass of this heap; and what a heed does.
 use Rattle.std.proofs.Common.{◌≡◌, ℕ, true, refl, sym, ◌∙◌, ap, subst, Result}
 use Rattle.std.proofs.lemmas.Bool.{false≢true}
+use Rattle.std.specs.Option.{MatchOption}
 use Rattle.std.specs.declared.option.Option.{Option}
 use Rattle.std.specs.declared.option.Option.TheVariants.{None, Some}
 use Rattle.sh_value.specs.declared.refusal.Refusal.{Refusal}
@@ -9,7 +10,7 @@ use Rattle.sh_pass.specs.Passes.{Caller}
 use Rattle.sh_pass.specs.Receipts.{receipt_by}
 use Rattle.c_handles.specs.Owning.{has_value}
 use Rattle.c_handles.specs.Receipts.{AreReceiptsIn}
-use Rattle.c_handles.specs.Side.TheVariants.{Pass, Shard, Moving}
+use Rattle.c_handles.specs.Side.TheVariants.{Pass, Shard}
 use Rattle.c_handles.specs.Sides.{SeenSide, IsOfHeap, IsReceiptBy}
 use Rattle.c_handles.specs.declared.held_heap.HeldHeap.{HeldHeap}
 use Rattle.c_handles.specs.declared.held_heap.HeldHeap.TheVariants as heap
@@ -27,10 +28,11 @@ use Rattle.c_exports.specs.Told.{code_of, empty_code}
 
 -- ---- of its own heap
 
-side_receipt : (s : SeenSide) (r : Caller) → IsReceiptBy s r → IsOfHeap s r.heap
-side_receipt (Pass v) r is = ap (λ (c : Caller). c.heap) is
-side_receipt (Shard o) r is = ap (λ (c : Caller). c.heap) is
-side_receipt Moving r is = absurd is
+side_receipt : (s : Option SeenSide) (r : Caller) → MatchOption s ⊥ (λ t. IsReceiptBy t r)
+    → MatchOption s ⊥ (λ t. IsOfHeap t r.heap)
+side_receipt (Some (Pass v)) r is = ap (λ (c : Caller). c.heap) is
+side_receipt (Some (Shard o)) r is = ap (λ (c : Caller). c.heap) is
+side_receipt None r is = absurd is
 
 held_receipt : (m n : HeldPass) (r : KeptReceipt) → IsReceiptOf m r → IsAsBefore m n → IsOfHeldHeap n r
 held_receipt (held.Growing c) (held.Growing d) (kept.Growing r) is same =
@@ -55,27 +57,21 @@ own_receipt code pass left before after empty made =
 
 -- ---- of the heap of another pass
 
-sides_alike : (h : Heap) (s t : SeenSide) (p q : ℕ) (r : Caller) → Begins h s p → Begins h t q → IsReceiptBy s r
-    → IsOfHeap t r.heap
-sides_alike h s t p q r one other is =
+sides_alike : (h : Heap) (a b : Option SeenSide) (p q : ℕ) (r : Caller) → MatchOption a ⊥ (λ s. Begins h s p)
+    → MatchOption b ⊥ (λ t. Begins h t q) → MatchOption a ⊥ (λ s. IsReceiptBy s r)
+    → MatchOption b ⊥ (λ t. IsOfHeap t r.heap)
+sides_alike h None b p q r one other is = absurd one
+sides_alike h (Some s) None p q r one other is = absurd other
+sides_alike h (Some s) (Some t) p q r one other is =
     let made : r ≡ receipt_by one.caller = subst (λ x. IsReceiptBy x r) one.pass is in
     let same : r.heap ≡ other.caller.heap =
     ap (λ (c : Caller). c.heap) made ∙ (one.heap_is ∙ sym other.heap_is) in
     subst (λ x. IsOfHeap x r.heap) (sym other.pass) same
 
-abbrev IsSettled : SeenSide → Type 0
-IsSettled (Pass v) = Unit {0}
-IsSettled (Shard o) = Unit {0}
-IsSettled Moving = ⊥
-
--- no caller of a growing heap begins in a heap of a fixed shape
-moves_not : (h : Heap) (p : ℕ) → Begins h Moving p → ⊥
-moves_not h p begins = subst IsSettled (sym begins.pass) tt
-
 alike : (h : HeldHeap) (m n : HeldPass) (r : KeptReceipt) → HeldBegins h m → HeldBegins h n → IsReceiptOf m r
     → IsOfHeldHeap n r
-alike (heap.Fixed h) (held.Growing c) n r one other is = absurd (moves_not (heap_of h) c.number one.begins)
-alike (heap.Fixed h) m (held.Growing d) r one other is = absurd (moves_not (heap_of h) d.number other.begins)
+alike (heap.Fixed h) (held.Growing c) n r one other is = absurd one.begins
+alike (heap.Fixed h) m (held.Growing d) r one other is = absurd other.begins
 alike (heap.Fixed h) m n (kept.Fixed r) one other is =
     sides_alike (heap_of h) (side_of m) (side_of n) _ _ r one.begins other.begins is
 alike (heap.Fixed h) m n (kept.Growing r) one other is = absurd is

@@ -7,13 +7,13 @@ use Rattle.c_handles.specs.Chunks.{chunked, chunk_of, key_within}
 use Rattle.sh_pass.specs.Passes.{Caller, ReadDoes, ReadIntoDoes}
 use Rattle.sh_member.specs.Readers.{TakeFitsDoes, TakeIntoDoes}
 use Rattle.c_handles.specs.Sides.{SeenSide, SideDoes}
-use Rattle.c_handles.specs.Side.TheVariants.{Pass, Shard, Moving}
+use Rattle.c_handles.specs.Side.TheVariants.{Pass, Shard}
 use Rattle.c_handles.specs.Growing.{Growing}
 use Rattle.c_handles.specs.ChunkMember.{ChunkMember}
 use Rattle.c_handles.specs.Callers.{GrownDoes, MemberDoes, WhyUnmet}
 use Rattle.c_handles.specs.declared.held_pass.HeldPass.{HeldPass}
 use Rattle.c_handles.specs.declared.held_pass.HeldPass.TheVariants as held
-use Rattle.c_handles.specs.Members.{AnyDoes, layout_of, side_of}
+use Rattle.c_handles.specs.Members.{AnyDoes, OnSides, layout_of, side_of}
 use Rattle.c_handles.specs.HeldPasses.{FillsByKey, HeldReads, HeldTakes}
 
 -- the result of a read, by the value that was read into
@@ -34,10 +34,15 @@ side_fills : (l : Layout) (does : Caller → Result (List ℕ) Refusal → Calle
 side_fills l does into after fills a (Pass v) (Pass w) did = (fills v w a did.0, did.1)
 side_fills l does into after fills a (Shard o) (Shard n) did = (fills o.pages.owner n.pages.owner a did.0, did.1)
 side_fills l does into after fills a (Pass v) (Shard n) did = absurd did
-side_fills l does into after fills a (Pass v) Moving did = absurd did
 side_fills l does into after fills a (Shard o) (Pass w) did = absurd did
-side_fills l does into after fills a (Shard o) Moving did = absurd did
-side_fills l does into after fills a Moving n did = absurd did
+
+sides_fill : (l : Layout) (does : Caller → Result (List ℕ) Refusal → Caller → Type 0)
+    (into : Caller → Result (Unit {0}) Refusal → Caller → Type 0) (after : List ℕ) → Fills does after into
+    → (a : Result (Unit {0}) Refusal) (m n : Option SeenSide) → OnSides (λ s t. SideDoes l into s a t) m n
+    → OnSides (λ s t. SideDoes l does s (read_in after a) t) m n
+sides_fill l does into after fills a (Some m) (Some n) did = side_fills l does into after fills a m n did
+sides_fill l does into after fills a (Some m) None did = absurd did
+sides_fill l does into after fills a None n did = absurd did
 
 any_fills : (does : Layout → Caller → Result (List ℕ) Refusal → Caller → Type 0)
     (into : Layout → Caller → Result (Unit {0}) Refusal → Caller → Type 0) (after : List ℕ)
@@ -48,7 +53,7 @@ any_fills does into after fills a v w did =
     record {
       layout = did.layout;
       pool_slot = did.pool_slot;
-      does_it = side_fills l (does l) (into l) after (fills l) a (side_of v) (side_of w) did.does_it;
+      does_it = sides_fill l (does l) (into l) after (fills l) a (side_of v) (side_of w) did.does_it;
     }
 
 -- ---- of what a caller has in a chunk, then of the caller

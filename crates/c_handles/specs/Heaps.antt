@@ -1,5 +1,6 @@
 -- A heap of any layout: its layout is chosen as it is opened, and a contract sees which one it is.
 use Rattle.std.specs.Prelude.{◌≡◌, ℕ, Result, Ok, Err}
+use Rattle.std.specs.Option.{MatchOption}
 use Rattle.sh_key.specs.Layout.{Layout}
 use Rattle.sh_key.specs.Layouts.{tiny, wide, tagged, deep}
 use Rattle.sh_shape.specs.Shape.{Numbers, IsShape, Fits}
@@ -76,4 +77,4 @@ OpensFor layout owners values words passes (Err _) = ⊥
 -- a pass of the heap at rest, with its layout
 pub record AnyBegins (heap : AnyHeap) (m : HeldPass) : Type 0 where
   pub layout : layout_of m ≡ heap_layout heap
-  pub begins : Begins (heap_of heap) (side_of m) (pool_slot_of m)
+  pub begins : MatchOption (side_of m) ⊥ (λ s. Begins (heap_of heap) s (pool_slot_of m))

@@ -1,5 +1,6 @@
 -- What a pass's handle holds: a pass of a heap of a fixed shape, or a caller of one that grows; and what its calls do.
 use Rattle.std.specs.Prelude.{◌≡◌, ℕ, ◌<◌, List, Option, None, Result, Ok, Err, IfErr, OnErr, OnOk, get_or, length}
+use Rattle.std.specs.Option.{IfSome, MatchOption}
 use Rattle.sh_value.specs.declared.hold.Hold.{Hold}
 use Rattle.sh_value.specs.declared.refusal.Refusal.{Refusal}
 use Rattle.sh_value.specs.declared.refusal.Refusal.TheVariants as refusal
@@ -155,8 +156,7 @@ LeavesShards = EitherDoes KeepsShard CallerLeavesIdle
 
 -- a pass may be given back if it owns no shard, and a caller always
 abbrev pub MayBeGivenBack : HeldPass → Type 0
-MayBeGivenBack (held.Growing c) = Unit {0}
-MayBeGivenBack m = IsPass (side_of m)
+MayBeGivenBack m = IfSome (side_of m) IsPass
 
 -- it was given back, or it is returned as it was
 abbrev pub HeldGives : HeldPass → Result (Unit {0}) HeldPass → Type 0
@@ -170,7 +170,7 @@ abbrev pub IsReceiptOf : HeldPass → KeptReceipt → Type 0
 IsReceiptOf (held.Growing c) (kept.Growing r) =
     CoversEach (length c.growing.cells.items) c.met.items r.chunks.items × AreReceiptsIn c.growing r.chunks.items
 IsReceiptOf (held.Growing c) (kept.Fixed r) = ⊥
-IsReceiptOf m (kept.Fixed r) = IsReceiptBy (side_of m) r
+IsReceiptOf m (kept.Fixed r) = MatchOption (side_of m) ⊥ (λ s. IsReceiptBy s r)
 IsReceiptOf m (kept.Growing r) = ⊥
 
 -- a pass is as it was; a caller keeps its heap, and what it has in its chunks is as it was
@@ -181,8 +181,7 @@ IsAsBefore m n = n ≡ m
 
 -- the heap of a fixed shape that a pass is of
 abbrev pub IsOfFixed : HeldPass → Heap → Type 0
-IsOfFixed (held.Growing c) heap = ⊥
-IsOfFixed m heap = IsOfHeap (side_of m) heap
+IsOfFixed m heap = MatchOption (side_of m) ⊥ (λ s. IsOfHeap s heap)
 
 -- the receipt is of the growing heap that a caller is of
 abbrev pub IsOfGrown : HeldPass → GrownReceipt → Type 0

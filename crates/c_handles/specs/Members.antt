@@ -1,6 +1,6 @@
 -- A pass of a heap of any layout, and what its calls do. (What the handle of a pass holds may be a caller of a growing
--- heap, too: that has the layout of chunks, and is between a pass and an owner, so that it does none of these calls.)
-use Rattle.std.specs.Prelude.{◌≡◌, ℕ, ◌<◌, Result, Ok, Err}
+-- heap, too: that has the layout of chunks, and does none of these calls.)
+use Rattle.std.specs.Prelude.{◌≡◌, ℕ, ◌<◌, Option, Some, None, Result, Ok, Err}
 use Rattle.sh_key.specs.Layout.{Layout}
 use Rattle.sh_key.specs.Layouts.{tiny, wide, tagged, deep}
 use Rattle.sh_grown.specs.Chunks.{chunked}
@@ -20,13 +20,19 @@ layout_of (any.Deep m b) = deep
 layout_of (any.Tiny m b) = tiny
 layout_of (any.Growing c) = chunked
 
--- what it is: a pass, or the owner of a shard
-abbrev pub side_of : HeldPass → SeenSide
-side_of (any.Wide m b) = m
-side_of (any.Tagged m b) = m
-side_of (any.Deep m b) = m
-side_of (any.Tiny m b) = m
-side_of (any.Growing c) = side.Moving
+-- what it is: a pass, or the owner of a shard; a caller of a growing heap is neither
+abbrev pub side_of : HeldPass → Option SeenSide
+side_of (any.Wide m b) = Some m
+side_of (any.Tagged m b) = Some m
+side_of (any.Deep m b) = Some m
+side_of (any.Tiny m b) = Some m
+side_of (any.Growing c) = None
+
+-- there are both, and this is so of them
+abbrev pub OnSides : (SeenSide → SeenSide → Type 0) → Option SeenSide → Option SeenSide → Type 0
+OnSides does (Some m) (Some n) = does m n
+OnSides does (Some m) None = ⊥
+OnSides does None n = ⊥
 
 -- the number of its pool slot
 abbrev pub pool_slot_of : HeldPass → ℕ
@@ -41,13 +47,13 @@ pub record AnyDoes {A : Type 0} (does : Layout → SeenSide → Result A Refusal
     (answer : Result A Refusal) (n : HeldPass) : Type 0 where
   pub layout : layout_of n ≡ layout_of m
   pub pool_slot : pool_slot_of n ≡ pool_slot_of m
-  pub does_it : does (layout_of m) (side_of m) answer (side_of n)
+  pub does_it : OnSides (λ s t. does (layout_of m) s answer t) (side_of m) (side_of n)
 
 -- it heeded the receipt
 pub record AnyHeeds (receipt : Caller) (m n : HeldPass) : Type 0 where
   pub layout : layout_of n ≡ layout_of m
   pub pool_slot : pool_slot_of n ≡ pool_slot_of m
-  pub heeds : SideHeeds (layout_of m) receipt (side_of m) (side_of n)
+  pub heeds : OnSides (SideHeeds (layout_of m) receipt) (side_of m) (side_of n)
 
 -- its pass owned no shard and was given back, or it is returned with its pool slot
 abbrev pub Gives : SeenSide → ℕ → Result (Unit {0}) (SeenSide × ℕ) → Type 0

@@ -14,7 +14,7 @@ use Rattle.script_heap.specs.Shards.{Sharded, InsertServes, value_class}
 use Rattle.script_models.specs.Call.{Call}
 use Rattle.script_models.specs.Call.TheVariants as call
 use Rattle.script_models.specs.Answer.{Answer}
-use Rattle.script_heap.specs.Side.TheVariants.{Pass, Shard, Moving}
+use Rattle.script_heap.specs.Side.TheVariants.{Pass, Shard}
 use Rattle.script_heap.specs.Sides.{SeenSide, SideDoes, SideAdopts, SideLeaves, SideInserts}
 use Rattle.script_heap.specs.Parts.{RunTerms, PassPart, is_placed_key}
 use Rattle.script_heap.specs.Receipts.{MayHeed, SideHeeded}
@@ -24,7 +24,6 @@ use Rattle.script_heap.proofs.PlacedKeys.{placed}
 abbrev pub KnowsShape : Numbers → SeenSide → Type 0
 KnowsShape n (Pass c) = c.view.shape ≡ n
 KnowsShape n (Shard o) = o.pages.owner.view.shape ≡ n
-KnowsShape n Moving = Unit {0}
 
 -- ---- what calls of a pass leave
 
@@ -71,15 +70,11 @@ module _ (n : Numbers) where
   serve_keeps layout does (Pass v) r (Pass w) same h k = same v w h.0 ∙ k
   serve_keeps layout does (Shard o) r (Shard m) same h k = h.1.same.shape ∙ k
   serve_keeps layout does (Pass v) r (Shard m) same h k = absurd h
-  serve_keeps layout does (Pass v) r Moving same h k = absurd h
   serve_keeps layout does (Shard o) r (Pass w) same h k = absurd h
-  serve_keeps layout does (Shard o) r Moving same h k = absurd h
-  serve_keeps layout does Moving r t same h k = absurd h
 
   heed_keeps : (r : Caller) (s t : SeenSide) → SideHeeded r s t → KnowsShape n s → KnowsShape n t
   heed_keeps r (Pass v) t h k = subst (KnowsShape n) (sym h) k
   heed_keeps r (Shard o) t h k = subst (KnowsShape n) (sym h) k
-  heed_keeps r Moving t h k = absurd h
 
   refused_same : (shard : ℕ) (v w : Caller) (e : Refusal) → AdoptRefused shard v w e → w.view.shape ≡ v.view.shape
   refused_same shard v w refusal.NoShard h = unmoved v w h.1
@@ -91,23 +86,17 @@ module _ (n : Numbers) where
       → SideAdopts shard s r t → KnowsShape n s → KnowsShape n t
   adopt_keeps shard (Pass v) (Ok x) (Shard m) h k = h.1.same.shape ∙ k
   adopt_keeps shard (Pass v) (Ok x) (Pass w) h k = absurd h
-  adopt_keeps shard (Pass v) (Ok x) Moving h k = absurd h
   adopt_keeps shard (Pass v) (Err e) (Pass w) h k = refused_same shard v w e h ∙ k
   adopt_keeps shard (Pass v) (Err e) (Shard m) h k = absurd h
-  adopt_keeps shard (Pass v) (Err e) Moving h k = absurd h
   adopt_keeps shard (Shard o) r t h k = knows_still (Shard o) t h.1 k
-  adopt_keeps shard Moving r t h k = absurd h
 
   leave_keeps : (s : SeenSide) (r : Result (Unit {0}) Refusal) (t : SeenSide) → SideLeaves s r t
       → KnowsShape n s → KnowsShape n t
   leave_keeps (Shard o) (Ok x) (Pass w) h k = h.same.shape ∙ k
   leave_keeps (Shard o) (Ok x) (Shard m) h k = absurd h
-  leave_keeps (Shard o) (Ok x) Moving h k = absurd h
   leave_keeps (Shard o) (Err e) (Shard m) h k = h.1.collects.through.aside.same.shape ∙ k
   leave_keeps (Shard o) (Err e) (Pass w) h k = absurd h
-  leave_keeps (Shard o) (Err e) Moving h k = absurd h
   leave_keeps (Pass v) r t h k = knows_still (Pass v) t h.1 k
-  leave_keeps Moving r t h k = absurd h
 
   insert_same : (layout : Layout) (c : ℕ) (words : List ℕ) (o m : Sharded) (r : Result ℕ Refusal)
       → InsertServes layout c words o r m → m.pages.owner.view.shape ≡ o.pages.owner.view.shape
@@ -121,8 +110,6 @@ module _ (n : Numbers) where
   insert_keeps layout words (Pass v) r t h k = knows_still (Pass v) t h.1 k
   insert_keeps layout words (Shard o) r (Shard m) h k = insert_same layout (value_class words) words o m r h.0 ∙ k
   insert_keeps layout words (Shard o) r (Pass w) h k = absurd h
-  insert_keeps layout words (Shard o) r Moving h k = absurd h
-  insert_keeps layout words Moving r t h k = absurd h
 
   -- the key that was given has a place
   pub placed_key : (layout : Layout) (words : List ℕ) (s : SeenSide) (key : ℕ) (t : SeenSide)
@@ -133,8 +120,6 @@ module _ (n : Numbers) where
       (placed layout o.pages.owner.view.shape key
       (subst (λ (z : Option KeyRef). IsSome z) (sym h.0.1.1) refl))
   placed_key layout words (Shard o) key (Pass w) h k = absurd h
-  placed_key layout words (Shard o) key Moving h k = absurd h
-  placed_key layout words Moving key t h k = absurd h
 
   -- ---- a line
 

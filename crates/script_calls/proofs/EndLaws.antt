@@ -10,7 +10,7 @@ use Rattle.sh_script.specs.declared.calls.CallLine.{CallLine}
 use Rattle.sh_pass.specs.Told.{Told}
 use Rattle.sh_pass.specs.Seats.{Heap}
 use Rattle.sh_pass.specs.Passes.{Caller}
-use Rattle.sh_member.specs.declared.member.Side.TheVariants.{Pass, Shard, Moving}
+use Rattle.sh_member.specs.declared.member.Side.TheVariants.{Pass, Shard}
 use Rattle.sh_member.specs.Sides.{SeenSide, SideLeaves}
 use Rattle.script_calls.specs.OwnParts.{EndsWith, own_part, taken_in}
 use Rattle.script_calls.specs.Parts.{RunTerms, PassPart, SeenPass}
@@ -27,7 +27,6 @@ use Rattle.script_calls.proofs.ListLemmas.{get_some, map_more}
 left_so : (s t : SeenSide) → SideLeaves s (Ok tt) t → EndsWith s (own_part t)
 left_so (Pass v) t h = absurd (cc h.0)
 left_so (Shard o) t h = (t, h, refl)
-left_so Moving t h = absurd h
 
 pub ends_left : (v w : PassPart) → LeaveAnswers v (Ok tt) w → EndsWith v.stands (own_part w.stands)
 ends_left v w h = left_so v.stands w.stands h.1
@@ -36,8 +35,6 @@ pass_so : (s t : SeenSide) → SideLeaves s (Err refusal.NoShard) t → EndsWith
 pass_so (Pass v) t h = ap own_part h.1
 pass_so (Shard o) (Pass w) h = absurd h
 pass_so (Shard o) (Shard n) h = absurd (let e : refusal.NoShard ≡ refusal.Waiting = h.0 in cc)
-pass_so (Shard o) Moving h = absurd h
-pass_so Moving t h = absurd h
 
 pub ends_without_shard : (v w : PassPart) → LeaveAnswers v (Err refusal.NoShard) w
     → EndsWith v.stands (own_part w.stands)
@@ -86,7 +83,6 @@ pub side_heeds : (r : Caller) (x y : SeenSide) → SideHeeded r x y
     → (own_part y ≡ own_part x) × (taken_in y ≡ taken_in x)
 side_heeds r (Pass v) y h = (ap own_part h, ap taken_in h)
 side_heeds r (Shard o) y h = (ap own_part h, ap taken_in h)
-side_heeds r Moving y h = absurd h
 
 -- ---- the end
 

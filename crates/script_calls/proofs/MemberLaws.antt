@@ -10,7 +10,7 @@ use Rattle.sh_pass.specs.Tales.{ViewIsValid}
 use Rattle.sh_pass.specs.Together.{LeadsTogether}
 use Rattle.sh_pass.specs.Passes.{Caller, GetDoes, ReadDoes, RemoveDoes, ReleaseDoes}
 use Rattle.sh_member.specs.Shards.{value_class}
-use Rattle.sh_member.specs.declared.member.Side.TheVariants.{Pass, Shard, Moving}
+use Rattle.sh_member.specs.declared.member.Side.TheVariants.{Pass, Shard}
 use Rattle.sh_member.specs.SideBounds.{AdoptTakes}
 use Rattle.sh_member.specs.Sides.{SeenSide, SideDoes, SideInserts, SideAdopts, SideLeaves, SideIsValid, SideHeeds}
 use Rattle.sh_member.specs.Sides.{IsOfHeap, IsReceiptBy, MayJoin, SideJoins, SideGivesPass, OpensBundle, EndsInBundle}
@@ -42,10 +42,7 @@ member_does layout does r Answers so (Shard o) (Shard n) h =
     so o.pages.owner n.pages.owner h.1.remains.stood h.1.remains.shape (Shard o) (Shard n)
     (ap (λ (k : ℕ). Some k) h.1.shard) h.0 h
 member_does layout does r Answers so (Pass v) (Shard n) h = absurd h
-member_does layout does r Answers so (Pass v) Moving h = absurd h
 member_does layout does r Answers so (Shard o) (Pass w) h = absurd h
-member_does layout does r Answers so (Shard o) Moving h = absurd h
-member_does layout does r Answers so Moving n h = absurd h
 
 pub member_gets : (layout : Layout) (m n : SeenSide) (key : ℕ) (r : Result Hold Refusal)
     → SideDoes layout (GetDoes layout key) m r n
@@ -93,8 +90,6 @@ member_inserts layout (Pass v) n words r h =
 member_inserts layout (Shard o) (Shard n) words r h =
     let p = insert_answers layout o (value_class words) words r n h.0 in ((p.0, h), p.1)
 member_inserts layout (Shard o) (Pass w) words r h = absurd h
-member_inserts layout (Shard o) Moving words r h = absurd h
-member_inserts layout Moving n words r h = absurd h
 
 -- the key of an insert is one of the layout
 pub member_key_is_small : (layout : Layout) (m n : SeenSide) (words : List ℕ) (r : Result ℕ Refusal)
@@ -105,8 +100,6 @@ member_key_is_small layout (Pass v) n words (Ok key) h = absurd (let e = h.0 in 
 member_key_is_small layout (Pass v) n words (Err why) h = tt
 member_key_is_small layout (Shard o) (Shard n) words r h = key_is_small layout o (value_class words) words r n h.0
 member_key_is_small layout (Shard o) (Pass w) words r h = absurd h
-member_key_is_small layout (Shard o) Moving words r h = absurd h
-member_key_is_small layout Moving n words r h = absurd h
 
 -- ---- adopting and leaving
 
@@ -116,32 +109,26 @@ pub member_adopts : (layout : Layout) (m n : SeenSide) (k : ℕ) (r : Result (Un
     × SamePass (seen_of_member layout m) (seen_of_member layout n)
 member_adopts layout (Pass v) (Shard n) k (Ok u) h b = adopt_answers layout v k (Ok n) h b
 member_adopts layout (Pass v) (Pass w) k (Ok u) h b = absurd h
-member_adopts layout (Pass v) Moving k (Ok u) h b = absurd h
 member_adopts layout (Pass v) (Pass w) k (Err why) h b = adopt_answers layout v k (Err (w, why)) h b
 member_adopts layout (Pass v) (Shard n) k (Err why) h b = absurd h
-member_adopts layout (Pass v) Moving k (Err why) h b = absurd h
 member_adopts layout (Shard o) n k r h b =
     let s : SeenPass = seen_of_member layout (Shard o) in
     let P : SeenSide → Type 0 = λ x. AdoptAnswers s.terms s.part k r (seen_of_member layout x).part
     × SamePass s (seen_of_member layout x) in
     subst P (sym h.1) (((h.0, refl), (h.0, refl), refl), refl)
-member_adopts layout Moving n k r h b = absurd h
 
 pub member_leaves : (layout : Layout) (m n : SeenSide) (r : Result (Unit {0}) Refusal) → SideLeaves m r n
     → LeaveAnswers (seen_of_member layout m).part r (seen_of_member layout n).part
     × SamePass (seen_of_member layout m) (seen_of_member layout n)
 member_leaves layout (Shard o) (Pass w) (Ok u) h = leave_answers layout o (Ok w) h
 member_leaves layout (Shard o) (Shard n) (Ok u) h = absurd h
-member_leaves layout (Shard o) Moving (Ok u) h = absurd h
 member_leaves layout (Shard o) (Shard n) (Err why) h = leave_answers layout o (Err (n, why)) h
 member_leaves layout (Shard o) (Pass w) (Err why) h = absurd h
-member_leaves layout (Shard o) Moving (Err why) h = absurd h
 member_leaves layout (Pass v) n r h =
     let s : SeenPass = seen_of_member layout (Pass v) in
     let P : SeenSide → Type 0 = λ x. LeaveAnswers s.part r (seen_of_member layout x).part
     × SamePass s (seen_of_member layout x) in
     subst P (sym h.1) (((h.0, refl), (h.0, refl)), refl)
-member_leaves layout Moving n r h = absurd h
 
 -- ---- receipts
 
@@ -149,23 +136,18 @@ pub member_receipt : (layout : Layout) (m : SeenSide) (r : Caller) → IsReceipt
     → seen_of_receipt r ≡ receipt_seen (seen_of_member layout m)
 member_receipt layout (Pass v) r h = receipt_told layout v r (Pass v) refl refl h
 member_receipt layout (Shard o) r h = receipt_told layout o.pages.owner r (Shard o) refl refl h
-member_receipt layout Moving r h = absurd h
 
 pub receipt_is_of : (layout : Layout) (m : SeenSide) (r : Caller)
     → (seen_of_receipt r).heap ≡ (seen_of_member layout m).heap → IsOfHeap m r.heap
 receipt_is_of layout (Pass v) r h = same_Some r.heap v.heap h
 receipt_is_of layout (Shard o) r h = same_Some r.heap o.pages.owner.heap h
-receipt_is_of layout Moving r h = none-some r.heap (sym h)
 
 pub member_heeds : (layout : Layout) (m n : SeenSide) (r : Caller) → SideHeeds layout r m n
     → Heeds r (seen_of_member layout m) (seen_of_member layout n)
 member_heeds layout (Pass v) (Pass w) r h = pass_heeds layout v r w h.0
 member_heeds layout (Shard o) (Shard n) r h = owner_heeds layout o n r h.0
 member_heeds layout (Pass v) (Shard n) r h = absurd h
-member_heeds layout (Pass v) Moving r h = absurd h
 member_heeds layout (Shard o) (Pass w) r h = absurd h
-member_heeds layout (Shard o) Moving r h = absurd h
-member_heeds layout Moving n r h = absurd h
 
 -- ---- bundles
 
@@ -175,7 +157,6 @@ member_opens layout (Pass v) b h =
     subst (λ (z : Caller). OpensFor (seen_of_member layout (Pass v)) z) (sym h) (refl, refl, refl)
 member_opens layout (Shard o) b h =
     subst (λ (z : Caller). OpensFor (seen_of_member layout (Shard o)) z) (sym h) (refl, refl, refl)
-member_opens layout Moving b h = absurd h
 
 pub member_binds : (layout : Layout) (m : SeenSide) (b c : Caller) → EndsInBundle m b c
     → BindsSide (seen_of_member layout m) b c
@@ -183,41 +164,34 @@ member_binds layout (Pass v) b c h =
     subst (λ (z : Caller). BindsSide (seen_of_member layout (Pass v)) b z) (sym h) (refl, refl, refl, refl)
 member_binds layout (Shard o) b c h =
     subst (λ (z : Caller). BindsSide (seen_of_member layout (Shard o)) b z) (sym h) (refl, refl, refl, refl)
-member_binds layout Moving b c h = absurd h
 
 pub member_leads : (layout : Layout) (m : SeenSide) (b c : Caller) → EndsInBundle m b c → LeadsTogether layout c.view
     → LeadsTogether (seen_of_member layout m).terms.layout c.view
 member_leads layout (Pass v) b c h leads = leads
 member_leads layout (Shard o) b c h leads = leads
-member_leads layout Moving b c h leads = absurd h
 
 pub member_shape : (layout : Layout) (m : SeenSide) → SideIsValid layout m
     → shape_in (seen_of_member layout m).part.stands ≡ (seen_of_member layout m).terms.shape
 member_shape layout (Pass v) h = refl
 member_shape layout (Shard o) h = refl
-member_shape layout Moving h = absurd h
 
 -- ---- meeting
 
 pub member_whole : (layout : Layout) (m : SeenSide) → SideIsValid layout m → HasOrderedTale (seen_of_member layout m)
 member_whole layout (Pass v) h = whole_tale layout v (Pass v) h.1
 member_whole layout (Shard o) h = whole_tale layout o.pages.owner (Shard o) h.stands
-member_whole layout Moving h = absurd h
 
 pub member_stands : (layout : Layout) (m : SeenSide) → SideIsValid layout m
     → PartIsTrue (seen_of_member layout m).terms.layout (seen_of_member layout m).part
 member_stands layout (Pass v) h = (h, refl)
 member_stands layout (Shard o) h = (h, refl)
-member_stands layout Moving h = absurd h
 
 pub members_may_join : (layout : Layout) (m n : SeenSide)
     → ((seen_of_member layout m).part.shard ≡ None) × ((seen_of_member layout n).part.shard ≡ None)
     → (seen_of_member layout m).heap ≡ (seen_of_member layout n).heap → MayJoin m n
 members_may_join layout (Pass v) (Pass w) none same = sym (same_Some v.heap w.heap same)
 members_may_join layout (Pass v) (Shard p) none same = none-some p.pages.shard (sym none.1)
-members_may_join layout (Pass v) Moving none same = tt
 members_may_join layout (Shard o) n none same = none-some o.pages.shard (sym none.0)
-members_may_join layout Moving n none same = tt
 
 -- the member that two members became
 pub record Joined (s t r : SeenPass) : Type 0 where
@@ -239,11 +213,8 @@ members_join layout (Pass v) (Pass w) (Pass r) h = record {
   parts = parts_of_join layout v w r h.1;
 }
 members_join layout (Pass v) (Pass w) (Shard p) h = absurd h
-members_join layout (Pass v) (Pass w) Moving h = absurd h
 members_join layout (Pass v) (Shard p) r h = absurd h
-members_join layout (Pass v) Moving r h = absurd h
 members_join layout (Shard o) n r h = absurd h
-members_join layout Moving n r h = absurd h
 
 -- ---- the pass of a member that owns no shard
 
@@ -251,10 +222,8 @@ pub gives_its_pass : (layout : Layout) (m : SeenSide) (p : Caller) → SideGives
     → seen_of_caller layout p ≡ seen_of_member layout m
 gives_its_pass layout (Pass v) p h = ap (seen_of_caller layout) h
 gives_its_pass layout (Shard o) p h = absurd h
-gives_its_pass layout Moving p h = absurd h
 
 pub keeps_no_pass : (layout : Layout) (m n : SeenSide) → (seen_of_member layout m).part.shard ≡ None
     → SideGivesPass m (Err n) → ⊥
 keeps_no_pass layout (Pass v) n none h = h
 keeps_no_pass layout (Shard o) n none h = none-some o.pages.shard (sym none)
-keeps_no_pass layout Moving n none h = h

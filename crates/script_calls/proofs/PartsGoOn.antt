@@ -13,7 +13,7 @@ use Rattle.sh_pass.specs.Own.{Own}
 use Rattle.sh_pass.specs.Growing.{GoesOn, SameTale}
 use Rattle.sh_pass.specs.Passes.{Caller, GetDoes, ReadDoes, RemoveDoes, ReleaseDoes}
 use Rattle.sh_member.specs.Pages.{AdoptRefused}
-use Rattle.sh_member.specs.declared.member.Side.TheVariants.{Pass, Shard, Moving}
+use Rattle.sh_member.specs.declared.member.Side.TheVariants.{Pass, Shard}
 use Rattle.sh_member.specs.Sides.{SeenSide, SideDoes, SideAdopts, SideLeaves, SideInserts}
 use Rattle.sh_script.specs.declared.calls.Call.{Call}
 use Rattle.sh_script.specs.declared.calls.Call.TheVariants as call
@@ -81,41 +81,30 @@ serve_follows : {A : Type 0} (layout : Layout) (does : Caller → Result A Refus
 serve_follows layout does (Pass v) r (Pass w) goes h = let g = goes v w h.0 in record { shape = g.0; trail = g.1 }
 serve_follows layout does (Shard o) r (Shard n) goes h = record { shape = h.1.same.shape; trail = h.1.same.trail }
 serve_follows layout does (Pass v) r (Shard n) goes h = absurd h
-serve_follows layout does (Pass v) r Moving goes h = absurd h
 serve_follows layout does (Shard o) r (Pass w) goes h = absurd h
-serve_follows layout does (Shard o) r Moving goes h = absurd h
-serve_follows layout does Moving r t goes h = absurd h
 
 adopt_follows : (shard : ℕ) (s : SeenSide) (r : Result (Unit {0}) Refusal) (t : SeenSide) → SideAdopts shard s r t
     → Follows s t
 adopt_follows shard (Pass v) (Ok x) (Shard n) h = record { shape = h.1.same.shape; trail = h.1.same.trail }
 adopt_follows shard (Pass v) (Ok x) (Pass w) h = absurd h
-adopt_follows shard (Pass v) (Ok x) Moving h = absurd h
 adopt_follows shard (Pass v) (Err e) (Pass w) h =
     let g = refused_goes shard v w e h in record { shape = g.0; trail = g.1 }
 adopt_follows shard (Pass v) (Err e) (Shard n) h = absurd h
-adopt_follows shard (Pass v) (Err e) Moving h = absurd h
 adopt_follows shard (Shard o) r t h = still (Shard o) t h.1
-adopt_follows shard Moving r t h = absurd h
 
 pub leave_follows : (s : SeenSide) (r : Result (Unit {0}) Refusal) (t : SeenSide) → SideLeaves s r t → Follows s t
 leave_follows (Shard o) (Ok x) (Pass w) h = record { shape = h.same.shape; trail = h.same.trail }
 leave_follows (Shard o) (Ok x) (Shard n) h = absurd h
-leave_follows (Shard o) (Ok x) Moving h = absurd h
 leave_follows (Shard o) (Err e) (Shard n) h =
     let same = h.1.collects.through.aside.same in record { shape = same.shape; trail = same.trail }
 leave_follows (Shard o) (Err e) (Pass w) h = absurd h
-leave_follows (Shard o) (Err e) Moving h = absurd h
 leave_follows (Pass v) r t h = still (Pass v) t h.1
-leave_follows Moving r t h = absurd h
 
 insert_follows : (layout : Layout) (words : List ℕ) (s : SeenSide) (r : Result ℕ Refusal) (t : SeenSide)
     → SideInserts layout words s r t → Follows s t
 insert_follows layout words (Pass v) r t h = still (Pass v) t h.1
 insert_follows layout words (Shard o) r (Shard n) h = record { shape = h.1.same.shape; trail = h.1.same.trail }
 insert_follows layout words (Shard o) r (Pass w) h = absurd h
-insert_follows layout words (Shard o) r Moving h = absurd h
-insert_follows layout words Moving r t h = absurd h
 
 -- ---- a line
 
@@ -163,7 +152,6 @@ same_part s t e = record { own = ap own_part e; shape = ap shape_in e; shard = a
 heeded_part : (r : Caller) (s t : SeenSide) → SideHeeded r s t → SameOwnPart s t
 heeded_part r (Pass v) t h = record { own = ap own_part h; shape = ap shape_in h; shard = ap shard_owned h }
 heeded_part r (Shard o) t h = record { own = ap own_part h; shape = ap shape_in h; shard = ap shard_owned h }
-heeded_part r Moving t h = absurd h
 
 pub heeds_same : (v w : PassPart) → MayHeed v w → SameOwnPart v.stands w.stands
 heeds_same v w (inl e) = same_part v.stands w.stands (ap (λ (p : PassPart). p.stands) e)
@@ -200,7 +188,6 @@ ends_on (Pass v) own h = ([], ap (λ (o : Own). o.trail) h ∙ sym (append-nil v
 ends_on (Shard o) own h =
     let f = leave_follows (Shard o) (Ok tt) h.0 h.1 in
     (f.trail.0, ap (λ (o : Own). o.trail) h.2 ∙ f.trail.1)
-ends_on Moving own h = absurd h
 
 pub goes_to_end : (part begins : PassPart) (own : Own) → HeedsTwice part begins → EndsWith begins.stands own
     → GoesOn (own_part part.stands).trail own.trail

@@ -1,12 +1,11 @@
 -- The own part of a pass: what it knows of its own, its entries, and each of its steps with the word that it found.
-use Rattle.std.specs.Prelude.{◌≡◌, ℕ, List, [], length, Ok}
+use Rattle.std.specs.Prelude.{◌≡◌, ℕ, List, length, Ok}
 use Rattle.sh_key.specs.Layout.{Layout}
 use Rattle.sh_pass.specs.Shape.{Numbers}
 use Rattle.sh_pass.specs.Growing.{GoesOn}
 use Rattle.sh_pass.specs.Own.{Own}
 use Rattle.sh_pass.specs.Told.{Told}
-use Rattle.sh_pass.specs.Views.{fresh}
-use Rattle.sh_member.specs.declared.member.Side.TheVariants.{Pass, Shard, Moving}
+use Rattle.sh_member.specs.declared.member.Side.TheVariants.{Pass, Shard}
 use Rattle.sh_member.specs.Sides.{SeenSide, SideLeaves, SideIsValid}
 use Rattle.script_calls.specs.Parts.{PassPart}
 
@@ -14,7 +13,6 @@ use Rattle.script_calls.specs.Parts.{PassPart}
 abbrev pub own_part : SeenSide → Own
 own_part (Pass v) = v.view.own
 own_part (Shard o) = o.pages.owner.view.own
-own_part Moving = fresh
 
 -- all that the pass knows is true, nothing is begun, and its entries are those of its own part
 abbrev pub PartIsTrue : Layout → PassPart → Type 0
@@ -24,13 +22,11 @@ PartIsTrue layout v = SideIsValid layout v.stands × (v.log ≡ (own_part v.stan
 abbrev pub taken_in : SeenSide → List Told
 taken_in (Pass v) = v.view.told
 taken_in (Shard o) = o.pages.owner.view.told
-taken_in Moving = []
 
 -- the shape of the heap as it knows it
 abbrev pub shape_in : SeenSide → Numbers
 shape_in (Pass v) = v.view.shape
 shape_in (Shard o) = o.pages.owner.view.shape
-shape_in Moving = record { shards = 0; segments = 0; passes = 0 }
 
 -- the shape is as before, and the steps before are the first of the steps after
 pub record Follows (s t : SeenSide) : Type 0 where
@@ -45,4 +41,3 @@ steps_of s = length (own_part s).trail
 abbrev pub EndsWith : SeenSide → Own → Type 0
 EndsWith (Pass v) own = own ≡ v.view.own
 EndsWith (Shard o) own = (t : SeenSide) × SideLeaves (Shard o) (Ok tt) t × (own ≡ own_part t)
-EndsWith Moving own = ⊥

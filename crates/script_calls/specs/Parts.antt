@@ -12,7 +12,7 @@ use Rattle.sh_pass.specs.Moves.{has_place}
 use Rattle.sh_pass.specs.Order.{Order}
 use Rattle.sh_pass.specs.Seats.{Heap}
 use Rattle.sh_pass.specs.Views.{newly}
-use Rattle.sh_member.specs.declared.member.Side.TheVariants.{Pass, Shard, Moving}
+use Rattle.sh_member.specs.declared.member.Side.TheVariants.{Pass, Shard}
 use Rattle.sh_member.specs.Sides.{SeenSide}
 
 -- what stays the same over a run
@@ -30,12 +30,18 @@ pub record PassPart : Type 0 where
 abbrev pub shard_owned : SeenSide → Option ℕ
 shard_owned (Pass v) = None
 shard_owned (Shard o) = Some o.pages.shard
-shard_owned Moving = None
 
--- a pass of the heap that has done nothing yet; if there is no heap, there is no pass
+-- no heap
+abbrev pub nowhere : Heap
+nowhere = record {
+  table = record { words = 0; slots = 0; views_name = 0; atom = 0; block = 0; offset = 0; slot_names = [] };
+  shape = record { shards = 0; segments = 0; passes = 0 };
+}
+
+-- a pass of the heap that has done nothing yet
 abbrev pub new_side : Option Heap → ℕ → SeenSide
 new_side (Some heap) pass = Pass (record { heap = heap; view = newly heap.shape pass })
-new_side None pass = Moving
+new_side None pass = Pass (record { heap = nowhere; view = newly nowhere.shape pass })
 
 -- the part of a pass that has done nothing yet
 abbrev pub new_part : Option Heap → ℕ → PassPart

@@ -9,7 +9,7 @@ use Rattle.sh_pass.specs.Told.{Told}
 use Rattle.sh_pass.specs.Passes.{Caller}
 use Rattle.sh_pass.specs.Receipts.{heeded}
 use Rattle.sh_member.specs.Shards.{shard_heeded}
-use Rattle.sh_member.specs.declared.member.Side.TheVariants.{Pass, Shard, Moving}
+use Rattle.sh_member.specs.declared.member.Side.TheVariants.{Pass, Shard}
 use Rattle.sh_member.specs.Sides.{SeenSide}
 use Rattle.script_calls.specs.OwnParts.{steps_of, taken_in}
 use Rattle.script_calls.specs.Parts.{PassPart, SeenPass, HasWholeTale, Becomes, tale_told}
@@ -55,7 +55,6 @@ orders_heard s r = s.orders ++ (r.orders ++ map (order_seen s) r.heard)
 abbrev pub SideHeeded : Caller → SeenSide → SeenSide → Type 0
 SideHeeded r (Pass v) new = new ≡ Pass (heeded v r)
 SideHeeded r (Shard o) new = new ≡ Shard (shard_heeded o r)
-SideHeeded r Moving new = ⊥
 
 -- the part, once its pass heeded the receipt; nothing changed otherwise
 pub record PartHeeds (r : Caller) (v w : PassPart) : Type 0 where

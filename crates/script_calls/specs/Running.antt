@@ -1,12 +1,12 @@
 -- Passes and owners of the running heap, and members, which are either, as a run of calls sees them.
-use Rattle.std.specs.Prelude.{map, Some, None}
+use Rattle.std.specs.Prelude.{map, Some}
 use Rattle.sh_key.specs.Layout.{Layout}
 use Rattle.sh_pass.specs.Told.{Told}
 use Rattle.sh_pass.specs.Passes.{Caller}
 use Rattle.sh_member.specs.Shards.{Sharded}
-use Rattle.sh_member.specs.declared.member.Side.TheVariants.{Pass, Shard, Moving}
+use Rattle.sh_member.specs.declared.member.Side.TheVariants.{Pass, Shard}
 use Rattle.sh_member.specs.Sides.{SeenSide}
-use Rattle.script_calls.specs.Parts.{PassPart, PassTold, SeenPass, heap_terms, new_pass, no_terms, shard_owned}
+use Rattle.script_calls.specs.Parts.{PassPart, PassTold, SeenPass, heap_terms, shard_owned}
 
 -- a pass that was taken in, with its entries
 abbrev pub log_told : Told → PassTold
@@ -39,8 +39,7 @@ as_member v = Pass v
 abbrev pub seen_of_shard : Layout → Sharded → SeenPass
 seen_of_shard layout o = seen_standing layout o.pages.owner (Shard o)
 
--- a member, which is one of the two; it is never moving between its calls
+-- a member, which is one of the two
 abbrev pub seen_of_member : Layout → SeenSide → SeenPass
 seen_of_member layout (Pass v) = seen_of_caller layout v
 seen_of_member layout (Shard o) = seen_of_shard layout o
-seen_of_member layout Moving = new_pass None no_terms 0

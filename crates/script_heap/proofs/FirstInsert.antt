@@ -25,7 +25,7 @@ use Rattle.sh_pass.specs.Views.{fresh}
 use Rattle.sh_member.specs.Pages.{BarePage, page_at}
 use Rattle.sh_member.specs.Shards.{Sharded, shard_heeded}
 use Rattle.sh_member.specs.SideBounds.{AdoptTakes}
-use Rattle.sh_member.specs.declared.member.Side.TheVariants.{Pass, Shard, Moving}
+use Rattle.sh_member.specs.declared.member.Side.TheVariants.{Pass, Shard}
 use Rattle.sh_member.specs.Sides.{SeenSide, SideAdopts, SideInserts}
 use Rattle.script_output.specs.declared.answer.Answer.{Answer}
 use Rattle.script_output.specs.declared.answer.Answer.TheVariants as answer
@@ -68,7 +68,6 @@ new_owner k v (Shard n) (Ok x) new is h took =
       steps = omega (arith, none, same, took);
     }
 new_owner k v (Pass w) (Ok x) new is h took = absurd h
-new_owner k v Moving (Ok x) new is h took = absurd h
 new_owner k v t (Err why) new is h took = absurd (not_done why is)
 
 -- ---- the insert
@@ -123,7 +122,6 @@ module _ (layout : Layout) (words : List ℕ) (o : Sharded) where
       full.0.blank p (let count = through.count in omega (arith, lt, count)) (through.classes _ ∙ blank)
   full_none_blank tag (Shard m) (Ok key) is h p lt blank = not_a_key _ is
   full_none_blank tag (Pass w) r is h p lt blank = absurd h
-  full_none_blank tag Moving r is h p lt blank = absurd h
 
   full_by_words : (terms : RunTerms) (tag : Option ℕ) (pass : ℕ) (v w : PassPart) (many : Bool) (r : Result ℕ Refusal)
       → terms.layout ≡ layout → v.stands ≡ Shard o → answer.Refused refusal.Full ≡ key_answer tag r

@@ -25,7 +25,7 @@ use Rattle.sh_pass.specs.Seats.{Heap}
 use Rattle.sh_pass.specs.Views.{Each}
 use Rattle.sh_pass.specs.Growing.{GoesOn}
 use Rattle.sh_pass.specs.Owners.{SeenBell}
-use Rattle.sh_member.specs.declared.member.Side.TheVariants.{Pass, Shard, Moving}
+use Rattle.sh_member.specs.declared.member.Side.TheVariants.{Pass, Shard}
 use Rattle.sh_member.specs.Sides.{SeenSide, SideIsValid}
 use Rattle.sh_script.specs.declared.calls.CallLine.{CallLine}
 use Rattle.script_output.specs.declared.answer.Answer.{Answer}
@@ -88,7 +88,6 @@ settled_so layout shape (Shard o) h e = record {
         ∙ ap (λ (n : Numbers). bell_met (plan_of layout n) o.pages.shard o.pages.owner.view.own.trail) e,
   );
 }
-settled_so layout shape Moving h e = absurd h
 
 module _ (layout : Layout) (shape : Numbers) (tag : Option ℕ) (events : List Event) (orders : List Order)
     (each : Each (StepsBefore (plan_of layout shape) events) orders) where

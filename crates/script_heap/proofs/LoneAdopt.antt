@@ -17,7 +17,7 @@ use Rattle.sh_pass.specs.Receipts.{heeded}
 use Rattle.script_output.specs.declared.answer.Answer.{Answer}
 use Rattle.script_output.specs.declared.answer.Answer.TheVariants as answer
 use Rattle.script_output.specs.Results.{done_answer}
-use Rattle.sh_member.specs.declared.member.Side.TheVariants.{Pass, Shard, Moving}
+use Rattle.sh_member.specs.declared.member.Side.TheVariants.{Pass, Shard}
 use Rattle.sh_member.specs.Sides.{SeenSide, SideAdopts}
 use Rattle.script_calls.specs.OwnParts.{EndsWith}
 use Rattle.script_calls.specs.Parts.{RunTerms, PassPart, new_part, heap_terms}
@@ -77,7 +77,6 @@ met_owner terms shard v w new does = stepped w.stands refl
           met = h.3 ∙ ap (λ t. owner_met shard t + 1) trail;
         }
     stepped (Shard o) e h = absurd h
-    stepped Moving e h = absurd h
 
 pub not_done : (why : Refusal) → answer.Done ≡ answer.Refused why → ⊥
 not_done why e = cc

@@ -39,7 +39,7 @@ use Rattle.sh_member.specs.Shards.{Sharded}
 use Rattle.sh_quiet.proofs.Exact.{Goes}
 use Rattle.sh_quiet.proofs.Leaves.{never_waits}
 use Rattle.sh_quiet.proofs.Working.{SeesBell}
-use Rattle.sh_member.specs.declared.member.Side.TheVariants.{Pass, Shard, Moving}
+use Rattle.sh_member.specs.declared.member.Side.TheVariants.{Pass, Shard}
 use Rattle.sh_member.specs.Sides.{SeenSide, SideAdopts, SideLeaves}
 use Rattle.sh_script.specs.declared.calls.Call.{Call}
 use Rattle.sh_script.specs.declared.calls.Call.TheVariants as call
@@ -70,7 +70,6 @@ one_behind (t ∷ (u ∷ more)) steps n long one =
 still_heeded : (plan : Plan) (r : Caller) (s t : SeenSide) → SideHeeded r s t → KnowsBell plan s → KnowsBell plan t
 still_heeded plan r (Pass v) t h k = subst (λ (s : SeenSide). KnowsBell plan s) (sym h) tt
 still_heeded plan r (Shard o) t h k = subst (λ (s : SeenSide). KnowsBell plan s) (sym h) k
-still_heeded plan r Moving t h k = absurd h
 
 still_knows : (plan : Plan) (v w : PassPart) → MayHeed v w → KnowsBell plan v.stands → KnowsBell plan w.stands
 still_knows plan v w (inl e) k = subst (λ (p : PassPart). KnowsBell plan p.stands) (sym e) k
@@ -237,15 +236,12 @@ module _ (layout : Layout) (shape : Numbers) (la : IsLayout layout) (ls : IsShap
         let now : shard_owned ends ≡ Some k = ap shard_owned is ∙ ap (λ (j : ℕ). Some j) h.1.shard in
         (none, (subst (λ (n : ℕ). k < n) (knows (Pass v) was) h.0, was_free k none now))
     adopts k (Pass v) (Pass w) was is (Ok x) h = absurd h
-    adopts k (Pass v) Moving was is (Ok x) h = absurd h
     adopts k (Pass v) (Pass w) was is (Err why) h = refused k v w was is why h
     adopts k (Pass v) (Shard n) was is (Err why) h = absurd h
-    adopts k (Pass v) Moving was is (Err why) h = absurd h
     adopts k (Shard o) t was is r h =
         subst (λ (z : Result (Unit {0}) Refusal). AdoptIsExact shape (owned_by before.parts) l.pass k (done_answer z))
         (sym h.0)
         (inl (subst (λ (z : Option ℕ). IsSome z) (sym (owns (Shard o) was)) refl))
-    adopts k Moving t was is r h = absurd h
 
     -- ---- a leave
 
@@ -300,14 +296,11 @@ module _ (layout : Layout) (shape : Numbers) (la : IsLayout layout) (ls : IsShap
         → LeaveIsExact (owned_by before.parts) l.pass (done_answer r)
     leaves (Shard o) (Pass w) was is (Ok x) h = subst (λ (z : Option ℕ). IsSome z) (sym (owns (Shard o) was)) refl
     leaves (Shard o) (Shard n) was is (Ok x) h = absurd h
-    leaves (Shard o) Moving was is (Ok x) h = absurd h
     leaves (Shard o) (Shard n) was is (Err why) h = absurd (not_waiting o n was is h.1)
     leaves (Shard o) (Pass w) was is (Err why) h = absurd h
-    leaves (Shard o) Moving was is (Err why) h = absurd h
     leaves (Pass v) t was is r h =
         subst (λ (z : Result (Unit {0}) Refusal). LeaveIsExact (owned_by before.parts) l.pass (done_answer z)) (sym h.0)
         (owns (Pass v) was)
-    leaves Moving t was is r h = absurd h
 
     -- ---- a call
 

@@ -8,7 +8,7 @@ use Rattle.sh_value.specs.declared.refusal.Refusal.TheVariants as refusal
 use Rattle.sh_key.specs.Layout.{Layout}
 use Rattle.sh_core.specs.Event.{Event}
 use Rattle.sh_core.specs.Plans.{Plan, plan_of}
-use Rattle.sh_member.specs.declared.member.Side.TheVariants.{Pass, Shard, Moving}
+use Rattle.sh_member.specs.declared.member.Side.TheVariants.{Pass, Shard}
 use Rattle.sh_member.specs.Sides.{SeenSide, SideDoes, SideAdopts, SideLeaves, SideInserts}
 use Rattle.sh_pass.specs.Passes.{Caller}
 use Rattle.sh_script.specs.declared.calls.Call.{Call}
@@ -34,44 +34,33 @@ adopt_owns : (k : ℕ) (s t : SeenSide) (r : Result (Unit {0}) Refusal) → Side
     → shard_owned t ≡ owned_then (shard_owned s) (call.Adopt k) (done_answer r)
 adopt_owns k (Pass v) (Shard n) (Ok x) h = ap (λ (j : ℕ). Some j) h.1.shard
 adopt_owns k (Pass v) (Pass w) (Ok x) h = absurd h
-adopt_owns k (Pass v) Moving (Ok x) h = absurd h
 adopt_owns k (Pass v) (Pass w) (Err why) h = refl
 adopt_owns k (Pass v) (Shard n) (Err why) h = absurd h
-adopt_owns k (Pass v) Moving (Err why) h = absurd h
 adopt_owns k (Shard o) t r h = ap shard_owned h.1
     ∙ sym (ap (λ (z : Result (Unit {0}) Refusal).
     owned_then (shard_owned (Shard o)) (call.Adopt k) (done_answer z)) h.0)
-adopt_owns k Moving t r h = absurd h
 
 leave_owns : (s t : SeenSide) (r : Result (Unit {0}) Refusal) → SideLeaves s r t
     → shard_owned t ≡ owned_then (shard_owned s) call.Leave (done_answer r)
 leave_owns (Shard o) (Pass w) (Ok x) h = refl
 leave_owns (Shard o) (Shard n) (Ok x) h = absurd h
-leave_owns (Shard o) Moving (Ok x) h = absurd h
 leave_owns (Shard o) (Shard n) (Err why) h = ap (λ (j : ℕ). Some j) h.1.collects.through.shard
 leave_owns (Shard o) (Pass w) (Err why) h = absurd h
-leave_owns (Shard o) Moving (Err why) h = absurd h
 leave_owns (Pass v) t r h = ap shard_owned h.1
     ∙ sym (ap (λ (z : Result (Unit {0}) Refusal). owned_then None call.Leave (done_answer z)) h.0)
-leave_owns Moving t r h = absurd h
 
 insert_owns : (layout : Layout) (words : List ℕ) (s t : SeenSide) (r : Result ℕ Refusal)
     → SideInserts layout words s r t → shard_owned t ≡ shard_owned s
 insert_owns layout words (Pass v) t r h = ap shard_owned h.1
 insert_owns layout words (Shard o) (Shard n) r h = ap (λ (j : ℕ). Some j) h.1.shard
 insert_owns layout words (Shard o) (Pass w) r h = absurd h
-insert_owns layout words (Shard o) Moving r h = absurd h
-insert_owns layout words Moving t r h = absurd h
 
 call_owns : {A : Type 0} (layout : Layout) (D : Caller → A → Caller → Type 0) (s t : SeenSide) (r : A)
     → SideDoes layout D s r t → shard_owned t ≡ shard_owned s
 call_owns layout D (Pass v) (Pass w) r h = refl
 call_owns layout D (Pass v) (Shard n) r h = absurd h
-call_owns layout D (Pass v) Moving r h = absurd h
 call_owns layout D (Shard o) (Shard n) r h = ap (λ (j : ℕ). Some j) h.1.shard
 call_owns layout D (Shard o) (Pass w) r h = absurd h
-call_owns layout D (Shard o) Moving r h = absurd h
-call_owns layout D Moving t r h = absurd h
 
 -- ---- the shard that a part has
 

@@ -26,7 +26,7 @@ use Rattle.sh_core.proofs.Clauses.RunTheorem.{theorem}
 use Rattle.sh_pass.specs.Owners.{heap_page, own_body}
 use Rattle.sh_member.specs.Pages.{Paged, KnowsWords, WhollyMine, page_at, shard_page}
 use Rattle.sh_member.specs.Shards.{Sharded, NoneLeft, StaysOwner, InsertServes, value_class}
-use Rattle.sh_member.specs.declared.member.Side.TheVariants.{Pass, Shard, Moving}
+use Rattle.sh_member.specs.declared.member.Side.TheVariants.{Pass, Shard}
 use Rattle.sh_member.specs.Sides.{SeenSide, SideInserts}
 use Rattle.sh_quiet.specs.Quiescence.{IsUsed}
 use Rattle.sh_quiet.proofs.Emptied.{no_mine}
@@ -208,8 +208,6 @@ module _ (layout : Layout) (shape : Numbers) (la : IsLayout layout) (ls : IsShap
         subst (λ (z : Result ℕ Refusal). Exact words (key_answer tag z)) (sym h.0) (owns_before (Pass v) was)
     by_side words (Shard o) (Shard n) was is r h = inserts o n was is h.1 words r h.0
     by_side words (Shard o) (Pass w) was is r h = absurd h
-    by_side words (Shard o) Moving was is r h = absurd h
-    by_side words Moving t was is r h = absurd h
 
     -- too many words are refused first
     answer_by_words : (words : List ℕ) (many : Bool) (r : Result ℕ Refusal)

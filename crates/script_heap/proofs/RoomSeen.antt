@@ -17,7 +17,7 @@ use Rattle.sh_pass.specs.Entry.TheVariants.{Insert}
 use Rattle.sh_pass.specs.LogEntry.TheVariants.{Known}
 use Rattle.sh_pass.specs.Log.{Agrees, entries_of}
 use Rattle.sh_member.specs.Shards.{Sharded, StaysOwner, InsertServes, value_class}
-use Rattle.sh_member.specs.declared.member.Side.TheVariants.{Pass, Shard, Moving}
+use Rattle.sh_member.specs.declared.member.Side.TheVariants.{Pass, Shard}
 use Rattle.sh_member.specs.Sides.{SeenSide, SideInserts}
 use Rattle.sh_script.specs.declared.calls.Call.{Call}
 use Rattle.sh_script.specs.declared.calls.Call.TheVariants as call
@@ -127,8 +127,6 @@ module _ (layout : Layout) (shape : Numbers) (la : IsLayout layout) (ls : IsShap
         subst (λ (z : Result ℕ Refusal). Sees words (key_answer tag z)) (sym h.0) tt
     seen_by_side words (Shard o) (Shard n) was is r log h = inserts_see o n was is h.1 words r log h.0
     seen_by_side words (Shard o) (Pass w) was is r log h = absurd h
-    seen_by_side words (Shard o) Moving was is r log h = absurd h
-    seen_by_side words Moving t was is r log h = absurd h
 
     -- too many words are refused first
     seen_by_words : (words : List ℕ) (many : Bool) (r : Result ℕ Refusal)

@@ -9,7 +9,7 @@ use Rattle.sh_key.specs.Layout.{Layout}
 use Rattle.sh_shape.specs.Shape.{Numbers}
 use Rattle.sh_core.specs.Event.{Event}
 use Rattle.sh_core.specs.Plans.{Plan, plan_of}
-use Rattle.sh_member.specs.declared.member.Side.TheVariants.{Pass, Shard, Moving}
+use Rattle.sh_member.specs.declared.member.Side.TheVariants.{Pass, Shard}
 use Rattle.sh_member.specs.Sides.{SeenSide, SideAdopts}
 use Rattle.sh_script.specs.declared.calls.CallLine.{CallLine}
 use Rattle.script_output.specs.declared.answer.Answer.{Answer}
@@ -31,11 +31,9 @@ owns_then : (k : ℕ) (s t : SeenSide) (r : Result (Unit {0}) Refusal) → answe
     → SideAdopts k s r t → shard_owned t ≡ Some k
 owns_then k (Pass v) (Shard n) (Ok x) is h = ap (λ (j : ℕ). Some j) h.1.shard
 owns_then k (Pass v) (Pass w) (Ok x) is h = absurd h
-owns_then k (Pass v) Moving (Ok x) is h = absurd h
 owns_then k (Pass v) t (Err why) is h = absurd (not_done why is)
 owns_then k (Shard o) t r is h = absurd (not_done refusal.Taken
     (is ∙ ap (λ (z : Result (Unit {0}) Refusal). done_answer z) h.0))
-owns_then k Moving t r is h = absurd h
 
 both_inside : (shape : Numbers) (l m : CallLine) → l.pass < shape.passes → m.pass < shape.passes
     → All (λ (z : CallLine). z.pass < shape.passes) (l ∷ m ∷ [])

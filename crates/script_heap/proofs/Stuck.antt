@@ -32,7 +32,7 @@ use Rattle.sh_pass.specs.Told.{Told}
 use Rattle.sh_pass.specs.View.{View}
 use Rattle.sh_pass.proofs.OrderLaws.{each_in}
 use Rattle.sh_member.specs.Shards.{Sharded}
-use Rattle.sh_member.specs.declared.member.Side.TheVariants.{Pass, Shard, Moving}
+use Rattle.sh_member.specs.declared.member.Side.TheVariants.{Pass, Shard}
 use Rattle.sh_member.specs.Sides.{SeenSide, SideLeaves}
 use Rattle.sh_quiet.proofs.Cuts.{CutBefore, same_front}
 use Rattle.sh_quiet.proofs.Exact.{Goes}
@@ -235,9 +235,7 @@ module _ (terms : RunTerms) (ts : List SeenPass) (many : length ts ≡ terms.sha
       (subst (λ (s : SeenSide). (own_part s).body.owned ≡ shard_owned s) is after.shard)
       (subst (λ (s : SeenSide). (own_part s).body.hand ≡ Idle) is after.idle) h.1
   refuted (Shard o) (Pass w) was is h = absurd h
-  refuted (Shard o) Moving was is h = absurd h
   refuted (Pass c) t was is h = absurd (cc h.0)
-  refuted Moving t was is h = absurd h
 
   pub none_refused : ⊥
   none_refused = refuted before.part.stands now.part.stands refl refl refused.waits

@@ -7,7 +7,7 @@ use Rattle.sh_core.specs.Footsteps.{bell_takes, bell_met}
 use Rattle.sh_core.specs.Plans.{Plan}
 use Rattle.sh_core.specs.Trails.{trail_of, log_of}
 use Rattle.sh_core.specs.Worlds.{run}
-use Rattle.sh_member.specs.declared.member.Side.TheVariants.{Pass, Shard, Moving}
+use Rattle.sh_member.specs.declared.member.Side.TheVariants.{Pass, Shard}
 use Rattle.sh_member.specs.Sides.{SeenSide}
 use Rattle.sh_script.specs.declared.calls.CallLine.{CallLine}
 use Rattle.script_output.specs.declared.answer.Answer.{Answer}

@@ -16,7 +16,7 @@ use Rattle.sh_member.specs.RemoteFrees.{collect_steps}
 use Rattle.sh_member.specs.Shards.{HoldsShard, Sharded, StaysOwner}
 use Rattle.sh_member.specs.SideBounds.{AdoptTakes, InsertTakes, LeaveTakes}
 use Rattle.sh_member.specs.Steps.{StepsAtMost}
-use Rattle.sh_member.specs.declared.member.Side.TheVariants.{Pass, Shard, Moving}
+use Rattle.sh_member.specs.declared.member.Side.TheVariants.{Pass, Shard}
 use Rattle.sh_member.specs.Sides.{SeenSide, SideCollects, SideIsValid}
 use Rattle.sh_grown.specs.declared.chunk_member.ChunkMember.{ChunkMember}
 use Rattle.sh_grown.specs.declared.growing.Growing.{Growing}
@@ -80,8 +80,6 @@ side_inserts value (Shard o) (Shard n) answer h takes =
     subst (λ (k : ℕ). StepsAtMost (insert_steps k (length value)) o.pages.owner n.pages.owner)
     (owned_pages o n (insert_stays value o n answer h) (insert_count value o n answer h)) takes
 side_inserts value (Shard o) (Pass w) answer h takes = absurd takes
-side_inserts value (Shard o) Moving answer h takes = absurd takes
-side_inserts value Moving b answer h takes = absurd takes
 
 side_collects : (a b : SeenSide) (answer : Result (Unit {0}) Refusal) → SideCollects chunked a answer b
     → SideTakes collect_steps a b
@@ -90,8 +88,6 @@ side_collects (Shard o) (Shard n) answer h =
     subst (λ (k : ℕ). StepsAtMost (collect_steps k) o.pages.owner n.pages.owner)
     (owned_pages o n h.2 h.1.collects.through.count) h.1.steps
 side_collects (Shard o) (Pass w) answer h = absurd h
-side_collects (Shard o) Moving answer h = absurd h
-side_collects Moving b answer h = absurd h
 
 side_leaves : (a b : SeenSide) → SideIsValid chunked a → LeaveTakes a b
     → SideTakes leave_steps a b
@@ -100,8 +96,6 @@ side_leaves (Shard o) (Pass w) rests takes =
     subst (λ (k : ℕ). StepsAtMost (leave_steps k) o.pages.owner w) (held_pages o rests) takes
 side_leaves (Shard o) (Shard n) rests takes =
     subst (λ (k : ℕ). StepsAtMost (leave_steps k) o.pages.owner n.pages.owner) (held_pages o rests) takes
-side_leaves (Shard o) Moving rests takes = absurd takes
-side_leaves Moving b rests takes = absurd takes
 
 side_adopts_in : (a b : SeenSide) → SideIsValid chunked a → AdoptTakes a b
     → SideTakes adopt_steps a b
@@ -109,9 +103,7 @@ side_adopts_in (Pass v) (Shard n) rests takes =
     subst (λ (s : Numbers). StepsAtMost (adopt_steps (pages_of s)) v n.pages.owner) rests.0.shape takes
 side_adopts_in (Pass v) (Pass w) rests takes =
     subst (λ (s : Numbers). StepsAtMost (adopt_steps (pages_of s)) v w) rests.0.shape takes
-side_adopts_in (Pass v) Moving rests takes = absurd takes
 side_adopts_in (Shard o) b rests takes = as_it_was adopt_steps (Shard o) b takes
-side_adopts_in Moving b rests takes = absurd takes
 
 -- ---- of what a caller has in a chunk
 

@@ -7,7 +7,7 @@ use Rattle.sh_chunk.specs.Layout.{unpacked}
 use Rattle.sh_value.specs.declared.refusal.Refusal.{Refusal}
 use Rattle.sh_pass.specs.LogEntry.{LogEntry}
 use Rattle.sh_pass.specs.Passes.{Caller}
-use Rattle.sh_member.specs.declared.member.Side.TheVariants.{Pass, Shard, Moving}
+use Rattle.sh_member.specs.declared.member.Side.TheVariants.{Pass, Shard}
 use Rattle.sh_member.specs.Sides.{SeenSide, SideDoes}
 use Rattle.sh_member.specs.Walks.{Meets, NextHeldDoes, NextLiveDoes}
 use Rattle.sh_member.specs.declared.walking.NextHeld.{NextHeld}
@@ -40,11 +40,8 @@ pub side_gives : {A : Type 0} (does : Caller → A → Caller → Type 0) (P : T
     → ((v w : Caller) → does v answer w → P) → SideDoes chunked does a answer b → P
 side_gives does P (Pass v) (Pass w) answer gives h = gives v w h.0
 side_gives does P (Pass v) (Shard n) answer gives h = absurd h
-side_gives does P (Pass v) Moving answer gives h = absurd h
 side_gives does P (Shard o) (Shard n) answer gives h = gives o.pages.owner n.pages.owner h.0
 side_gives does P (Shard o) (Pass w) answer gives h = absurd h
-side_gives does P (Shard o) Moving answer gives h = absurd h
-side_gives does P Moving b answer gives h = absurd h
 
 pub live_fits : (from before : ℕ) (next : NextLive) (a b : SeenSide)
     → ((k : ℕ) → IsSome (unpacked chunked k) → k < 2 ^ 56) → before < 2 ^ 56

@@ -5,7 +5,7 @@ use Rattle.std.specs.Prelude.{Result, Ok, Err, IfErr, IsSome, OnOk, is_err, slic
 use Rattle.std.proofs.lemmas.List.{get_or-set_same}
 use Rattle.sh_value.specs.declared.refusal.Refusal.{Refusal}
 use Rattle.sh_value.specs.declared.refusal.Refusal.TheVariants as refusal
-use Rattle.sh_member.specs.declared.member.Side.TheVariants.{Pass, Shard, Moving}
+use Rattle.sh_member.specs.declared.member.Side.TheVariants.{Pass, Shard}
 use Rattle.sh_chunk.specs.Chunks.{chunked}
 use Rattle.sh_member.specs.Shards.{NoRoom, Sharded, value_class}
 use Rattle.sh_member.specs.Sides.{SeenSide, SideCollects, IsPass}
@@ -65,8 +65,6 @@ side_refused_by value (Shard o) (Shard n) why h =
     (λ (full : (why ≡ refusal.Full) × NoRoom (value_class value) o n). inr (inl (full.0, inl full.1)))
     (owner_refused_by value o n why h)
 side_refused_by value (Shard o) (Pass w) why h = absurd h
-side_refused_by value (Shard o) Moving why h = absurd h
-side_refused_by value Moving n why h = absurd h
 
 place_refused_by : (value : List ℕ) (a b : Option ChunkMember) (why : Refusal)
     → MemberDoes (InsertsIn value) a (Err why) b → RefusedBy value why a b
@@ -164,9 +162,6 @@ insert_side_leaves value (Pass v) n answer h pass = tt
 insert_side_leaves value (Shard o) (Shard n) answer h pass = absurd pass
 insert_side_leaves value (Shard o) (Pass w) (Ok key) h pass = absurd h
 insert_side_leaves value (Shard o) (Pass w) (Err why) h pass = absurd h
-insert_side_leaves value (Shard o) Moving answer h pass = absurd pass
-insert_side_leaves value Moving n (Ok key) h pass = absurd h
-insert_side_leaves value Moving n (Err why) h pass = absurd h
 
 insert_place_leaves : (value : List ℕ) (a b : Option ChunkMember) (answer : Result ℕ Refusal)
     → MemberDoes (InsertsIn value) a answer b → OwnsNone b → OwnsNone a
@@ -215,11 +210,8 @@ side_full value shard (Shard o) (Shard m) (Shard n) answer why ne owns collects 
   inl (owns, record { collected = m; collects = collects.1; full = owner_full value m n why ne h }),
 )
 side_full value shard (Shard o) (Shard m) (Pass w) answer why ne owns collects h = absurd h
-side_full value shard (Shard o) (Shard m) Moving answer why ne owns collects h = absurd h
 side_full value shard (Shard o) (Pass w) c answer why ne owns collects h = absurd collects
-side_full value shard (Shard o) Moving c answer why ne owns collects h = absurd collects
 side_full value shard (Pass v) b c answer why ne owns collects h = absurd owns
-side_full value shard Moving b c answer why ne owns collects h = absurd owns
 
 place_full : (value : List ℕ) (shard : ℕ) (a b c : Option ChunkMember) (answer : Result (Unit {0}) Refusal)
     (why : Refusal) → why ≢ refusal.Memory → OwnsThere shard a → MemberDoes (SideCollects chunked) a answer b
@@ -239,17 +231,13 @@ collects_as_owner : (shard : ℕ) (a b : SeenSide) (answer : Result (Unit {0}) R
     → SideCollects chunked a answer b → answer ≡ Ok tt
 collects_as_owner shard (Shard o) (Shard n) answer owns h = h.0
 collects_as_owner shard (Shard o) (Pass w) answer owns h = absurd h
-collects_as_owner shard (Shard o) Moving answer owns h = absurd h
 collects_as_owner shard (Pass v) b answer owns h = absurd owns
-collects_as_owner shard Moving b answer owns h = absurd owns
 
 owner_stays : (shard : ℕ) (a b : SeenSide) (answer : Result (Unit {0}) Refusal) → OwnsShard shard a
     → SideCollects chunked a answer b → IsPass b → ⊥
 owner_stays shard (Shard o) (Shard n) answer owns h pass = pass
 owner_stays shard (Shard o) (Pass w) answer owns h pass = h
-owner_stays shard (Shard o) Moving answer owns h pass = h
 owner_stays shard (Pass v) b answer owns h pass = owns
-owner_stays shard Moving b answer owns h pass = owns
 
 -- an owner's collect is not refused
 owner_collects : (shard : ℕ) (a b : Option ChunkMember) (answer : Result (Unit {0}) Refusal) → OwnsThere shard a

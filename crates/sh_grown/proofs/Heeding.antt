@@ -8,7 +8,7 @@ use Rattle.std.proofs.lemmas.List.{get_or-set_same, get_or-set_other}
 use Rattle.once_cell.specs.Once.{Agrees}
 use Rattle.sh_pass.specs.Passes.{Caller}
 use Rattle.sh_pass.specs.Seats.{Heap}
-use Rattle.sh_member.specs.declared.member.Side.TheVariants.{Pass, Shard, Moving}
+use Rattle.sh_member.specs.declared.member.Side.TheVariants.{Pass, Shard}
 use Rattle.sh_member.specs.Sides.{IsOfHeap, IsReceiptBy, SeenSide}
 use Rattle.sh_grown.specs.declared.growing.Growing.{Growing}
 use Rattle.sh_grown.specs.declared.chunk_member.ChunkMember.{ChunkMember}
@@ -87,15 +87,12 @@ pub of_one_heap : (m : SeenSide) (known given : Option Heap) (heap : Heap) → g
     → IfSome given (λ x. Agrees known x) → IsSome known → IsOfHeap m heap
 of_one_heap (Pass v) known given heap is here both some = agree known given heap v.heap is here both
 of_one_heap (Shard o) known given heap is here both some = agree known given heap o.pages.owner.heap is here both
-of_one_heap Moving known given heap is here both some =
-    absurd (let none = subst (λ (k : Option Heap). IsSome k) here some in cc)
 
 -- ---- what a receipt covers
 
 receipt_heap : (m : SeenSide) (r : Caller) → IsReceiptBy m r → heap_by m ≡ Some r.heap
 receipt_heap (Pass v) r is = ap (λ (c : Caller). Some c.heap) (sym is)
 receipt_heap (Shard o) r is = ap (λ (c : Caller). Some c.heap) (sym is)
-receipt_heap Moving r is = absurd is
 
 -- with one chunk more
 pub covers_more : (n : ℕ) (members : List (Option ChunkMember)) (given : List (Option ChunkReceipt))

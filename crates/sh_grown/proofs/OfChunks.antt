@@ -8,7 +8,7 @@ use Rattle.sh_chunk.specs.Chunks.{chunked}
 use Rattle.sh_value.specs.declared.refusal.Refusal.{Refusal}
 use Rattle.sh_pass.specs.Passes.{Caller}
 use Rattle.sh_pass.specs.Seats.{Heap}
-use Rattle.sh_member.specs.declared.member.Side.TheVariants.{Pass, Shard, Moving}
+use Rattle.sh_member.specs.declared.member.Side.TheVariants.{Pass, Shard}
 use Rattle.sh_member.specs.Shards.{Sharded}
 use Rattle.sh_member.specs.Sides.{SeenSide, SideDoes, SideHeeds}
 use Rattle.sh_grown.specs.ChunkShapes.{IsShaped}
@@ -71,11 +71,8 @@ side_keeps : {A : Type 0} (does : Caller → Result A Refusal → Caller → Typ
     (answer : Result A Refusal) → SideDoes chunked does a answer b → heap_by b ≡ heap_by a
 side_keeps does (Pass v) (Pass w) answer h = ap Some h.1.heap
 side_keeps does (Pass v) (Shard n) answer h = absurd h
-side_keeps does (Pass v) Moving answer h = absurd h
 side_keeps does (Shard o) (Shard n) answer h = ap Some h.1.remains.heap
 side_keeps does (Shard o) (Pass w) answer h = absurd h
-side_keeps does (Shard o) Moving answer h = absurd h
-side_keeps does Moving b answer h = absurd h
 
 pub insert_keeps : (value : List ℕ) (a b : SeenSide) (answer : Result ℕ Refusal) → InsertsIn value a answer b
     → heap_by b ≡ heap_by a
@@ -85,19 +82,12 @@ insert_keeps value (Shard o) (Shard n) (Ok key) h = ap Some h.1.remains.heap
 insert_keeps value (Shard o) (Shard n) (Err why) h = ap Some h.1.remains.heap
 insert_keeps value (Shard o) (Pass w) (Ok key) h = absurd h
 insert_keeps value (Shard o) (Pass w) (Err why) h = absurd h
-insert_keeps value (Shard o) Moving (Ok key) h = absurd h
-insert_keeps value (Shard o) Moving (Err why) h = absurd h
-insert_keeps value Moving b (Ok key) h = absurd h
-insert_keeps value Moving b (Err why) h = absurd h
 
 heed_keeps : (r : Caller) (a b : SeenSide) → SideHeeds chunked r a b → heap_by b ≡ heap_by a
 heed_keeps r (Pass v) (Pass w) h = ap (λ (c : Caller). Some c.heap) h.0
 heed_keeps r (Pass v) (Shard n) h = absurd h
-heed_keeps r (Pass v) Moving h = absurd h
 heed_keeps r (Shard o) (Shard n) h = ap (λ (s : Sharded). Some s.pages.owner.heap) h.0
 heed_keeps r (Shard o) (Pass w) h = absurd h
-heed_keeps r (Shard o) Moving h = absurd h
-heed_keeps r Moving b h = absurd h
 
 -- ---- of what a caller has in a chunk
 

@@ -21,7 +21,7 @@ use Rattle.sh_table.specs.Together.{LeadsTogether}
 use Rattle.sh_core.specs.Worlds.{run}
 use Rattle.sh_pass.specs.Own.{Own}
 use Rattle.sh_table.specs.declared.view.View.{View}
-use Rattle.sh_member.specs.declared.member.Side.TheVariants.{Pass, Shard, Moving}
+use Rattle.sh_member.specs.declared.member.Side.TheVariants.{Pass, Shard}
 use Rattle.sh_shape.specs.Shape.{Numbers}
 use Rattle.sh_pass.specs.Seats.{Heap}
 use Rattle.sh_member.specs.Sides.{SeenSide, SideIsValid}
@@ -128,7 +128,6 @@ told_in passes (Shard o) is =
     let valid = is.valid.stands in
     told_by (IsTale chunked) passes o.pages.owner.view valid.history valid.tale.legal (is.of o.pages.owner.view refl)
     valid.tale
-told_in passes Moving is = absurd is.valid
 
 told_at : (passes : ℕ) (o : Option ChunkMember) → ForSome o (λ m. StandsIn passes m.member)
     → Told (IsTale chunked) passes (view_at o)
@@ -158,7 +157,6 @@ side_stands passes wanted known (Shard o) is shaped same valid = record {
   of = in_some (λ (w : View). w.shape.passes ≡ passes) o.pages.owner.view
       (ap (λ (n : Numbers). n.passes) valid.shape ∙ ((shaped o.pages.owner.heap is).passes ∙ same));
 }
-side_stands passes wanted known Moving is shaped same valid = absurd valid
 
 -- the members of a caller that begin nothing have one map
 pub one_map_of : (growing : Growing) (members : List (Option ChunkMember)) → AreOfChunks growing members

@@ -13,7 +13,7 @@ use Rattle.sh_pass.specs.Passes.{Caller}
 use Rattle.sh_pass.specs.Owners.{IsKeyIn}
 use Rattle.sh_pass.specs.KeyRef.{KeyRef}
 use Rattle.sh_chunk.specs.Chunks.{chunked}
-use Rattle.sh_member.specs.declared.member.Side.TheVariants.{Pass, Shard, Moving}
+use Rattle.sh_member.specs.declared.member.Side.TheVariants.{Pass, Shard}
 use Rattle.sh_member.specs.Sides.{SeenSide, SideInserts}
 use Rattle.sh_grown.specs.declared.growing.Growing.{Growing}
 use Rattle.sh_grown.specs.declared.chunk_member.ChunkMember.{ChunkMember}
@@ -59,5 +59,3 @@ pub inserted_fits : (value : List ℕ) (m n : SeenSide) (k : ℕ) → ((k : ℕ)
 inserted_fits value (Pass v) n k fits h = absurd (let e = h.0 in cc)
 inserted_fits value (Shard o) (Pass w) k fits h = absurd h
 inserted_fits value (Shard o) (Shard n) k fits h = key_fits o.pages.owner o.pages.shard k fits h.0.1
-inserted_fits value (Shard o) Moving k fits h = absurd h
-inserted_fits value Moving n k fits h = absurd h

@@ -3,7 +3,7 @@ use Rattle.std.proofs.Common.{◌≡◌, ℕ, Bool, true, List, Option, Some, No
 use Rattle.std.specs.Prelude.{Result, Ok, Err, IfErr, OnOk}
 use Rattle.sh_value.specs.declared.refusal.Refusal.{Refusal}
 use Rattle.sh_value.specs.declared.refusal.Refusal.TheVariants as refusal
-use Rattle.sh_member.specs.declared.member.Side.TheVariants.{Pass, Shard, Moving}
+use Rattle.sh_member.specs.declared.member.Side.TheVariants.{Pass, Shard}
 use Rattle.sh_member.specs.Sides.{SeenSide, SideAdopts, IsPass}
 use Rattle.sh_grown.specs.declared.chunk_member.ChunkMember.{ChunkMember}
 use Rattle.sh_grown.specs.Callers.{MemberDoes}
@@ -29,10 +29,8 @@ pub side_owns : (shard : ℕ) (a b : SeenSide) (answer : Result (Unit {0}) Refus
     → SideAdopts shard a answer b → OnOk answer (OwnsShard shard b)
 side_owns shard (Pass v) (Shard n) (Ok x) pass h = h.1.shard
 side_owns shard (Pass v) (Pass w) (Ok x) pass h = absurd h
-side_owns shard (Pass v) Moving (Ok x) pass h = absurd h
 side_owns shard (Pass v) b (Err why) pass h = tt
 side_owns shard (Shard o) b answer pass h = absurd pass
-side_owns shard Moving b answer pass h = absurd pass
 
 -- a move to a shard of a member is refused for want of memory, or the shard is refused to each value
 abbrev SideRefused : (shard : ℕ) → Refusal → SeenSide → SeenSide → Type 0
@@ -60,17 +58,13 @@ side_adopts shard (Pass v) (Pass w) refusal.Waiting pass h = absurd h
 side_adopts shard (Pass v) (Pass w) refusal.BadShape pass h = absurd h
 side_adopts shard (Pass v) (Pass w) refusal.WrongKind pass h = absurd h
 side_adopts shard (Pass v) (Shard n) why pass h = absurd h
-side_adopts shard (Pass v) Moving why pass h = absurd h
 side_adopts shard (Shard o) b why pass h = absurd pass
-side_adopts shard Moving b why pass h = absurd pass
 
 -- a member that has to wait refuses each shard
 side_waits : (shard : ℕ) (a b : SeenSide) → Waits a b → SideRefused shard refusal.Waiting a b
 side_waits shard (Shard o) (Shard n) waits = (λ value. ((refl, inr waits), λ owned. inr waits), λ e. absurd (cc))
 side_waits shard (Shard o) (Pass w) waits = absurd waits
-side_waits shard (Shard o) Moving waits = absurd waits
 side_waits shard (Pass v) b waits = absurd waits
-side_waits shard Moving b waits = absurd waits
 
 -- ---- of what a caller has in a chunk
 

@@ -13,7 +13,7 @@ use Rattle.sh_pass.specs.Passes.{Caller}
 use Rattle.sh_pass.specs.Receipts.{heeded}
 use Rattle.sh_pass.specs.Tales.{ViewIsValid}
 use Rattle.sh_member.specs.Shards.{Sharded}
-use Rattle.sh_member.specs.declared.member.Side.TheVariants.{Pass, Shard, Moving}
+use Rattle.sh_member.specs.declared.member.Side.TheVariants.{Pass, Shard}
 use Rattle.sh_member.specs.Sides.{IsReceiptBy, SeenSide, SideDoes, SideHeeds}
 use Rattle.sh_member.specs.ToldKeys.{CoversInsert, IsAsInserted, TellsOfInsert}
 use Rattle.sh_member.proofs.Ending.{no_key}
@@ -40,8 +40,6 @@ side_tells key value (Shard o) (Shard n) r did is =
     subst (λ (c : Caller). CoversInsert (key_within key) value c) (sym is)
     (tells_own (key_within key) value o.pages.owner n.pages.owner did.0.0.log)
 side_tells key value (Shard o) (Pass w) r did is = absurd did
-side_tells key value (Shard o) Moving r did is = absurd did
-side_tells key value Moving n r did is = absurd did
 
 place_tells : (key : ℕ) (value : List ℕ) (a b : Option ChunkMember) (given : List (Option ChunkReceipt))
     (one : Option ChunkReceipt) → get_or given (chunk_of key) None ≡ one → MemberDoes (InsertsIn value) a (Ok key) b
@@ -112,14 +110,9 @@ module _ (gone : GoneIsRemoved) (got : GotIsInserted) (seen : SeenIsInserted) (k
     did.1,
   )
   side_looks (Pass v) (Pass w) (Shard n) answer heeds did tells = absurd did
-  side_looks (Pass v) (Pass w) Moving answer heeds did tells = absurd did
   side_looks (Pass v) (Shard p) n answer heeds did tells = absurd heeds
-  side_looks (Pass v) Moving n answer heeds did tells = absurd heeds
   side_looks (Shard o) (Shard p) (Pass x) answer heeds did tells = absurd did
-  side_looks (Shard o) (Shard p) Moving answer heeds did tells = absurd did
   side_looks (Shard o) (Pass w) n answer heeds did tells = absurd heeds
-  side_looks (Shard o) Moving n answer heeds did tells = absurd heeds
-  side_looks Moving h n answer heeds did tells = absurd heeds
 
   side_value : (m h n : SeenSide) (answer : Result (List ℕ) Refusal) → SideHeeds chunked r m h
       → SideDoes chunked (FetchDoes chunked key) h answer n → IfOk answer (λ value. IsAsInserted key value r)
@@ -128,14 +121,9 @@ module _ (gone : GoneIsRemoved) (got : GotIsInserted) (seen : SeenIsInserted) (k
       value_by o.pages.owner p.pages.owner n.pages.owner answer (ap (λ (s : Sharded). s.pages.owner) heeds.0) did.0
       did.1.remains.stands
   side_value (Pass v) (Pass w) (Shard n) answer heeds did = absurd did
-  side_value (Pass v) (Pass w) Moving answer heeds did = absurd did
   side_value (Pass v) (Shard p) n answer heeds did = absurd heeds
-  side_value (Pass v) Moving n answer heeds did = absurd heeds
   side_value (Shard o) (Shard p) (Pass x) answer heeds did = absurd did
-  side_value (Shard o) (Shard p) Moving answer heeds did = absurd did
   side_value (Shard o) (Pass w) n answer heeds did = absurd heeds
-  side_value (Shard o) Moving n answer heeds did = absurd heeds
-  side_value Moving h n answer heeds did = absurd heeds
 
 -- ---- in the key's chunk
 

@@ -5,7 +5,7 @@ use Rattle.std.specs.Prelude.{Result, Ok, Err, IfErr, IfOk, IfSome, IsSome}
 use Rattle.std.proofs.lemmas.Bool.{or_left, or_right}
 use Rattle.sh_value.specs.declared.refusal.Refusal.{Refusal}
 use Rattle.sh_value.specs.declared.refusal.Refusal.TheVariants as refusal
-use Rattle.sh_member.specs.declared.member.Side.TheVariants.{Pass, Shard, Moving}
+use Rattle.sh_member.specs.declared.member.Side.TheVariants.{Pass, Shard}
 use Rattle.sh_member.specs.Sides.{SeenSide}
 use Rattle.sh_grown.specs.declared.chunk_member.ChunkMember.{ChunkMember}
 use Rattle.sh_grown.specs.declared.growing.Growing.{Growing}
@@ -29,11 +29,8 @@ wide : (a b : Bool) (value : List ℕ) (shard : ℕ) (m n : SeenSide) → (a ≡
     → RefusesShard a value shard m n → RefusesShard b value shard m n
 wide a b value shard (Pass v) (Pass w) follows h = h
 wide a b value shard (Pass v) (Shard n) follows h = h
-wide a b value shard (Pass v) Moving follows h = h
 wide a b value shard (Shard o) (Shard n) follows h = (follows h.0, h.1)
 wide a b value shard (Shard o) (Pass w) follows h = h
-wide a b value shard (Shard o) Moving follows h = h
-wide a b value shard Moving n follows h = h
 
 pub in_wide : (a b : Bool) (value : List ℕ) (chunk shard : ℕ) (xs ys : List (Option ChunkMember))
     → (a ≡ true → b ≡ true) → RefusedIn a value chunk shard xs ys → RefusedIn b value chunk shard xs ys

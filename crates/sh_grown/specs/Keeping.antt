@@ -3,7 +3,7 @@ use Rattle.std.specs.Prelude.{◌≡◌, ℕ, List, Option, Some, None, get_or}
 use Rattle.sh_pass.specs.LogEntry.{LogEntry}
 use Rattle.sh_pass.specs.Seats.{Heap}
 use Rattle.sh_pass.specs.Passes.{Caller, holds}
-use Rattle.sh_member.specs.declared.member.Side.TheVariants.{Pass, Shard, Moving}
+use Rattle.sh_member.specs.declared.member.Side.TheVariants.{Pass, Shard}
 use Rattle.sh_member.specs.Sides.{SeenSide}
 use Rattle.sh_grown.specs.declared.chunk_member.ChunkMember.{ChunkMember}
 
@@ -21,7 +21,6 @@ kept_of v = record { heap = v.heap; number = v.view.pass; log = v.view.own.log; 
 abbrev pub kept_by : SeenSide → Option Kept
 kept_by (Pass v) = Some (kept_of v)
 kept_by (Shard o) = Some (kept_of o.pages.owner)
-kept_by Moving = None
 
 -- it is of the same chunk, and its pass of the same pool slot
 abbrev pub SamePlace : ChunkMember → ChunkMember → Type 0

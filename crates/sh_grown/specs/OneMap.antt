@@ -15,7 +15,7 @@ use Rattle.sh_core.specs.Worlds.{run}
 use Rattle.sh_table.specs.Tales.{IsLogOf, IsTale}
 use Rattle.sh_table.specs.Together.{LeadsTogether}
 use Rattle.sh_table.specs.declared.view.View.{View}
-use Rattle.sh_member.specs.declared.member.Side.TheVariants.{Pass, Shard, Moving}
+use Rattle.sh_member.specs.declared.member.Side.TheVariants.{Pass, Shard}
 use Rattle.sh_member.specs.Sides.{SeenSide, SideIsValid}
 use Rattle.sh_grown.specs.declared.chunk_member.ChunkMember.{ChunkMember}
 
@@ -48,7 +48,6 @@ pub record IsOneMap (Tells : View → List Entry → Type 0) (passes count : ℕ
 abbrev pub view_by : SeenSide → Option View
 view_by (Pass v) = Some v.view
 view_by (Shard o) = Some o.pages.owner.view
-view_by Moving = None
 
 abbrev pub view_at : Option ChunkMember → Option View
 view_at None = None

@@ -6,7 +6,7 @@ use Rattle.sh_member.specs.Leaving.{Waiting}
 use Rattle.sh_member.specs.Pages.{AdoptRefused}
 use Rattle.sh_member.specs.RemoteFrees.{CollectServes}
 use Rattle.sh_member.specs.Shards.{InsertServes, NoRoom, Sharded, value_class}
-use Rattle.sh_member.specs.declared.member.Side.TheVariants.{Pass, Shard, Moving}
+use Rattle.sh_member.specs.declared.member.Side.TheVariants.{Pass, Shard}
 use Rattle.sh_member.specs.Sides.{SeenSide}
 use Rattle.sh_grown.specs.declared.chunk_member.ChunkMember.{ChunkMember}
 use Rattle.sh_grown.specs.Callers.{MemberTakes}
@@ -16,7 +16,6 @@ use Rattle.sh_grown.specs.Keeping.{KeepsMember}
 abbrev pub OwnsShard : (shard : ℕ) → SeenSide → Type 0
 OwnsShard shard (Pass v) = ⊥
 OwnsShard shard (Shard o) = o.pages.shard ≡ shard
-OwnsShard shard Moving = ⊥
 
 -- so does what a caller has in a chunk
 abbrev pub OwnsThere : (shard : ℕ) → Option ChunkMember → Type 0
@@ -26,9 +25,7 @@ OwnsThere shard there = IsSomeAnd there (λ m. OwnsShard shard m.member)
 abbrev pub Waits : SeenSide → SeenSide → Type 0
 Waits (Shard o) (Shard n) = Waiting o.pages n.pages
 Waits (Shard o) (Pass w) = ⊥
-Waits (Shard o) Moving = ⊥
 Waits (Pass v) n = ⊥
-Waits Moving n = ⊥
 
 abbrev pub WaitsThere : Option ChunkMember → Option ChunkMember → Type 0
 WaitsThere = MemberTakes Waits
@@ -45,30 +42,22 @@ abbrev pub RefusesShard : (owned : Bool) → List ℕ → (shard : ℕ) → Seen
 RefusesShard owned value shard (Pass v) (Pass w) =
     AdoptRefused shard v w refusal.Taken ⊎ AdoptRefused shard v w refusal.NoShard
 RefusesShard owned value shard (Pass v) (Shard n) = ⊥
-RefusesShard owned value shard (Pass v) Moving = ⊥
 RefusesShard owned value shard (Shard o) (Shard n) = (owned ≡ true)
     × (((o.pages.shard ≡ shard) × HasNoRoom value o n) ⊎ Waiting o.pages n.pages)
 RefusesShard owned value shard (Shard o) (Pass w) = ⊥
-RefusesShard owned value shard (Shard o) Moving = ⊥
-RefusesShard owned value shard Moving n = ⊥
 
 -- the member owned a shard that had no room for the value, or that it had to keep
 abbrev pub OwnsFull : List ℕ → SeenSide → SeenSide → Type 0
 OwnsFull value (Shard o) (Shard n) = NoRoom (value_class value) o n ⊎ Waiting o.pages n.pages
 OwnsFull value (Shard o) (Pass w) = ⊥
-OwnsFull value (Shard o) Moving = ⊥
 OwnsFull value (Pass v) n = ⊥
-OwnsFull value Moving n = ⊥
 
 -- memory was refused to the member: to an adoption of a shard that it found free, or to an insert in its own shard
 abbrev pub LacksMemory : List ℕ → SeenSide → SeenSide → Type 0
 LacksMemory value (Pass v) (Pass w) = (shard : ℕ) × AdoptRefused shard v w refusal.Memory
 LacksMemory value (Pass v) (Shard n) = ⊥
-LacksMemory value (Pass v) Moving = ⊥
 LacksMemory value (Shard o) (Shard n) = InsertServes chunked (value_class value) value o (Err refusal.Memory) n
 LacksMemory value (Shard o) (Pass w) = ⊥
-LacksMemory value (Shard o) Moving = ⊥
-LacksMemory value Moving n = ⊥
 
 -- in the course of a call, from what the caller had in a chunk to what it has there, its member did this
 pub record Did (does : SeenSide → SeenSide → Type 0) (old new : Option ChunkMember) : Type 0 where

@@ -8,7 +8,7 @@ use Rattle.sh_member.specs.Bounds.{adopt_steps, insert_steps, leave_steps}
 use Rattle.sh_member.specs.Pages.{sum_below}
 use Rattle.sh_member.specs.RemoteFrees.{collect_steps}
 use Rattle.sh_member.specs.SideBounds.{LeaveTakes}
-use Rattle.sh_member.specs.declared.member.Side.TheVariants.{Pass, Shard, Moving}
+use Rattle.sh_member.specs.declared.member.Side.TheVariants.{Pass, Shard}
 use Rattle.sh_member.specs.Sides.{SeenSide, SideIsValid}
 use Rattle.sh_grown.specs.declared.growing.Growing.{Growing}
 use Rattle.sh_grown.specs.declared.chunk_member.ChunkMember.{ChunkMember}
@@ -42,7 +42,6 @@ bound_of growing most chunk = most (shape_in growing chunk).shards (pages_of (sh
 abbrev pub steps_by : SeenSide → ℕ
 steps_by (Pass v) = length v.view.own.trail
 steps_by (Shard o) = length o.pages.owner.view.own.trail
-steps_by Moving = 0
 
 -- how many pages each shard of its heap has
 abbrev pub pages_in : Option Heap → ℕ

@@ -1,12 +1,12 @@
 -- A pass that may own a shard, and what its calls do.
-use Rattle.std.specs.Prelude.{◌≡◌, ℕ, Bool, true, false, List, [], Option, Result, Ok, Err}
+use Rattle.std.specs.Prelude.{◌≡◌, ℕ, List, Option, Result, Ok, Err}
 use Rattle.sh_key.specs.Layout.{Layout}
 use Rattle.sh_value.specs.declared.refusal.Refusal.{Refusal}
 use Rattle.sh_value.specs.declared.refusal.Refusal.TheVariants as refusal
 use Rattle.sh_shape.specs.Shape.{Numbers}
 use Rattle.sh_pass.specs.Seats.{Heap}
 use Rattle.sh_pass.specs.Tales.{ViewIsValid}
-use Rattle.sh_pass.specs.Views.{joined_view, spent}
+use Rattle.sh_pass.specs.Views.{joined_view}
 use Rattle.sh_pass.specs.Passes.{Caller, IsAtRest}
 use Rattle.sh_pass.specs.Bundles.{bundle_by, bundled}
 use Rattle.sh_pass.specs.Receipts.{heeded, receipt_by}
@@ -18,7 +18,7 @@ use Rattle.sh_shard.specs.Shards.{value_class, HoldsShard, shard_heeded}
 use Rattle.sh_shard.specs.RemoteFrees.{CollectServes}
 use Rattle.sh_member.specs.Walks.{NextOwnKeyDoes}
 use Rattle.sh_member.specs.declared.member.Side.{Side}
-use Rattle.sh_member.specs.declared.member.Side.TheVariants.{Pass, Shard, Moving}
+use Rattle.sh_member.specs.declared.member.Side.TheVariants.{Pass, Shard}
 
 -- what a contract sees of a member: a pass, or a shard
 abbrev pub SeenSide : Type 0
@@ -27,32 +27,16 @@ SeenSide = Side (Unit {0}) (Unit {0})
 abbrev pub seen_side : {L H : Type 0} → Side L H → SeenSide
 seen_side (Pass v) = Pass v
 seen_side (Shard o) = Shard o
-seen_side Moving = Moving
 
 -- it owns no shard
 abbrev pub IsPass : SeenSide → Type 0
 IsPass (Pass v) = Unit {0}
 IsPass (Shard o) = ⊥
-IsPass Moving = ⊥
 
--- it is not between the two
-abbrev pub is_settled : {L H : Type 0} → Side L H → Bool
-is_settled (Pass v) = true
-is_settled (Shard o) = true
-is_settled Moving = false
-
--- no heap
-abbrev pub nowhere : Heap
-nowhere = record {
-  table = record { words = 0; slots = 0; views_name = 0; atom = 0; block = 0; offset = 0; slot_names = [] };
-  shape = spent.shape;
-}
-
--- what its pass knows, and of which heap; a member that is moving knows nothing, of no heap
+-- what its pass knows, and of which heap
 abbrev pub caller_by : SeenSide → Caller
 caller_by (Pass v) = v
 caller_by (Shard o) = o.pages.owner
-caller_by Moving = record { heap = nowhere; view = spent }
 
 -- ---- what holds between calls
 
@@ -60,13 +44,11 @@ caller_by Moving = record { heap = nowhere; view = spent }
 abbrev pub HasShape : SeenSide → Numbers → Type 0
 HasShape (Pass v) shape = shape ≡ v.heap.shape
 HasShape (Shard o) shape = shape ≡ o.pages.owner.heap.shape
-HasShape Moving shape = ⊥
 
 -- nothing is begun, and all that it knows is true; a pass owns no shard, and an owner owns its shard
 abbrev pub SideIsValid : Layout → SeenSide → Type 0
 SideIsValid layout (Pass v) = IsAtRest v × ViewIsValid layout v.view
 SideIsValid layout (Shard o) = HoldsShard layout o
-SideIsValid layout Moving = ⊥
 
 -- ---- calls
 
@@ -75,11 +57,8 @@ SideIsValid layout Moving = ⊥
 abbrev pub SideDoes : {A : Type 0} → Layout → (Caller → A → Caller → Type 0) → SeenSide → A → SeenSide → Type 0
 SideDoes layout does (Pass v) answer (Pass w) = does v answer w × Remains layout v w
 SideDoes layout does (Pass v) answer (Shard n) = ⊥
-SideDoes layout does (Pass v) answer Moving = ⊥
 SideDoes layout does (Shard o) answer (Shard n) = does o.pages.owner answer n.pages.owner × StaysOwner layout o n
 SideDoes layout does (Shard o) answer (Pass w) = ⊥
-SideDoes layout does (Shard o) answer Moving = ⊥
-SideDoes layout does Moving answer new = ⊥
 
 -- an insert: the owner of a shard does it, and stays one; a pass that owns none is refused
 abbrev pub SideInserts : Layout → List ℕ → SeenSide → Result ℕ Refusal → SeenSide → Type 0
@@ -87,46 +66,34 @@ SideInserts layout value (Pass v) answer new = (answer ≡ Err refusal.NoShard) 
 SideInserts layout value (Shard o) answer (Shard n) = InsertServes layout (value_class value) value o answer n
     × StaysOwner layout o n
 SideInserts layout value (Shard o) answer (Pass w) = ⊥
-SideInserts layout value (Shard o) answer Moving = ⊥
-SideInserts layout value Moving answer new = ⊥
 
 -- a prepare: the same
 abbrev pub SidePrepares : Layout → ℕ → SeenSide → Result ℕ Refusal → SeenSide → Type 0
 SidePrepares layout class (Pass v) answer new = (answer ≡ Err refusal.NoShard) × (new ≡ Pass v)
 SidePrepares layout class (Shard o) answer (Shard n) = PrepareServes class o answer n × StaysOwner layout o n
 SidePrepares layout class (Shard o) answer (Pass w) = ⊥
-SidePrepares layout class (Shard o) answer Moving = ⊥
-SidePrepares layout class Moving answer new = ⊥
 
 -- a collect: the same
 abbrev pub SideCollects : Layout → SeenSide → Result (Unit {0}) Refusal → SeenSide → Type 0
 SideCollects layout (Pass v) answer new = (answer ≡ Err refusal.NoShard) × (new ≡ Pass v)
 SideCollects layout (Shard o) answer (Shard n) = (answer ≡ Ok tt) × CollectServes o n × StaysOwner layout o n
 SideCollects layout (Shard o) answer (Pass w) = ⊥
-SideCollects layout (Shard o) answer Moving = ⊥
-SideCollects layout Moving answer new = ⊥
 
 -- an adoption: the pass becomes the owner of the shard, or stays a pass; the owner of a shard is refused
 abbrev pub SideAdopts : ℕ → SeenSide → Result (Unit {0}) Refusal → SeenSide → Type 0
 SideAdopts k (Pass v) (Ok _) (Shard n) = AdoptServes k v (Ok n)
 SideAdopts k (Pass v) (Ok _) (Pass w) = ⊥
-SideAdopts k (Pass v) (Ok _) Moving = ⊥
 SideAdopts k (Pass v) (Err why) (Pass w) = AdoptServes k v (Err (w, why))
 SideAdopts k (Pass v) (Err why) (Shard n) = ⊥
-SideAdopts k (Pass v) (Err why) Moving = ⊥
 SideAdopts k (Shard o) answer new = (answer ≡ Err refusal.Taken) × (new ≡ Shard o)
-SideAdopts k Moving answer new = ⊥
 
 -- leaving: the owner of a shard becomes a pass again, or stays the owner; a pass that owns none is refused
 abbrev pub SideLeaves : SeenSide → Result (Unit {0}) Refusal → SeenSide → Type 0
 SideLeaves (Shard o) (Ok _) (Pass w) = LeaveServes o (Ok w)
 SideLeaves (Shard o) (Ok _) (Shard n) = ⊥
-SideLeaves (Shard o) (Ok _) Moving = ⊥
 SideLeaves (Shard o) (Err why) (Shard n) = LeaveServes o (Err (n, why))
 SideLeaves (Shard o) (Err why) (Pass w) = ⊥
-SideLeaves (Shard o) (Err why) Moving = ⊥
 SideLeaves (Pass v) answer new = (answer ≡ Err refusal.NoShard) × (new ≡ Pass v)
-SideLeaves Moving answer new = ⊥
 
 -- its pass, if it owns no shard; otherwise it comes back
 abbrev pub SideGivesPass : SeenSide → Result Caller SeenSide → Type 0
@@ -134,13 +101,11 @@ SideGivesPass (Pass v) (Ok w) = w ≡ v
 SideGivesPass (Pass v) (Err m) = ⊥
 SideGivesPass (Shard o) (Ok w) = ⊥
 SideGivesPass (Shard o) (Err m) = m ≡ Shard o
-SideGivesPass Moving answer = ⊥
 
 -- a number that the owner of a shard knows of its pages, and it is as it was; a pass that owns none is refused
 abbrev pub SideCounts : (Paged → ℕ) → SeenSide → Result ℕ Refusal → SeenSide → Type 0
 SideCounts count (Pass v) answer new = (answer ≡ Err refusal.NoShard) × (new ≡ Pass v)
 SideCounts count (Shard o) answer new = (answer ≡ Ok (count o.pages)) × (new ≡ Shard o)
-SideCounts count Moving answer new = ⊥
 
 -- the next live key of the shard that it owns, which it still owns; a pass that owns none is refused
 abbrev pub SideNextKey : Layout → (from : ℕ) → SeenSide → Result (Option NextKey) Refusal → SeenSide → Type 0
@@ -148,29 +113,22 @@ SideNextKey layout from (Pass v) answer new = (answer ≡ Err refusal.NoShard) �
 SideNextKey layout from (Shard o) answer (Shard n) = (next : Option NextKey) × (answer ≡ Ok next)
     × NextOwnKeyDoes layout from o.pages next n.pages × StaysOwner layout o n
 SideNextKey layout from (Shard o) answer (Pass w) = ⊥
-SideNextKey layout from (Shard o) answer Moving = ⊥
-SideNextKey layout from Moving answer new = ⊥
 
 -- ---- joining
 
--- both own no shard, and are of one heap (no member is moving between its calls)
+-- both own no shard, and are of one heap
 abbrev pub MayJoin : SeenSide → SeenSide → Type 0
 MayJoin (Pass v) (Pass w) = w.heap ≡ v.heap
 MayJoin (Pass v) (Shard p) = ⊥
-MayJoin (Pass v) Moving = Unit {0}
 MayJoin (Shard o) other = ⊥
-MayJoin Moving other = Unit {0}
 
 -- the first, which now carries both tales, and still owns no shard
 abbrev pub SideJoins : Layout → SeenSide → SeenSide → SeenSide → Type 0
 SideJoins layout (Pass v) (Pass w) (Pass r) = (r.heap ≡ v.heap) × (r.view ≡ joined_view v.view w.view)
     × ViewIsValid layout r.view
 SideJoins layout (Pass v) (Pass w) (Shard n) = ⊥
-SideJoins layout (Pass v) (Pass w) Moving = ⊥
 SideJoins layout (Pass v) (Shard p) new = ⊥
-SideJoins layout (Pass v) Moving new = ⊥
 SideJoins layout (Shard o) other new = ⊥
-SideJoins layout Moving other new = ⊥
 
 -- ---- receipts
 
@@ -178,23 +136,18 @@ SideJoins layout Moving other new = ⊥
 abbrev pub IsOfHeap : SeenSide → Heap → Type 0
 IsOfHeap (Pass v) heap = heap ≡ v.heap
 IsOfHeap (Shard o) heap = heap ≡ o.pages.owner.heap
-IsOfHeap Moving heap = ⊥
 
 -- a receipt of all its results
 abbrev pub IsReceiptBy : SeenSide → Caller → Type 0
 IsReceiptBy (Pass v) r = r ≡ receipt_by v
 IsReceiptBy (Shard o) r = r ≡ receipt_by o.pages.owner
-IsReceiptBy Moving r = ⊥
 
 -- it heeded the receipt, is otherwise as it was, and stays a pass or an owner as before
 abbrev pub SideHeeds : Layout → Caller → SeenSide → SeenSide → Type 0
 SideHeeds layout r (Pass v) (Pass w) = (w ≡ heeded v r) × ViewIsValid layout w.view
 SideHeeds layout r (Pass v) (Shard n) = ⊥
-SideHeeds layout r (Pass v) Moving = ⊥
 SideHeeds layout r (Shard o) (Shard n) = (n ≡ shard_heeded o r) × HoldsShard layout n
 SideHeeds layout r (Shard o) (Pass w) = ⊥
-SideHeeds layout r (Shard o) Moving = ⊥
-SideHeeds layout r Moving new = ⊥
 
 -- ---- bundles
 
@@ -202,10 +155,8 @@ SideHeeds layout r Moving new = ⊥
 abbrev pub OpensBundle : SeenSide → Caller → Type 0
 OpensBundle (Pass v) b = b ≡ bundle_by v
 OpensBundle (Shard o) b = b ≡ bundle_by o.pages.owner
-OpensBundle Moving b = ⊥
 
 -- the bundle before and after it ended there
 abbrev pub EndsInBundle : SeenSide → Caller → Caller → Type 0
 EndsInBundle (Pass v) b c = c ≡ bundled b v
 EndsInBundle (Shard o) b c = c ≡ bundled b o.pages.owner
-EndsInBundle Moving b c = ⊥

@@ -29,8 +29,6 @@ pub enum Side<L: KeyLayout, H: KeepsHeap<L>> {
     Pass(PassOn<L, H>),
     /// It owns a shard.
     Shard(ShardOn<L, H>),
-    /// It is about to adopt or to leave. Between calls it never is.
-    Moving,
 }
 
 /// A pass that may own a shard. A contract sees which of the two it is, and what is seen of that.
@@ -40,14 +38,11 @@ pub struct Member<L: KeyLayout, H: KeepsHeap<L>> {
 }
 
 impl<L: KeyLayout, H: KeepsHeap<L>> Model for Member<L, H> {
-    ghost use Rattle.std.specs.Prelude.{◌≡◌, true};
-    ghost use Rattle.sh_member.specs.Sides.{SeenSide, seen_side, is_settled};
+    ghost use Rattle.sh_member.specs.Sides.{SeenSide, seen_side};
 
     ghost Value = { SeenSide };
 
     ghost view = { λ m. seen_side m.side };
-
-    ghost invariant = { λ m. is_settled m.side ≡ true };
 }
 
 impl<L: KeyLayout, H: KeepsHeap<L>> Member<L, H> {

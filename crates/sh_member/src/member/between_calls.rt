@@ -16,7 +16,6 @@ impl<L: KeyLayout, H: KeepsHeap<L>> Member<L, H> {
         match &self.side {
             Side::Pass(pass) => pass.shape(),
             Side::Shard(shard) => shard.shape(),
-            Side::Moving => unreachable!(),
         }
     }
 }

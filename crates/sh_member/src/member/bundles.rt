@@ -16,7 +16,6 @@ impl<L: KeyLayout, H: KeepsHeap<L>> Member<L, H> {
         match &mut self.side {
             Side::Pass(pass) => pass.bundle(),
             Side::Shard(shard) => shard.bundle(),
-            Side::Moving => unreachable!(),
         }
     }
 
@@ -30,7 +29,6 @@ impl<L: KeyLayout, H: KeepsHeap<L>> Member<L, H> {
         match side {
             Side::Pass(pass) => pass.bind(bundle),
             Side::Shard(shard) => shard.bind(bundle),
-            Side::Moving => unreachable!(),
         }
     }
 }

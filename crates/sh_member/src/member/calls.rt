@@ -19,7 +19,6 @@ impl<L: KeyLayout, H: KeepsHeap<L>> Member<L, H> {
         match &mut self.side {
             Side::Pass(pass) => pass.get(key),
             Side::Shard(shard) => shard.get(key),
-            Side::Moving => unreachable!(),
         }
     }
 
@@ -30,7 +29,6 @@ impl<L: KeyLayout, H: KeepsHeap<L>> Member<L, H> {
         match &mut self.side {
             Side::Pass(pass) => pass.read(hold),
             Side::Shard(shard) => shard.read(hold),
-            Side::Moving => unreachable!(),
         }
     }
 
@@ -42,7 +40,6 @@ impl<L: KeyLayout, H: KeepsHeap<L>> Member<L, H> {
         match &mut self.side {
             Side::Pass(pass) => pass.read_into(hold, value),
             Side::Shard(shard) => shard.read_into(hold, value),
-            Side::Moving => unreachable!(),
         }
     }
 
@@ -53,7 +50,6 @@ impl<L: KeyLayout, H: KeepsHeap<L>> Member<L, H> {
         match &mut self.side {
             Side::Pass(pass) => pass.look(key),
             Side::Shard(shard) => shard.look(key),
-            Side::Moving => unreachable!(),
         }
     }
 
@@ -65,7 +61,6 @@ impl<L: KeyLayout, H: KeepsHeap<L>> Member<L, H> {
         match &mut self.side {
             Side::Pass(pass) => pass.look_into(key, room),
             Side::Shard(shard) => shard.look_into(key, room),
-            Side::Moving => unreachable!(),
         }
     }
 
@@ -77,7 +72,6 @@ impl<L: KeyLayout, H: KeepsHeap<L>> Member<L, H> {
         match &mut self.side {
             Side::Pass(pass) => pass.remove(key),
             Side::Shard(shard) => shard.remove(key),
-            Side::Moving => unreachable!(),
         }
     }
 
@@ -88,7 +82,6 @@ impl<L: KeyLayout, H: KeepsHeap<L>> Member<L, H> {
         match &mut self.side {
             Side::Pass(pass) => pass.release(hold),
             Side::Shard(shard) => shard.release(hold),
-            Side::Moving => unreachable!(),
         }
     }
 
@@ -101,7 +94,6 @@ impl<L: KeyLayout, H: KeepsHeap<L>> Member<L, H> {
         match &mut self.side {
             Side::Pass(_) => Err(Refusal::NoShard),
             Side::Shard(shard) => shard.insert(value),
-            Side::Moving => unreachable!(),
         }
     }
 
@@ -115,7 +107,6 @@ impl<L: KeyLayout, H: KeepsHeap<L>> Member<L, H> {
         match &mut self.side {
             Side::Pass(_) => Err(Refusal::NoShard),
             Side::Shard(shard) => shard.prepare(class),
-            Side::Moving => unreachable!(),
         }
     }
 
@@ -129,7 +120,6 @@ impl<L: KeyLayout, H: KeepsHeap<L>> Member<L, H> {
                 shard.collect();
                 Ok(())
             }
-            Side::Moving => unreachable!(),
         }
     }
 }

@@ -16,7 +16,6 @@ impl<L: KeyLayout, H: KeepsHeap<L>> Member<L, H> {
         match &self.side {
             Side::Pass(_) => Err(Refusal::NoShard),
             Side::Shard(shard) => Ok(shard.pages_left()),
-            Side::Moving => unreachable!(),
         }
     }
 
@@ -28,7 +27,6 @@ impl<L: KeyLayout, H: KeepsHeap<L>> Member<L, H> {
         match &self.side {
             Side::Pass(_) => Err(Refusal::NoShard),
             Side::Shard(shard) => Ok(shard.slots_out()),
-            Side::Moving => unreachable!(),
         }
     }
 }

@@ -17,7 +17,6 @@ impl<L: KeyLayout, H: KeepsHeap<L>> Member<L, H> {
         match &mut self.side {
             Side::Pass(pass) => pass.get_guard(key),
             Side::Shard(shard) => shard.get_guard(key),
-            Side::Moving => unreachable!(),
         }
     }
 
@@ -29,7 +28,6 @@ impl<L: KeyLayout, H: KeepsHeap<L>> Member<L, H> {
         match &mut self.side {
             Side::Pass(pass) => pass.read_guard(guard, value),
             Side::Shard(shard) => shard.read_guard(guard, value),
-            Side::Moving => unreachable!(),
         }
     }
 
@@ -40,7 +38,6 @@ impl<L: KeyLayout, H: KeepsHeap<L>> Member<L, H> {
         match &mut self.side {
             Side::Pass(pass) => pass.release_guard(guard),
             Side::Shard(shard) => shard.release_guard(guard),
-            Side::Moving => unreachable!(),
         }
     }
 }

@@ -1,16 +1,16 @@
 // How a member adopts a shard and leaves it.
 ghost use Rattle.std.specs.Prelude.{MatchBool};
-ghost use Rattle.sh_member.specs.Sides.{SideAdopts, SideLeaves, SideGivesPass, IsPass};
+ghost use Rattle.sh_member.specs.Sides.{SideAdopts, SideLeaves, SideGivesPass, IsPass, seen_side};
 ghost use Rattle.sh_member.specs.SideBounds.{AdoptTakes, LeaveTakes};
 
 use crate::member::{Member, Side};
+use core::mem::replace_with;
 use sh_key::KeyLayout;
 use sh_pass::KeepsHeap;
 use sh_pass::pass::PassOn;
 use sh_shard::shard::ShardOn;
 use sh_value::Refusal;
 use std::alloc::Global;
-use std::mem::replace;
 
 impl<L: KeyLayout, H: KeepsHeap<L>> Member<L, H> {
     /// Makes it the owner of shard `n`. Refused as `Taken` if it owns one already or another pass owns that one, as
@@ -19,23 +19,7 @@ impl<L: KeyLayout, H: KeepsHeap<L>> Member<L, H> {
         ensures serves { SideAdopts n self.old result self.new }
         ensures bounded { AdoptTakes self.old self.new }
     {
-        match replace(&mut self.side, Side::Moving) {
-            Side::Pass(pass) => match ShardOn::adopt(alloc, pass, n) {
-                Ok(shard) => {
-                    self.side = Side::Shard(shard);
-                    Ok(())
-                }
-                Err((pass, refusal)) => {
-                    self.side = Side::Pass(pass);
-                    Err(refusal)
-                }
-            },
-            Side::Shard(shard) => {
-                self.side = Side::Shard(shard);
-                Err(Refusal::Taken)
-            }
-            Side::Moving => unreachable!(),
-        }
+        replace_with(&mut self.side, (alloc, n), Side::adopt)
     }
 
     /// Leaves the shard that it owns. Refused as `NoShard` if it owns none, and as `Waiting` if another caller has
@@ -44,23 +28,7 @@ impl<L: KeyLayout, H: KeepsHeap<L>> Member<L, H> {
         ensures serves { SideLeaves self.old result self.new }
         ensures bounded { LeaveTakes self.old self.new }
     {
-        match replace(&mut self.side, Side::Moving) {
-            Side::Shard(shard) => match shard.leave() {
-                Ok(pass) => {
-                    self.side = Side::Pass(pass);
-                    Ok(())
-                }
-                Err((shard, refusal)) => {
-                    self.side = Side::Shard(shard);
-                    Err(refusal)
-                }
-            },
-            Side::Pass(pass) => {
-                self.side = Side::Pass(pass);
-                Err(Refusal::NoShard)
-            }
-            Side::Moving => unreachable!(),
-        }
+        replace_with(&mut self.side, (), Side::leave)
     }
 
     /// Whether it owns a shard.
@@ -70,7 +38,6 @@ impl<L: KeyLayout, H: KeepsHeap<L>> Member<L, H> {
         match &self.side {
             Side::Pass(_) => false,
             Side::Shard(_) => true,
-            Side::Moving => unreachable!(),
         }
     }
 
@@ -84,7 +51,37 @@ impl<L: KeyLayout, H: KeepsHeap<L>> Member<L, H> {
             Side::Shard(shard) => Err(Member {
                 side: Side::Shard(shard),
             }),
-            Side::Moving => unreachable!(),
+        }
+    }
+}
+
+impl<L: KeyLayout, H: KeepsHeap<L>> Side<L, H> {
+    // What it becomes if it adopts.
+    fn adopt(self, to: (Global, u64)) -> (Self, Result<(), Refusal>)
+        ensures serves { SideAdopts to.1 (seen_side self) result.1 (seen_side result.0) }
+        ensures bounded { AdoptTakes (seen_side self) (seen_side result.0) }
+    {
+        let (alloc, n) = to;
+        match self {
+            Side::Pass(pass) => match ShardOn::adopt(alloc, pass, n) {
+                Ok(shard) => (Side::Shard(shard), Ok(())),
+                Err((pass, refusal)) => (Side::Pass(pass), Err(refusal)),
+            },
+            Side::Shard(shard) => (Side::Shard(shard), Err(Refusal::Taken)),
+        }
+    }
+
+    // What it becomes if it leaves.
+    fn leave(self, _none: ()) -> (Self, Result<(), Refusal>)
+        ensures serves { SideLeaves (seen_side self) result.1 (seen_side result.0) }
+        ensures bounded { LeaveTakes (seen_side self) (seen_side result.0) }
+    {
+        match self {
+            Side::Shard(shard) => match shard.leave() {
+                Ok(pass) => (Side::Pass(pass), Ok(())),
+                Err((shard, refusal)) => (Side::Shard(shard), Err(refusal)),
+            },
+            Side::Pass(pass) => (Side::Pass(pass), Err(Refusal::NoShard)),
         }
     }
 }

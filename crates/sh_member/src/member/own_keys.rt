@@ -16,7 +16,6 @@ impl<L: KeyLayout, H: KeepsHeap<L>> Member<L, H> {
         match &mut self.side {
             Side::Pass(_) => Err(Refusal::NoShard),
             Side::Shard(shard) => Ok(next_own_key(shard, from)),
-            Side::Moving => unreachable!(),
         }
     }
 }

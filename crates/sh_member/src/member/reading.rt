@@ -16,7 +16,6 @@ impl<L: KeyLayout, H: KeepsHeap<L>> Reader for Member<L, H> {
         match &self.side {
             Side::Pass(pass) => pass.warm(key),
             Side::Shard(shard) => shard.warm(key),
-            Side::Moving => unreachable!(),
         }
     }
 
@@ -28,7 +27,6 @@ impl<L: KeyLayout, H: KeepsHeap<L>> Reader for Member<L, H> {
         match &mut self.side {
             Side::Pass(pass) => pass.glance(key, value),
             Side::Shard(shard) => shard.glance(key, value),
-            Side::Moving => unreachable!(),
         }
     }
 
@@ -44,7 +42,6 @@ impl<L: KeyLayout, H: KeepsHeap<L>> Reader for Member<L, H> {
         match &mut self.side {
             Side::Pass(pass) => pass.peek_at(place),
             Side::Shard(shard) => shard.peek_at(place),
-            Side::Moving => unreachable!(),
         }
     }
 
@@ -72,7 +69,6 @@ impl<L: KeyLayout, H: KeepsHeap<L>> Reader for Member<L, H> {
         match &mut self.side {
             Side::Pass(pass) => pass.receipt(),
             Side::Shard(shard) => shard.receipt(),
-            Side::Moving => unreachable!(),
         }
     }
 
@@ -80,7 +76,6 @@ impl<L: KeyLayout, H: KeepsHeap<L>> Reader for Member<L, H> {
         match &mut self.side {
             Side::Pass(pass) => pass.heed(receipt),
             Side::Shard(shard) => shard.heed(receipt),
-            Side::Moving => unreachable!(),
         }
     }
 }

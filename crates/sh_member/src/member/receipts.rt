@@ -15,7 +15,6 @@ impl<L: KeyLayout, H: KeepsHeap<L>> Member<L, H> {
         match &mut self.side {
             Side::Pass(pass) => pass.receipt(),
             Side::Shard(shard) => shard.receipt(),
-            Side::Moving => unreachable!(),
         }
     }
 
@@ -27,7 +26,6 @@ impl<L: KeyLayout, H: KeepsHeap<L>> Member<L, H> {
         match &mut self.side {
             Side::Pass(pass) => pass.heed(receipt),
             Side::Shard(shard) => shard.heed(receipt),
-            Side::Moving => unreachable!(),
         }
     }
 }

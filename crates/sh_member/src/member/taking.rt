@@ -40,7 +40,6 @@ impl<L: KeyLayout, H: KeepsHeap<L>> Member<L, H> {
         match &mut self.side {
             Side::Pass(pass) => pass.take_into(key, most, value),
             Side::Shard(shard) => take_by_owner(shard, key, most, value),
-            Side::Moving => unreachable!(),
         }
     }
 }

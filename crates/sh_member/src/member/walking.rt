@@ -72,7 +72,6 @@ impl<L: KeyLayout, H: KeepsHeap<L>> Member<L, H> {
         match &mut self.side {
             Side::Pass(pass) => pass.next_live_into(from, before, value),
             Side::Shard(shard) => next_live_by_owner(shard, from, before, value),
-            Side::Moving => unreachable!(),
         }
     }
 
@@ -92,7 +91,6 @@ impl<L: KeyLayout, H: KeepsHeap<L>> Member<L, H> {
         match &mut self.side {
             Side::Pass(pass) => pass.next_held(from, before),
             Side::Shard(shard) => next_held_by_owner(shard, from, before),
-            Side::Moving => unreachable!(),
         }
     }
 
@@ -108,7 +106,6 @@ impl<L: KeyLayout, H: KeepsHeap<L>> Member<L, H> {
         match &mut self.side {
             Side::Pass(pass) => pass.remove_if(predicate),
             Side::Shard(shard) => remove_if_by_owner(shard, predicate),
-            Side::Moving => unreachable!(),
         }
     }
 }

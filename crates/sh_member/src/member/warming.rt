@@ -10,7 +10,6 @@ impl<L: KeyLayout, H: KeepsHeap<L>> Member<L, H> {
         match &self.side {
             Side::Pass(pass) => pass.warm_value(key),
             Side::Shard(shard) => shard.warm_value(key),
-            Side::Moving => unreachable!(),
         }
     }
 }

@@ -7,7 +7,7 @@ use Rattle.c_handles.specs.Sides.{SideDoes}
 use Rattle.c_handles.specs.Callers.{GrownDoes}
 use Rattle.c_handles.specs.declared.held_pass.HeldPass.TheVariants as held
 use Rattle.c_handles.specs.HeldPasses.{HeldFetches}
-use Rattle.c_handles.specs.Members.{layout_of, side_of}
+use Rattle.c_handles.specs.Members.{layout_of}
 use Rattle.c_handles.proofs.held_pass.HeldPass.look_into.Goals as goal
 
 pub returns-in-Wide : goal.returns-in-Wide
@@ -16,7 +16,7 @@ returns-in-Wide g c =
     let w = held.Wide c.look_into.new.self c.in-Wide.field-1 in
     let l = layout_of v in
     let does : Result (List ℕ) Refusal → Type 0 =
-    λ r. SideDoes l (FetchDoes l c.args.key) (side_of v) r (side_of w) in
+    λ r. SideDoes l (FetchDoes l c.args.key) c.in-Wide.member r c.look_into.new.self in
     rw c.in-Wide.is
     (fills_as g.M.Room.takes does (λ r. HeldFetches c.args.key v r w) c.args.room.now c.look_into.new.room
     c.look_into.result
@@ -28,7 +28,7 @@ returns-in-Tagged g c =
     let w = held.Tagged c.look_into-in-Tagged.new.self c.in-Tagged.field-1 in
     let l = layout_of v in
     let does : Result (List ℕ) Refusal → Type 0 =
-    λ r. SideDoes l (FetchDoes l c.args.key) (side_of v) r (side_of w) in
+    λ r. SideDoes l (FetchDoes l c.args.key) c.in-Tagged.member r c.look_into-in-Tagged.new.self in
     rw c.in-Tagged.is
     (fills_as g.M.Room.takes does (λ r. HeldFetches c.args.key v r w) c.args.room.now c.look_into-in-Tagged.new.room
     c.look_into-in-Tagged.result
@@ -40,7 +40,7 @@ returns-in-Deep g c =
     let w = held.Deep c.look_into-in-Deep.new.self c.in-Deep.field-1 in
     let l = layout_of v in
     let does : Result (List ℕ) Refusal → Type 0 =
-    λ r. SideDoes l (FetchDoes l c.args.key) (side_of v) r (side_of w) in
+    λ r. SideDoes l (FetchDoes l c.args.key) c.in-Deep.member r c.look_into-in-Deep.new.self in
     rw c.in-Deep.is
     (fills_as g.M.Room.takes does (λ r. HeldFetches c.args.key v r w) c.args.room.now c.look_into-in-Deep.new.room
     c.look_into-in-Deep.result
@@ -52,7 +52,7 @@ returns-in-Tiny g c =
     let w = held.Tiny c.look_into-in-Tiny.new.self c.in-Tiny.field-1 in
     let l = layout_of v in
     let does : Result (List ℕ) Refusal → Type 0 =
-    λ r. SideDoes l (FetchDoes l c.args.key) (side_of v) r (side_of w) in
+    λ r. SideDoes l (FetchDoes l c.args.key) c.in-Tiny.member r c.look_into-in-Tiny.new.self in
     rw c.in-Tiny.is
     (fills_as g.M.Room.takes does (λ r. HeldFetches c.args.key v r w) c.args.room.now c.look_into-in-Tiny.new.room
     c.look_into-in-Tiny.result

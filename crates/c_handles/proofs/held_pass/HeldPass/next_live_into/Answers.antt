@@ -2,7 +2,7 @@ use Rattle.std.proofs.Common.{Ok, Option, Result, refl}
 use Rattle.sh_value.specs.declared.refusal.Refusal.{Refusal}
 use Rattle.c_handles.specs.HeldPasses.{HeldNextLive}
 use Rattle.c_handles.specs.Chunks.{chunk_of}
-use Rattle.c_handles.specs.Members.{layout_of, side_of}
+use Rattle.c_handles.specs.Members.{layout_of}
 use Rattle.c_handles.specs.Sides.{SideDoes}
 use Rattle.c_handles.specs.declared.held_pass.HeldPass.TheVariants as held
 use Rattle.sh_member.specs.Walks.{NextLiveDoes}
@@ -18,7 +18,7 @@ returns-in-Wide c =
     let w = held.Wide c.next_live_into.new.self c.in-Wide.field-1 in
     let l = layout_of v in
     let does : Option NextLive → Type 0 =
-    λ m. SideDoes l (NextLiveDoes l c.args.from c.args.before) (side_of v) m (side_of w) in
+    λ m. SideDoes l (NextLiveDoes l c.args.from c.args.before) c.in-Wide.member m c.next_live_into.new.self in
     rw c.in-Wide.is
     (puts_as does (λ m. HeldNextLive c.args.from c.args.before v (Ok m) w) c.args.value.now c.next_live_into.new.value
     c.next_live_into.result
@@ -31,7 +31,7 @@ returns-in-Tagged c =
     let w = held.Tagged c.next_live_into-in-Tagged.new.self c.in-Tagged.field-1 in
     let l = layout_of v in
     let does : Option NextLive → Type 0 =
-    λ m. SideDoes l (NextLiveDoes l c.args.from c.args.before) (side_of v) m (side_of w) in
+    λ m. SideDoes l (NextLiveDoes l c.args.from c.args.before) c.in-Tagged.member m c.next_live_into-in-Tagged.new.self in
     rw c.in-Tagged.is
     (puts_as does (λ m. HeldNextLive c.args.from c.args.before v (Ok m) w) c.args.value.now c.next_live_into-in-Tagged.new.value
     c.next_live_into-in-Tagged.result
@@ -44,7 +44,7 @@ returns-in-Deep c =
     let w = held.Deep c.next_live_into-in-Deep.new.self c.in-Deep.field-1 in
     let l = layout_of v in
     let does : Option NextLive → Type 0 =
-    λ m. SideDoes l (NextLiveDoes l c.args.from c.args.before) (side_of v) m (side_of w) in
+    λ m. SideDoes l (NextLiveDoes l c.args.from c.args.before) c.in-Deep.member m c.next_live_into-in-Deep.new.self in
     rw c.in-Deep.is
     (puts_as does (λ m. HeldNextLive c.args.from c.args.before v (Ok m) w) c.args.value.now c.next_live_into-in-Deep.new.value
     c.next_live_into-in-Deep.result
@@ -57,7 +57,7 @@ returns-in-Tiny c =
     let w = held.Tiny c.next_live_into-in-Tiny.new.self c.in-Tiny.field-1 in
     let l = layout_of v in
     let does : Option NextLive → Type 0 =
-    λ m. SideDoes l (NextLiveDoes l c.args.from c.args.before) (side_of v) m (side_of w) in
+    λ m. SideDoes l (NextLiveDoes l c.args.from c.args.before) c.in-Tiny.member m c.next_live_into-in-Tiny.new.self in
     rw c.in-Tiny.is
     (puts_as does (λ m. HeldNextLive c.args.from c.args.before v (Ok m) w) c.args.value.now c.next_live_into-in-Tiny.new.value
     c.next_live_into-in-Tiny.result
