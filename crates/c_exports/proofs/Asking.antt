@@ -5,7 +5,7 @@ use Rattle.std.specs.declared.option.Option.{Option}
 use Rattle.std.specs.declared.option.Option.TheVariants.{None, Some}
 use Rattle.sh_value.specs.declared.refusal.Refusal.{Refusal}
 use Rattle.c_handles.specs.declared.held_pass.HeldPass.{HeldPass}
-use Rattle.c_handles.specs.Owning.{has_value}
+use Rattle.sh_nullable.specs.Owning.{has_value}
 use Rattle.c_exports.specs.Told.{Asked, AskedNumber, ReadBy, ReadTold, ReadWritten, code_of, empty_code, number_told}
 
 -- a call on an empty handle does nothing

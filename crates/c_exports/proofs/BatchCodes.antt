@@ -4,7 +4,7 @@ use Rattle.std.proofs.lemmas.List.{get_or-drop, drop-drop, drop-set-lt}
 use Rattle.std.specs.declared.option.Option.{Option}
 use Rattle.std.specs.declared.option.Option.TheVariants.{Some}
 use Rattle.c_handles.specs.declared.held_pass.HeldPass.{HeldPass}
-use Rattle.c_handles.specs.Owning.{has_value}
+use Rattle.sh_nullable.specs.Owning.{has_value}
 use Rattle.c_exports.specs.declared.batches.Loaded.{Loaded}
 use Rattle.c_exports.specs.Batches.{LoadsEach, LoadsTold}
 use Rattle.c_exports.specs.Told.{empty_code}

@@ -5,7 +5,7 @@ use Rattle.sh_key.specs.Layout.{Layout}
 use Rattle.sh_shape.specs.Shape.{Numbers}
 use Rattle.sh_value.specs.declared.refusal.Refusal.{Refusal}
 use Rattle.sh_value.specs.declared.refusal.Refusal.TheVariants as refusal
-use Rattle.c_handles.specs.Owning.{has_value}
+use Rattle.sh_nullable.specs.Owning.{has_value}
 use Rattle.c_handles.specs.declared.held_heap.HeldHeap.{HeldHeap}
 use Rattle.c_handles.specs.declared.held_heap.HeldHeap.TheVariants as held
 use Rattle.c_handles.specs.declared.heap.LayoutName.{LayoutName}

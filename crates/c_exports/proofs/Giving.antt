@@ -3,7 +3,7 @@ use Rattle.std.proofs.Common.{◌≡◌, ℕ, false, refl, sym, subst, Result}
 use Rattle.std.specs.declared.option.Option.{Option}
 use Rattle.std.specs.declared.option.Option.TheVariants.{Some}
 use Rattle.sh_value.specs.declared.refusal.Refusal.{Refusal}
-use Rattle.c_handles.specs.Owning.{has_value}
+use Rattle.sh_nullable.specs.Owning.{has_value}
 use Rattle.c_handles.specs.declared.held_pass.HeldPass.{HeldPass}
 use Rattle.c_handles.specs.HeldPasses.{LeavesShards}
 use Rattle.c_exports.specs.Opened.{GiveTold, GivenBy}

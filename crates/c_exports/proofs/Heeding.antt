@@ -5,13 +5,13 @@ use Rattle.std.specs.Option.{MatchOption}
 use Rattle.std.specs.declared.option.Option.{Option}
 use Rattle.std.specs.declared.option.Option.TheVariants.{None, Some}
 use Rattle.sh_value.specs.declared.refusal.Refusal.{Refusal}
-use Rattle.c_handles.specs.Seats.{Heap}
+use Rattle.sh_table.specs.Seats.{Heap}
 use Rattle.sh_pass.specs.Passes.{Caller}
 use Rattle.sh_pass.specs.Receipts.{receipt_by}
-use Rattle.c_handles.specs.Owning.{has_value}
-use Rattle.c_handles.specs.Receipts.{AreReceiptsIn}
-use Rattle.c_handles.specs.Side.TheVariants.{Pass, Shard}
-use Rattle.c_handles.specs.Sides.{SeenSide, IsOfHeap, IsReceiptBy}
+use Rattle.sh_nullable.specs.Owning.{has_value}
+use Rattle.sh_grown.specs.Receipts.{AreReceiptsIn}
+use Rattle.sh_member.specs.declared.member.Side.TheVariants.{Pass, Shard}
+use Rattle.sh_member.specs.Sides.{SeenSide, IsOfHeap, IsReceiptBy}
 use Rattle.c_handles.specs.declared.held_heap.HeldHeap.{HeldHeap}
 use Rattle.c_handles.specs.declared.held_heap.HeldHeap.TheVariants as heap
 use Rattle.c_handles.specs.declared.held_pass.HeldPass.{HeldPass}

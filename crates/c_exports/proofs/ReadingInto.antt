@@ -3,14 +3,14 @@ use Rattle.std.proofs.Common.{ℕ, List, Option, Some, None, Result, Ok, Err, ge
 use Rattle.std.specs.Prelude.{IsErrAnd}
 use Rattle.sh_key.specs.Layout.{Layout}
 use Rattle.sh_value.specs.declared.refusal.Refusal.{Refusal}
-use Rattle.c_handles.specs.Chunks.{chunked, chunk_of, key_within}
+use Rattle.sh_chunk.specs.Chunks.{chunked, chunk_of, key_within}
 use Rattle.sh_pass.specs.Passes.{Caller, ReadDoes, ReadIntoDoes}
 use Rattle.sh_member.specs.Readers.{TakeFitsDoes, TakeIntoDoes}
-use Rattle.c_handles.specs.Sides.{SeenSide, SideDoes}
-use Rattle.c_handles.specs.Side.TheVariants.{Pass, Shard}
-use Rattle.c_handles.specs.Growing.{Growing}
-use Rattle.c_handles.specs.ChunkMember.{ChunkMember}
-use Rattle.c_handles.specs.Callers.{GrownDoes, MemberDoes, WhyUnmet}
+use Rattle.sh_member.specs.Sides.{SeenSide, SideDoes}
+use Rattle.sh_member.specs.declared.member.Side.TheVariants.{Pass, Shard}
+use Rattle.sh_grown.specs.declared.growing.Growing.{Growing}
+use Rattle.sh_grown.specs.declared.chunk_member.ChunkMember.{ChunkMember}
+use Rattle.sh_grown.specs.Callers.{GrownDoes, MemberDoes, WhyUnmet}
 use Rattle.c_handles.specs.declared.held_pass.HeldPass.{HeldPass}
 use Rattle.c_handles.specs.declared.held_pass.HeldPass.TheVariants as held
 use Rattle.c_handles.specs.Members.{AnyDoes, OnSides, layout_of, side_of}

@@ -5,7 +5,7 @@ use Rattle.sh_value.specs.Refusal.{refusal_number}
 use Rattle.sh_pass.specs.declared.next_key.NextKey.{NextKey}
 use Rattle.sh_whole.specs.declared.refusal.NotTold.{NotTold}
 use Rattle.sh_whole.specs.Homes.{TellsNextKey}
-use Rattle.c_handles.specs.Sides.{SideNextKey}
+use Rattle.sh_member.specs.Sides.{SideNextKey}
 use Rattle.c_handles.specs.declared.held_heap.HeldHeap.{HeldHeap}
 use Rattle.c_handles.specs.declared.held_pass.HeldPass.{HeldPass}
 use Rattle.c_handles.specs.Heaps.{heap_layout, heap_of}

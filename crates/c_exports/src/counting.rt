@@ -1,6 +1,6 @@
 //! How full the shard of an owner is.
-ghost use Rattle.c_handles.specs.Pages.{blank_pages, slots_out};
-ghost use Rattle.c_handles.specs.Sides.{SideCounts};
+ghost use Rattle.sh_shard.specs.Pages.{blank_pages, slots_out};
+ghost use Rattle.sh_member.specs.Sides.{SideCounts};
 ghost use Rattle.c_handles.specs.Members.{AnyDoes};
 ghost use Rattle.c_handles.specs.HeldPasses.{EitherDoes, NamesNoShard};
 ghost use Rattle.c_exports.specs.Told.{AskedNumber};

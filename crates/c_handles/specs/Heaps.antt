@@ -7,7 +7,7 @@ use Rattle.sh_shape.specs.Shape.{Numbers, IsShape, Fits}
 use Rattle.sh_shape.specs.Rooms.{IsLeastRoomy, NoneRoomy}
 use Rattle.sh_value.specs.declared.refusal.Refusal.{Refusal}
 use Rattle.sh_value.specs.declared.refusal.Refusal.TheVariants as refusal
-use Rattle.sh_pass.specs.Seats.{Heap}
+use Rattle.sh_table.specs.Seats.{Heap}
 use Rattle.sh_pool.specs.PoolSlots.{OpensPool}
 use Rattle.c_handles.specs.Members.{layout_of, side_of, pool_slot_of, Begins}
 use Rattle.c_handles.specs.declared.held_pass.HeldPass.{HeldPass}

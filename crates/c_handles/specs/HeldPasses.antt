@@ -4,8 +4,8 @@ use Rattle.std.specs.Option.{IfSome, MatchOption}
 use Rattle.sh_value.specs.declared.hold.Hold.{Hold}
 use Rattle.sh_value.specs.declared.refusal.Refusal.{Refusal}
 use Rattle.sh_value.specs.declared.refusal.Refusal.TheVariants as refusal
-use Rattle.sh_grown.specs.Chunks.{chunked, chunk_of, key_within}
-use Rattle.sh_pass.specs.Seats.{Heap}
+use Rattle.sh_chunk.specs.Chunks.{chunked, chunk_of, key_within}
+use Rattle.sh_table.specs.Seats.{Heap}
 use Rattle.sh_pass.specs.Passes.{Caller, GetDoes, ReadDoes, RemoveDoes, ReleaseDoes}
 use Rattle.sh_pass.specs.Fetching.{FetchDoes}
 use Rattle.sh_member.specs.Readers.{TakeFitsDoes}

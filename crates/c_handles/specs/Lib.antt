@@ -6,13 +6,3 @@ pub mod HeapOwning
 pub mod PassOwning
 pub mod PassLending
 pub mod ReceiptOwning
-pub use Rattle.sh_pass.specs.Seats
-pub use Rattle.sh_member.specs.Pages
-pub use Rattle.sh_member.specs.declared.member.Side
-pub use Rattle.sh_member.specs.Sides
-pub use Rattle.sh_nullable.specs.Owning
-pub use Rattle.sh_grown.specs.Callers
-pub use Rattle.sh_grown.specs.Chunks
-pub use Rattle.sh_grown.specs.Receipts
-pub use Rattle.sh_grown.specs.declared.growing.Growing
-pub use Rattle.sh_grown.specs.declared.chunk_member.ChunkMember

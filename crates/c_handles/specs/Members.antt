@@ -3,9 +3,9 @@
 use Rattle.std.specs.Prelude.{◌≡◌, ℕ, ◌<◌, Option, Some, None, Result, Ok, Err}
 use Rattle.sh_key.specs.Layout.{Layout}
 use Rattle.sh_key.specs.Layouts.{tiny, wide, tagged, deep}
-use Rattle.sh_grown.specs.Chunks.{chunked}
+use Rattle.sh_chunk.specs.Chunks.{chunked}
 use Rattle.sh_value.specs.declared.refusal.Refusal.{Refusal}
-use Rattle.sh_pass.specs.Seats.{Heap}
+use Rattle.sh_table.specs.Seats.{Heap}
 use Rattle.sh_pass.specs.Passes.{Caller, IsAtRest}
 use Rattle.sh_member.specs.declared.member.Side.TheVariants as side
 use Rattle.sh_member.specs.Sides.{SeenSide, IsPass, SideHeeds}

@@ -1,6 +1,6 @@
 // The calls on keys of what a pass's handle holds. (Those of a caller are functions of their own, so that a call in a
 // heap of a fixed shape saves no registers for them.)
-ghost use Rattle.sh_grown.specs.Chunks.{chunked, key_within};
+ghost use Rattle.sh_chunk.specs.Chunks.{chunked, key_within};
 ghost use Rattle.sh_pass.specs.Passes.{ReadIntoDoes};
 ghost use Rattle.sh_pass.specs.Rooms.{FillsRoom};
 ghost use Rattle.sh_member.specs.Sides.{SideDoes};

@@ -1,6 +1,6 @@
 // How full the shard of a pass is. A caller of a growing heap is refused as `NoShard`.
 ghost use Rattle.sh_member.specs.Sides.{SideCounts};
-ghost use Rattle.sh_member.specs.Pages.{blank_pages, slots_out};
+ghost use Rattle.sh_shard.specs.Pages.{blank_pages, slots_out};
 ghost use Rattle.c_handles.specs.Members.{AnyDoes};
 ghost use Rattle.c_handles.specs.HeldPasses.{EitherDoes, NamesNoShard};
 

@@ -1,5 +1,5 @@
 // How what a pass's handle holds takes the value of a key.
-ghost use Rattle.sh_grown.specs.Chunks.{chunked, key_within};
+ghost use Rattle.sh_chunk.specs.Chunks.{chunked, key_within};
 ghost use Rattle.sh_member.specs.Sides.{SideDoes};
 ghost use Rattle.sh_member.specs.Readers.{TakeIntoDoes};
 ghost use Rattle.c_handles.specs.Members.{AnyDoes};

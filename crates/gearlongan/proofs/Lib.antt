@@ -1,2 +1,1 @@
 pub mod Giving
-pub use Rattle.sh_member.proofs.Hearing

@@ -6,25 +6,25 @@ use Rattle.std.specs.Prelude.{is_some, nat_le, nat_lt}
 use Rattle.std.specs.Option.{option_map}
 use Rattle.std.proofs.lemmas.Bool.Decides.{nat_tests}
 use Rattle.std.proofs.lemmas.Option.{slice_get-map}
-use Rattle.script_models.specs.Refusal.{Refusal}
-use Rattle.script_models.specs.Refusal.TheVariants as refusal
-use Rattle.script_models.specs.Layout.{Layout, unpacked, first_key, key_count}
-use Rattle.script_models.proofs.Packing.{keys_are_consecutive}
-use Rattle.script_models.specs.Shape.{Numbers}
-use Rattle.script_models.specs.Entry.{Entry}
-use Rattle.script_models.specs.Entry.TheVariants.{Insert}
-use Rattle.script_models.specs.History.{insert_count}
-use Rattle.script_models.specs.Plain.{PlainReply, Replied, with_added}
-use Rattle.script_models.specs.Reference.TheVariants as reference
-use Rattle.script_models.specs.Call.{Call}
-use Rattle.script_models.specs.Call.TheVariants as call
-use Rattle.script_models.specs.Answer.{Answer}
-use Rattle.script_models.specs.Answer.TheVariants as answer
-use Rattle.script_models.specs.Keys.{shown}
-use Rattle.script_models.specs.Results.{done_answer}
+use Rattle.sh_value.specs.declared.refusal.Refusal.{Refusal}
+use Rattle.sh_value.specs.declared.refusal.Refusal.TheVariants as refusal
+use Rattle.sh_key.specs.Layout.{Layout, unpacked, first_key, key_count}
+use Rattle.sh_key.proofs.Packing.{keys_are_consecutive}
+use Rattle.sh_shape.specs.Shape.{Numbers}
+use Rattle.sh_history.specs.declared.entry.Entry.{Entry}
+use Rattle.sh_history.specs.declared.entry.Entry.TheVariants.{Insert}
+use Rattle.sh_history.specs.History.{insert_count}
+use Rattle.sh_plain.specs.Plain.{PlainReply, Replied, with_added}
+use Rattle.sh_script.specs.declared.calls.Reference.TheVariants as reference
+use Rattle.sh_script.specs.declared.calls.Call.{Call}
+use Rattle.sh_script.specs.declared.calls.Call.TheVariants as call
+use Rattle.script_output.specs.declared.answer.Answer.{Answer}
+use Rattle.script_output.specs.declared.answer.Answer.TheVariants as answer
+use Rattle.script_output.specs.Keys.{shown}
+use Rattle.script_output.specs.Results.{done_answer}
 use Rattle.script_models.specs.PlainRun.{Run, CallDoes, has_shard}
 use Rattle.script_models.specs.PlainRun.{bound_key, insert_attempt, key_of}
-use Rattle.script_heap.specs.Parts.{is_placed_key}
+use Rattle.script_calls.specs.Parts.{is_placed_key}
 use Rattle.script_beside.specs.Beside.{InsertsBeside, GivesKey}
 use Rattle.script_beside.specs.Beside.{RefusedAlone, unnamed}
 use Rattle.script_beside.specs.Along.{CallAlong, SameButKey}

@@ -2,15 +2,15 @@
 use Rattle.std.proofs.Common.{◌≡◌, ℕ, Bool, true, false, cond, List, map}
 use Rattle.std.proofs.Common.{refl, ap, sym, ◌∙◌, subst, Option, Some, None, Result, Ok, Err}
 use Rattle.std.specs.Prelude.{nat_lt, ok_or}
-use Rattle.script_models.specs.Refusal.TheVariants as refusal
-use Rattle.script_models.specs.Entry.TheVariants.{Gone, Removed, Released}
-use Rattle.script_models.specs.History.{present_value, holds_by}
-use Rattle.script_models.specs.Plain.{PlainReply, refused, remove_reply, removed_reply, release_reply}
-use Rattle.script_models.specs.Plain.{read_answer}
-use Rattle.script_models.specs.Reference.TheVariants as reference
-use Rattle.script_models.specs.Call.TheVariants as call
-use Rattle.script_models.specs.Answer.{Answer}
-use Rattle.script_models.specs.Results.{value_answer}
+use Rattle.sh_value.specs.declared.refusal.Refusal.TheVariants as refusal
+use Rattle.sh_history.specs.declared.entry.Entry.TheVariants.{Gone, Removed, Released}
+use Rattle.sh_history.specs.History.{present_value, holds_by}
+use Rattle.sh_plain.specs.Plain.{PlainReply, refused, remove_reply, removed_reply, release_reply}
+use Rattle.sh_plain.specs.Plain.{read_answer}
+use Rattle.sh_script.specs.declared.calls.Reference.TheVariants as reference
+use Rattle.sh_script.specs.declared.calls.Call.TheVariants as call
+use Rattle.script_output.specs.declared.answer.Answer.{Answer}
+use Rattle.script_output.specs.Results.{value_answer}
 use Rattle.script_models.specs.PlainRun.{Run, HasReply, Reads}
 use Rattle.script_beside.specs.Beside.{WherePlaced, IfPlaced}
 use Rattle.script_beside.specs.Along.{CallAlong}

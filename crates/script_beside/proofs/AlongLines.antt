@@ -4,15 +4,15 @@ use Rattle.std.proofs.Common.{◌≡◌, ℕ, ◌+◌, Bool, true, false, cond, 
 use Rattle.std.proofs.Common.{arith}
 use Rattle.std.proofs.Common.{append_assoc, inl, inr, Option, None, slice_set}
 use Rattle.std.specs.Prelude.{nat_le}
-use Rattle.script_models.specs.Layout.{Layout, first_key}
-use Rattle.script_models.specs.Shape.{Numbers}
-use Rattle.script_models.specs.Entry.{Entry}
-use Rattle.script_models.specs.Entry.TheVariants.{Insert}
-use Rattle.script_models.specs.History.{value_of, insert_count}
-use Rattle.script_models.specs.Reference.TheVariants as reference
-use Rattle.script_models.specs.Call.{Call}
-use Rattle.script_models.specs.Call.TheVariants as call
-use Rattle.script_models.specs.Answer.{Answer}
+use Rattle.sh_key.specs.Layout.{Layout, first_key}
+use Rattle.sh_shape.specs.Shape.{Numbers}
+use Rattle.sh_history.specs.declared.entry.Entry.{Entry}
+use Rattle.sh_history.specs.declared.entry.Entry.TheVariants.{Insert}
+use Rattle.sh_history.specs.History.{value_of, insert_count}
+use Rattle.sh_script.specs.declared.calls.Reference.TheVariants as reference
+use Rattle.sh_script.specs.declared.calls.Call.{Call}
+use Rattle.sh_script.specs.declared.calls.Call.TheVariants as call
+use Rattle.script_output.specs.declared.answer.Answer.{Answer}
 use Rattle.script_models.specs.PlainRun.{Run, has_shard}
 use Rattle.script_beside.specs.Beside.{CallBeside, GivesKey, RefusedAlone}
 use Rattle.script_beside.specs.Along.{NamesKey}

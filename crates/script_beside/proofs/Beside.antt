@@ -4,14 +4,14 @@ use Rattle.std.proofs.Common.{sym, subst, arith, eqb-true, Option, Some, None}
 use Rattle.std.specs.Prelude.{replicate, IfSome}
 use Rattle.std.proofs.lemmas.Bool.Decides.{nat_tests}
 use Rattle.std.proofs.lemmas.List.{get_or-replicate, length-replicate}
-use Rattle.script_models.specs.Entry.{Entry}
-use Rattle.script_heap.specs.Seats.{Heap}
-use Rattle.script_heap.specs.Parts.{RunTerms, PassPart, PassTold, HasAllLogs, HasLogOf, new_part, passes_below}
-use Rattle.script_heap.specs.Parts.{heap_terms}
-use Rattle.script_heap.specs.Told.{part_told, IsTold}
-use Rattle.script_models.specs.HeaderMeaning.{layout_of}
-use Rattle.script_models.specs.CallLine.{CallLine}
-use Rattle.script_models.specs.Keys.{HasTagRoom}
+use Rattle.sh_history.specs.declared.entry.Entry.{Entry}
+use Rattle.sh_table.specs.Seats.{Heap}
+use Rattle.script_calls.specs.Parts.{RunTerms, PassPart, PassTold, HasAllLogs, HasLogOf, new_part, passes_below}
+use Rattle.script_calls.specs.Parts.{heap_terms}
+use Rattle.script_calls.specs.Told.{part_told, IsTold}
+use Rattle.sh_script.specs.HeaderMeaning.{layout_of}
+use Rattle.sh_script.specs.declared.calls.CallLine.{CallLine}
+use Rattle.script_output.specs.Keys.{HasTagRoom}
 use Rattle.std.specs.List.{All}
 use Rattle.script_heap.specs.Crowding.{CrowdedIsExact}
 use Rattle.script_heap.specs.HeapOutput.{IsHeap}
@@ -21,11 +21,11 @@ use Rattle.script_heap.proofs.OwnersTold.{lines_tell_owners}
 use Rattle.script_models.specs.PlainRun.{opening_run}
 use Rattle.script_beside.specs.Law.{HeapIsBesidePlain}
 use Rattle.script_beside.proofs.Logs.{LogIs}
-use Rattle.script_models.specs.HeaderLayout.{Layout as LayoutName}
-use Rattle.script_models.specs.HeaderLayout.TheVariants as layout
-use Rattle.script_models.specs.Layout.{IsLayout}
-use Rattle.script_models.specs.Layouts.{tiny_numbers, wide_numbers, tagged_numbers}
-use Rattle.script_models.proofs.HeaderShapes.{shape_of_calls}
+use Rattle.sh_script.specs.declared.header.Layout.{Layout as LayoutName}
+use Rattle.sh_script.specs.declared.header.Layout.TheVariants as layout
+use Rattle.sh_key.specs.Layout.{IsLayout}
+use Rattle.sh_key.specs.Layouts.{tiny_numbers, wide_numbers, tagged_numbers}
+use Rattle.script_output.proofs.HeaderShapes.{shape_of_calls}
 use Rattle.script_beside.proofs.Fewness.{FewAlong, few_along}
 use Rattle.script_beside.proofs.Issued.{none_issued}
 use Rattle.script_beside.proofs.Scripts.{scripts_fit}

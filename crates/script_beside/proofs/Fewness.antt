@@ -1,22 +1,22 @@
 -- At each point of the log of a run of the core a key has at most as many holds as the layout allows.
 use Rattle.std.proofs.Common.{◌≡◌, ℕ, ◌+◌, ◌<◌, ◌≤◌, ◌⊎◌, inl, inr, List, [], ◌∷◌, ◌++◌, refl, ap, sym, ◌∙◌, subst}
 use Rattle.std.proofs.Common.{arith, append-nil, append_assoc, Option, Some, None, slice_get, eq-eqb, cond, Bool}
-use Rattle.script_models.specs.Layout.{Layout, IsLayout}
-use Rattle.script_models.specs.Shape.{Numbers, IsShape, Fits}
-use Rattle.script_models.specs.Entry.{Entry}
-use Rattle.script_models.specs.Entry.TheVariants.{Got}
-use Rattle.script_models.specs.History.{got_count, released_count, holds_on, is_got_of, is_release_of}
-use Rattle.script_models.proofs.LogLaws.{count_by-push}
-use Rattle.script_models.specs.Event.{Event}
-use Rattle.script_models.specs.Body.{Body}
-use Rattle.script_models.specs.Moves.{row}
-use Rattle.script_models.specs.Rows.{Row}
-use Rattle.script_models.specs.Plans.{Plan, plan_of, keys_of}
-use Rattle.script_models.specs.Collections.{total}
-use Rattle.script_models.specs.Lists.{times}
-use Rattle.script_models.specs.Worlds.{World, step, apply, run, run_from, open_world, joined}
-use Rattle.script_models.proofs.Clauses.RunTheorem.{theorem}
-use Rattle.script_models.proofs.Words.Steps.{run_snoc}
+use Rattle.sh_key.specs.Layout.{Layout, IsLayout}
+use Rattle.sh_shape.specs.Shape.{Numbers, IsShape, Fits}
+use Rattle.sh_history.specs.declared.entry.Entry.{Entry}
+use Rattle.sh_history.specs.declared.entry.Entry.TheVariants.{Got}
+use Rattle.sh_history.specs.History.{got_count, released_count, holds_on, is_got_of, is_release_of}
+use Rattle.sh_history.proofs.LogLaws.{count_by-push}
+use Rattle.sh_step.specs.declared.action.Event.{Event}
+use Rattle.sh_step.specs.declared.body.Body.{Body}
+use Rattle.sh_step.specs.Moves.{row}
+use Rattle.sh_step.specs.Rows.{Row}
+use Rattle.sh_step.specs.Plans.{Plan, plan_of, keys_of}
+use Rattle.sh_step.specs.Collections.{total}
+use Rattle.sh_core.specs.Lists.{times}
+use Rattle.sh_core.specs.Worlds.{World, step, apply, run, run_from, open_world, joined}
+use Rattle.sh_core.proofs.Clauses.RunTheorem.{theorem}
+use Rattle.sh_core.proofs.Words.Steps.{run_snoc}
 use Rattle.script_heap.proofs.CrowdedKeys.{first_of, rest_of}
 
 -- no key has more holds, and none was released more often than it was got

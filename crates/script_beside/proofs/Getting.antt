@@ -3,30 +3,30 @@ use Rattle.std.proofs.Common.{◌≡◌, ℕ, inl, Bool, true, false, cond, List
 use Rattle.std.proofs.Common.{refl, ap, sym, ◌∙◌, subst, arith, Option, Some, None, Result, Ok, Err}
 use Rattle.std.specs.Prelude.{is_some, not, nat_le}
 use Rattle.std.proofs.lemmas.Bool.Decides.{nat_tests}
-use Rattle.script_models.specs.Hold.{Hold}
-use Rattle.script_models.specs.Refusal.{Refusal}
-use Rattle.script_models.specs.Refusal.TheVariants as refusal
-use Rattle.script_models.specs.Layout.{unpacked}
-use Rattle.script_models.specs.Entry.{Entry}
-use Rattle.script_models.specs.Entry.TheVariants.{Insert, Got, Gone, Crowded, Removed, Released, Seen}
-use Rattle.script_models.specs.LogEntry.{LogEntry}
-use Rattle.script_models.specs.LogEntry.TheVariants.{Known, Unread}
-use Rattle.script_models.specs.History.{value_of, present_value, hold_count, holds_on}
-use Rattle.script_models.specs.Log.{Agrees, IsGotBy, logged_hold_count}
-use Rattle.script_models.specs.Plain.{with_added, get_reply, got_reply}
-use Rattle.script_models.specs.Reference.{Reference}
-use Rattle.script_models.specs.Call.TheVariants as call
-use Rattle.script_models.specs.Answer.{Answer}
-use Rattle.script_models.specs.Answer.TheVariants as answer
-use Rattle.script_models.specs.Results.{done_answer}
+use Rattle.sh_value.specs.declared.hold.Hold.{Hold}
+use Rattle.sh_value.specs.declared.refusal.Refusal.{Refusal}
+use Rattle.sh_value.specs.declared.refusal.Refusal.TheVariants as refusal
+use Rattle.sh_key.specs.Layout.{unpacked}
+use Rattle.sh_history.specs.declared.entry.Entry.{Entry}
+use Rattle.sh_history.specs.declared.entry.Entry.TheVariants.{Insert, Got, Gone, Crowded, Removed, Released, Seen}
+use Rattle.sh_history.specs.declared.log.LogEntry.{LogEntry}
+use Rattle.sh_history.specs.declared.log.LogEntry.TheVariants.{Known, Unread}
+use Rattle.sh_history.specs.History.{value_of, present_value, hold_count, holds_on}
+use Rattle.sh_history.specs.Log.{Agrees, IsGotBy, logged_hold_count}
+use Rattle.sh_plain.specs.Plain.{with_added, get_reply, got_reply}
+use Rattle.sh_script.specs.declared.calls.Reference.{Reference}
+use Rattle.sh_script.specs.declared.calls.Call.TheVariants as call
+use Rattle.script_output.specs.declared.answer.Answer.{Answer}
+use Rattle.script_output.specs.declared.answer.Answer.TheVariants as answer
+use Rattle.script_output.specs.Results.{done_answer}
 use Rattle.script_models.specs.PlainRun.{HasReply}
-use Rattle.script_heap.specs.Parts.{PassPart, Becomes, is_placed_key}
-use Rattle.script_heap.specs.Calls.{CallAnswers, AnswerSays, GetAnswers, UnlessRefused, HoldGot}
-use Rattle.script_heap.specs.InOrder.{is_done_gone_or_crowded}
+use Rattle.script_calls.specs.Parts.{PassPart, Becomes, is_placed_key}
+use Rattle.script_calls.specs.Calls.{CallAnswers, AnswerSays, GetAnswers, UnlessRefused, HoldGot}
+use Rattle.script_calls.specs.InOrder.{is_done_gone_or_crowded}
 use Rattle.script_beside.specs.Beside.{WherePlaced, IfPlaced}
 use Rattle.script_beside.proofs.Fewness.{FewHolds, room_before}
-use Rattle.script_models.proofs.LogHolds.{hold_count_by_log}
-use Rattle.script_models.proofs.HistoryLaws.{some_value}
+use Rattle.sh_history.proofs.LogHolds.{hold_count_by_log}
+use Rattle.sh_history.proofs.Laws.{some_value}
 use Rattle.script_beside.proofs.Logs.{added_agrees}
 use Rattle.script_beside.proofs.Issued.{AreIssued}
 use Rattle.script_beside.proofs.Turns.{Turn, Ready, Stepped, plain_with, plain_before, plain_after, stays, shard_kept}

@@ -3,24 +3,24 @@ use Rattle.std.proofs.Common.{◌≡◌, ℕ, ◌+◌, inl, inr, Bool, true, fal
 use Rattle.std.proofs.Common.{refl, ap, sym, ◌∙◌, subst, arith, Option, Some, None, Result, Ok, Err, slice_index_or}
 use Rattle.std.specs.Prelude.{is_some, nat_lt, IsSome, ◌==◌}
 use Rattle.std.proofs.lemmas.Bool.Decides.{nat_tests}
-use Rattle.script_models.specs.Refusal.{Refusal}
-use Rattle.script_models.specs.Refusal.TheVariants as refusal
-use Rattle.script_models.specs.Layout.{Layout, unpacked, first_key, key_count}
-use Rattle.script_models.specs.Parts.{Parts}
-use Rattle.script_models.specs.Entry.{Entry}
-use Rattle.script_models.specs.Entry.TheVariants.{Insert}
-use Rattle.script_models.specs.History.{value_of, insert_count}
-use Rattle.script_models.specs.Call.TheVariants as call
-use Rattle.script_models.specs.Answer.{Answer}
-use Rattle.script_models.specs.Answer.TheVariants as answer
-use Rattle.script_models.specs.Keys.{shown, HasTagRoom}
-use Rattle.script_models.specs.Results.{key_answer}
+use Rattle.sh_value.specs.declared.refusal.Refusal.{Refusal}
+use Rattle.sh_value.specs.declared.refusal.Refusal.TheVariants as refusal
+use Rattle.sh_key.specs.Layout.{Layout, unpacked, first_key, key_count}
+use Rattle.sh_key.specs.declared.parts.Parts.{Parts}
+use Rattle.sh_history.specs.declared.entry.Entry.{Entry}
+use Rattle.sh_history.specs.declared.entry.Entry.TheVariants.{Insert}
+use Rattle.sh_history.specs.History.{value_of, insert_count}
+use Rattle.sh_script.specs.declared.calls.Call.TheVariants as call
+use Rattle.script_output.specs.declared.answer.Answer.{Answer}
+use Rattle.script_output.specs.declared.answer.Answer.TheVariants as answer
+use Rattle.script_output.specs.Keys.{shown, HasTagRoom}
+use Rattle.script_output.specs.Results.{key_answer}
 use Rattle.script_models.specs.PlainRun.{Run, insert_attempt}
-use Rattle.script_heap.specs.Parts.{PassPart, Becomes, is_key_of_shard}
-use Rattle.script_heap.specs.Calls.{CallAnswers, UnlessRefused, ValueInserted, needs_shard}
-use Rattle.script_heap.specs.InOrder.{is_key}
-use Rattle.script_heap.specs.Sides.{SideInserts}
-use Rattle.script_heap.specs.Runs.{with_number}
+use Rattle.script_calls.specs.Parts.{PassPart, Becomes, is_key_of_shard}
+use Rattle.script_calls.specs.Calls.{CallAnswers, UnlessRefused, ValueInserted, needs_shard}
+use Rattle.script_calls.specs.InOrder.{is_key}
+use Rattle.sh_member.specs.Sides.{SideInserts}
+use Rattle.script_calls.specs.Runs.{with_number}
 use Rattle.script_beside.specs.Beside.{CallBeside, InsertsBeside, unnamed}
 use Rattle.script_beside.proofs.Names.{AreNames, one_more_name, shown_is}
 use Rattle.script_beside.proofs.Issued.{AreIssued, issued_more, one_left}

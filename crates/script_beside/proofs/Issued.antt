@@ -7,12 +7,12 @@ use lib.Dec.{eqb}
 use Rattle.std.proofs.Common.{lt-ltb, true≢false}
 use Rattle.std.proofs.lemmas.Map.Keys.{IsDistinct-cons}
 use Rattle.std.proofs.lemmas.Map.Steps.{length-le_from_distinct_below}
-use Rattle.script_models.specs.Layout.{Layout, unpacked, first_key, key_count}
-use Rattle.script_models.proofs.Packing.{keys_are_consecutive}
-use Rattle.script_models.specs.Entry.{Entry}
-use Rattle.script_models.specs.Entry.TheVariants.{Insert}
-use Rattle.script_models.specs.History.{value_of, is_insert, insert_count}
-use Rattle.script_models.proofs.LogLaws.{value_of-append_some, value_of-append_none, count_by-push}
+use Rattle.sh_key.specs.Layout.{Layout, unpacked, first_key, key_count}
+use Rattle.sh_key.proofs.Packing.{keys_are_consecutive}
+use Rattle.sh_history.specs.declared.entry.Entry.{Entry}
+use Rattle.sh_history.specs.declared.entry.Entry.TheVariants.{Insert}
+use Rattle.sh_history.specs.History.{value_of, is_insert, insert_count}
+use Rattle.sh_history.proofs.LogLaws.{value_of-append_some, value_of-append_none, count_by-push}
 
 -- how far the keys that were given are from the first one
 pub record AreIssued (layout : Layout) (es : List Entry) : Type 0 where

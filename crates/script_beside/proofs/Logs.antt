@@ -4,26 +4,26 @@ use Rattle.std.proofs.Common.{ap, sym, ◌∙◌, subst, append-nil, eq-eqb, ne_
 use Rattle.std.proofs.Common.{Result, Ok, Err}
 use Rattle.std.specs.List.{AllZip}
 use Rattle.std.proofs.lemmas.List.Elements.{filter-append}
-use Rattle.script_models.specs.Hold.{Hold}
-use Rattle.script_models.specs.Refusal.{Refusal}
-use Rattle.script_models.specs.Refusal.TheVariants as refusal
-use Rattle.script_models.specs.Entry.{Entry}
-use Rattle.script_models.specs.Entry.TheVariants.{Got}
-use Rattle.script_models.specs.LogEntry.{LogEntry}
-use Rattle.script_models.specs.LogEntry.TheVariants.{Known, Unread}
-use Rattle.script_models.specs.Log.{Agrees, pass_of, entries_of, filled}
-use Rattle.script_models.specs.Reference.TheVariants as reference
-use Rattle.script_models.specs.Call.{Call}
-use Rattle.script_models.specs.Call.TheVariants as call
-use Rattle.script_models.specs.Answer.{Answer}
-use Rattle.script_models.specs.Answer.TheVariants as answer
-use Rattle.script_models.specs.Results.{done_answer, key_answer}
-use Rattle.script_heap.specs.Parts.{RunTerms, PassPart, Becomes, with_entry}
-use Rattle.script_heap.specs.Calls.{CallAnswers, UnlessRefused, OnKey, key_meant, PartAdopted, PartLeft, ValueInserted}
-use Rattle.script_heap.specs.Calls.{HoldGot, ValueRead, HoldReleased, KeyRemoved, adopt_refusal, needs_shard}
-use Rattle.script_heap.specs.Calls.{words_refusal, get_refusal, hold_refusal, remove_refusal}
-use Rattle.script_heap.specs.InOrder.{adds_entry, is_done_gone_or_crowded, is_done_or_gone, is_done, is_key}
-use Rattle.script_heap.proofs.GrowLemmas.{get_first, remove_first, no_key}
+use Rattle.sh_value.specs.declared.hold.Hold.{Hold}
+use Rattle.sh_value.specs.declared.refusal.Refusal.{Refusal}
+use Rattle.sh_value.specs.declared.refusal.Refusal.TheVariants as refusal
+use Rattle.sh_history.specs.declared.entry.Entry.{Entry}
+use Rattle.sh_history.specs.declared.entry.Entry.TheVariants.{Got}
+use Rattle.sh_history.specs.declared.log.LogEntry.{LogEntry}
+use Rattle.sh_history.specs.declared.log.LogEntry.TheVariants.{Known, Unread}
+use Rattle.sh_history.specs.Log.{Agrees, pass_of, entries_of, filled}
+use Rattle.sh_script.specs.declared.calls.Reference.TheVariants as reference
+use Rattle.sh_script.specs.declared.calls.Call.{Call}
+use Rattle.sh_script.specs.declared.calls.Call.TheVariants as call
+use Rattle.script_output.specs.declared.answer.Answer.{Answer}
+use Rattle.script_output.specs.declared.answer.Answer.TheVariants as answer
+use Rattle.script_output.specs.Results.{done_answer, key_answer}
+use Rattle.script_calls.specs.Parts.{RunTerms, PassPart, Becomes, with_entry}
+use Rattle.script_calls.specs.Calls.{CallAnswers, UnlessRefused, OnKey, key_meant, PartAdopted, PartLeft, ValueInserted}
+use Rattle.script_calls.specs.Calls.{HoldGot, ValueRead, HoldReleased, KeyRemoved, adopt_refusal, needs_shard}
+use Rattle.script_calls.specs.Calls.{words_refusal, get_refusal, hold_refusal, remove_refusal}
+use Rattle.script_calls.specs.InOrder.{adds_entry, is_done_gone_or_crowded, is_done_or_gone, is_done, is_key}
+use Rattle.script_calls.proofs.GrowLemmas.{get_first, remove_first, no_key}
 
 -- one entry more, or none: then values of gets may have been read
 abbrev pub Gains : Bool → List LogEntry → List LogEntry → Type 0

@@ -2,17 +2,17 @@
 use Rattle.std.proofs.Common.{◌≡◌, ℕ, zero, suc, ◌+◌, ◌*◌, ◌/◌, ◌%◌, ◌^◌, ◌<◌, Bool, cond, List, [], ◌∷◌, ◌++◌}
 use Rattle.std.proofs.Common.{refl, ap, sym, ◌∙◌, arith, eq-eqb, slice_get, Option, Some, None, Result}
 use Rattle.std.specs.Prelude.{ok_or}
-use Rattle.script_models.specs.Refusal.TheVariants as refusal
-use Rattle.script_models.specs.Layout.{Layout, first_key, key_count}
-use Rattle.script_models.specs.Reference.{Reference}
-use Rattle.script_models.specs.Reference.TheVariants as reference
-use Rattle.script_models.specs.BoundNames.{name_referred}
-use Rattle.script_models.specs.Answer.{Answer}
-use Rattle.script_models.specs.Answer.TheVariants as answer
-use Rattle.script_models.specs.Keys.{shown, key_shown, HasTagRoom}
+use Rattle.sh_value.specs.declared.refusal.Refusal.TheVariants as refusal
+use Rattle.sh_key.specs.Layout.{Layout, first_key, key_count}
+use Rattle.sh_script.specs.declared.calls.Reference.{Reference}
+use Rattle.sh_script.specs.declared.calls.Reference.TheVariants as reference
+use Rattle.sh_script.specs.BoundNames.{name_referred}
+use Rattle.script_output.specs.declared.answer.Answer.{Answer}
+use Rattle.script_output.specs.declared.answer.Answer.TheVariants as answer
+use Rattle.script_output.specs.Keys.{shown, key_shown, HasTagRoom}
 use Rattle.script_models.specs.PlainRun.{bound_key}
-use Rattle.script_heap.specs.Calls.{key_meant, key_for_name}
-use Rattle.script_heap.specs.Runs.{number_bound}
+use Rattle.script_calls.specs.Calls.{key_meant, key_for_name}
+use Rattle.script_calls.specs.Runs.{number_bound}
 
 -- a name is bound to this key, written as this number
 abbrev pub NameIs : Option ℕ → Option ℕ → Option ℕ → Type 0

@@ -2,26 +2,26 @@
 use Rattle.std.proofs.Common.{◌≡◌, ℕ, ◌⊎◌, inl, inr, Bool, true, false, List}
 use Rattle.std.proofs.Common.{refl, ap, sym, ◌∙◌, subst, Option, Some, None, Result, Ok, Err}
 use Rattle.std.specs.Prelude.{is_some, nat_lt}
-use Rattle.script_models.specs.Refusal.TheVariants as refusal
-use Rattle.script_models.specs.Layout.{Layout, unpacked}
-use Rattle.script_models.specs.Parts.{Parts}
-use Rattle.script_models.specs.Shape.{Numbers}
-use Rattle.script_models.specs.Moves.{has_place}
-use Rattle.script_models.specs.Entry.{Entry}
-use Rattle.script_models.specs.History.{value_of, is_removed, present_value, holds_by}
-use Rattle.script_models.specs.Log.{logged_holds_by}
-use Rattle.script_models.specs.BoundNames.{name_referred}
-use Rattle.script_models.specs.Reference.{Reference}
-use Rattle.script_models.specs.Call.{Call}
-use Rattle.script_models.specs.Answer.{Answer}
-use Rattle.script_models.specs.Answer.TheVariants as answer
-use Rattle.script_heap.specs.Parts.{PassPart, is_placed_key}
-use Rattle.script_heap.specs.Calls.{OnKey, key_meant}
-use Rattle.script_heap.specs.InOrder.{adds_entry}
-use Rattle.script_heap.specs.Runs.{number_bound}
+use Rattle.sh_value.specs.declared.refusal.Refusal.TheVariants as refusal
+use Rattle.sh_key.specs.Layout.{Layout, unpacked}
+use Rattle.sh_key.specs.declared.parts.Parts.{Parts}
+use Rattle.sh_shape.specs.Shape.{Numbers}
+use Rattle.sh_step.specs.Moves.{has_place}
+use Rattle.sh_history.specs.declared.entry.Entry.{Entry}
+use Rattle.sh_history.specs.History.{value_of, is_removed, present_value, holds_by}
+use Rattle.sh_history.specs.Log.{logged_holds_by}
+use Rattle.sh_script.specs.BoundNames.{name_referred}
+use Rattle.sh_script.specs.declared.calls.Reference.{Reference}
+use Rattle.sh_script.specs.declared.calls.Call.{Call}
+use Rattle.script_output.specs.declared.answer.Answer.{Answer}
+use Rattle.script_output.specs.declared.answer.Answer.TheVariants as answer
+use Rattle.script_calls.specs.Parts.{PassPart, is_placed_key}
+use Rattle.script_calls.specs.Calls.{OnKey, key_meant}
+use Rattle.script_calls.specs.InOrder.{adds_entry}
+use Rattle.script_calls.specs.Runs.{number_bound}
 use Rattle.script_beside.specs.Beside.{WherePlaced}
-use Rattle.script_models.proofs.LogHolds.{holds_by_log}
-use Rattle.script_heap.proofs.GrowLemmas.{no_key}
+use Rattle.sh_history.proofs.LogHolds.{holds_by_log}
+use Rattle.script_calls.proofs.GrowLemmas.{no_key}
 use Rattle.script_beside.proofs.Names.{AreNames, key_by, same_meant}
 use Rattle.script_beside.proofs.Turns.{Turn, Ready, plain_before, plain_after, run_kept}
 

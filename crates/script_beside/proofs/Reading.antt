@@ -4,24 +4,24 @@ use Rattle.std.proofs.Common.{map, refl, ap, sym, ◌∙◌, subst, arith, Some,
 use Rattle.std.specs.Prelude.{nat_lt, filter, count_by}
 use Rattle.std.specs.List.{AllZip}
 use Rattle.std.proofs.lemmas.Bool.Decides.{nat_tests}
-use Rattle.script_models.specs.Refusal.{Refusal}
-use Rattle.script_models.specs.Refusal.TheVariants as refusal
-use Rattle.script_models.specs.Entry.{Entry}
-use Rattle.script_models.specs.Entry.TheVariants.{Insert, Got, Gone, Crowded, Removed, Released, Seen}
-use Rattle.script_models.specs.LogEntry.{LogEntry}
-use Rattle.script_models.specs.LogEntry.TheVariants.{Known, Unread}
-use Rattle.script_models.specs.History.{Legal, value_of, holds_by, is_got_by, got_count_by}
-use Rattle.script_models.specs.Log.{Agrees, pass_of, entries_of, logged_holds_by, HasValue, AllHaveValue}
-use Rattle.script_models.proofs.LogLaws.{count_by-cons, gets_have_value, issued_when_got, both}
-use Rattle.script_models.specs.Reference.{Reference}
-use Rattle.script_models.specs.Call.TheVariants as call
-use Rattle.script_models.specs.Answer.{Answer}
-use Rattle.script_models.specs.Answer.TheVariants as answer
-use Rattle.script_models.specs.Results.{value_answer}
+use Rattle.sh_value.specs.declared.refusal.Refusal.{Refusal}
+use Rattle.sh_value.specs.declared.refusal.Refusal.TheVariants as refusal
+use Rattle.sh_history.specs.declared.entry.Entry.{Entry}
+use Rattle.sh_history.specs.declared.entry.Entry.TheVariants.{Insert, Got, Gone, Crowded, Removed, Released, Seen}
+use Rattle.sh_history.specs.declared.log.LogEntry.{LogEntry}
+use Rattle.sh_history.specs.declared.log.LogEntry.TheVariants.{Known, Unread}
+use Rattle.sh_history.specs.History.{Legal, value_of, holds_by, is_got_by, got_count_by}
+use Rattle.sh_history.specs.Log.{Agrees, pass_of, entries_of, logged_holds_by, HasValue, AllHaveValue}
+use Rattle.sh_history.proofs.LogLaws.{count_by-cons, gets_have_value, issued_when_got, both}
+use Rattle.sh_script.specs.declared.calls.Reference.{Reference}
+use Rattle.sh_script.specs.declared.calls.Call.TheVariants as call
+use Rattle.script_output.specs.declared.answer.Answer.{Answer}
+use Rattle.script_output.specs.declared.answer.Answer.TheVariants as answer
+use Rattle.script_output.specs.Results.{value_answer}
 use Rattle.script_models.specs.PlainRun.{Reads}
-use Rattle.script_heap.specs.Parts.{PassPart, Becomes}
-use Rattle.script_heap.specs.Calls.{CallAnswers, AnswerSays, ReadAnswers, UnlessRefused, ValueRead}
-use Rattle.script_models.proofs.LogHolds.{own_count, got_own}
+use Rattle.script_calls.specs.Parts.{PassPart, Becomes}
+use Rattle.script_calls.specs.Calls.{CallAnswers, AnswerSays, ReadAnswers, UnlessRefused, ValueRead}
+use Rattle.sh_history.proofs.LogHolds.{own_count, got_own}
 use Rattle.script_beside.proofs.Logs.{LogIs}
 use Rattle.script_beside.proofs.Turns.{Turn, Ready, Stepped, plain_before, plain_after, stays, shard_kept, run_kept}
 use Rattle.script_beside.proofs.Turns.{issued_kept}

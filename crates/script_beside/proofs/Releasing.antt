@@ -2,20 +2,20 @@
 use Rattle.std.proofs.Common.{◌≡◌, ℕ, inl, Bool, true, false, cond}
 use Rattle.std.proofs.Common.{refl, ap, sym, ◌∙◌, subst, Some, None, Result, Ok, Err}
 use Rattle.std.specs.Prelude.{nat_lt}
-use Rattle.script_models.specs.Refusal.{Refusal}
-use Rattle.script_models.specs.Refusal.TheVariants as refusal
-use Rattle.script_models.specs.Entry.TheVariants.{Released}
-use Rattle.script_models.specs.Log.{logged_holds_by}
-use Rattle.script_models.specs.Plain.{release_reply}
-use Rattle.script_models.specs.Reference.{Reference}
-use Rattle.script_models.specs.Call.TheVariants as call
-use Rattle.script_models.specs.Answer.{Answer}
-use Rattle.script_models.specs.Answer.TheVariants as answer
-use Rattle.script_models.specs.Results.{done_answer}
+use Rattle.sh_value.specs.declared.refusal.Refusal.{Refusal}
+use Rattle.sh_value.specs.declared.refusal.Refusal.TheVariants as refusal
+use Rattle.sh_history.specs.declared.entry.Entry.TheVariants.{Released}
+use Rattle.sh_history.specs.Log.{logged_holds_by}
+use Rattle.sh_plain.specs.Plain.{release_reply}
+use Rattle.sh_script.specs.declared.calls.Reference.{Reference}
+use Rattle.sh_script.specs.declared.calls.Call.TheVariants as call
+use Rattle.script_output.specs.declared.answer.Answer.{Answer}
+use Rattle.script_output.specs.declared.answer.Answer.TheVariants as answer
+use Rattle.script_output.specs.Results.{done_answer}
 use Rattle.script_models.specs.PlainRun.{HasReply}
-use Rattle.script_heap.specs.Parts.{PassPart, Becomes}
-use Rattle.script_heap.specs.Calls.{CallAnswers, AnswerSays, ReleaseAnswers, UnlessRefused, HoldReleased}
-use Rattle.script_heap.specs.InOrder.{is_done}
+use Rattle.script_calls.specs.Parts.{PassPart, Becomes}
+use Rattle.script_calls.specs.Calls.{CallAnswers, AnswerSays, ReleaseAnswers, UnlessRefused, HoldReleased}
+use Rattle.script_calls.specs.InOrder.{is_done}
 use Rattle.script_beside.proofs.Issued.{AreIssued}
 use Rattle.script_beside.proofs.Turns.{Turn, Ready, Stepped, plain_with, plain_before, plain_after, stays, shard_kept}
 use Rattle.script_beside.proofs.Turns.{run_kept, issued_kept, gained, issued_after}

@@ -1,21 +1,21 @@
 -- A remove beside mode plain.
 use Rattle.std.proofs.Common.{◌≡◌, ℕ, inl, Bool, true, false, cond, List}
 use Rattle.std.proofs.Common.{refl, ap, sym, ◌∙◌, subst, Option, Some, None, Result, Ok, Err}
-use Rattle.script_models.specs.Refusal.{Refusal}
-use Rattle.script_models.specs.Refusal.TheVariants as refusal
-use Rattle.script_models.specs.Entry.TheVariants.{Gone, Removed}
-use Rattle.script_models.specs.History.{value_of, present_value}
-use Rattle.script_models.proofs.HistoryLaws.{some_value}
-use Rattle.script_models.specs.Plain.{with_added, remove_reply, removed_reply}
-use Rattle.script_models.specs.Reference.{Reference}
-use Rattle.script_models.specs.Call.TheVariants as call
-use Rattle.script_models.specs.Answer.{Answer}
-use Rattle.script_models.specs.Answer.TheVariants as answer
-use Rattle.script_models.specs.Results.{done_answer}
+use Rattle.sh_value.specs.declared.refusal.Refusal.{Refusal}
+use Rattle.sh_value.specs.declared.refusal.Refusal.TheVariants as refusal
+use Rattle.sh_history.specs.declared.entry.Entry.TheVariants.{Gone, Removed}
+use Rattle.sh_history.specs.History.{value_of, present_value}
+use Rattle.sh_history.proofs.Laws.{some_value}
+use Rattle.sh_plain.specs.Plain.{with_added, remove_reply, removed_reply}
+use Rattle.sh_script.specs.declared.calls.Reference.{Reference}
+use Rattle.sh_script.specs.declared.calls.Call.TheVariants as call
+use Rattle.script_output.specs.declared.answer.Answer.{Answer}
+use Rattle.script_output.specs.declared.answer.Answer.TheVariants as answer
+use Rattle.script_output.specs.Results.{done_answer}
 use Rattle.script_models.specs.PlainRun.{HasReply}
-use Rattle.script_heap.specs.Parts.{PassPart, Becomes, is_placed_key}
-use Rattle.script_heap.specs.Calls.{CallAnswers, AnswerSays, RemoveAnswers, UnlessRefused, KeyRemoved}
-use Rattle.script_heap.specs.InOrder.{is_done_or_gone}
+use Rattle.script_calls.specs.Parts.{PassPart, Becomes, is_placed_key}
+use Rattle.script_calls.specs.Calls.{CallAnswers, AnswerSays, RemoveAnswers, UnlessRefused, KeyRemoved}
+use Rattle.script_calls.specs.InOrder.{is_done_or_gone}
 use Rattle.script_beside.specs.Beside.{WherePlaced, IfPlaced}
 use Rattle.script_beside.proofs.Issued.{AreIssued}
 use Rattle.script_beside.proofs.Turns.{Turn, Ready, Stepped, plain_with, plain_before, plain_after, stays, shard_kept}

@@ -4,13 +4,13 @@ use Rattle.std.proofs.Common.{◌∷◌, ◌++◌, map, refl, ap, sym, ◌∙◌
 use Rattle.std.proofs.Common.{ne_eqb, eqb-true}
 use Rattle.std.specs.Prelude.{count_by}
 use Rattle.std.proofs.lemmas.Bool.{eqb-false}
-use Rattle.script_models.specs.Entry.{Entry}
-use Rattle.script_models.specs.Entry.TheVariants.{Insert, Got, Gone, Crowded, Removed, Released, Seen}
-use Rattle.script_models.specs.History.{value_of, is_removed, present_value, is_got_of, is_release_of, is_got_by}
-use Rattle.script_models.specs.History.{is_release_by, is_got_from, is_release_from, is_insert, insert_count}
-use Rattle.script_models.specs.History.{hold_count}
-use Rattle.script_models.specs.History.{holds_on, holds_by}
-use Rattle.script_models.proofs.LogLaws.{count_by-cons}
+use Rattle.sh_history.specs.declared.entry.Entry.{Entry}
+use Rattle.sh_history.specs.declared.entry.Entry.TheVariants.{Insert, Got, Gone, Crowded, Removed, Released, Seen}
+use Rattle.sh_history.specs.History.{value_of, is_removed, present_value, is_got_of, is_release_of, is_got_by}
+use Rattle.sh_history.specs.History.{is_release_by, is_got_from, is_release_from, is_insert, insert_count}
+use Rattle.sh_history.specs.History.{hold_count}
+use Rattle.sh_history.specs.History.{holds_on, holds_by}
+use Rattle.sh_history.proofs.LogLaws.{count_by-cons}
 
 -- ---- the place of a key in the order in which keys were given
 

@@ -2,17 +2,17 @@
 use Rattle.std.proofs.Common.{ℕ, ◌<◌, ◌≤◌, List, Option, Some, None, sym, subst, arith}
 use Rattle.std.specs.List.{All}
 use Rattle.std.proofs.lemmas.List.Elements.{All-nil, All-push}
-use Rattle.script_models.specs.Words.{Word}
-use Rattle.script_models.specs.HeaderMeaning.{AreTag, layout_of}
-use Rattle.script_models.specs.CallMeaning.{SaysCall}
-use Rattle.script_models.specs.CallLines.{CallsSoFar, no_calls}
-use Rattle.script_models.specs.Scripts.{IsCalls}
-use Rattle.script_models.specs.CallLine.{CallLine}
-use Rattle.script_models.specs.Header.{Header}
-use Rattle.script_models.specs.HeaderLayout.{Layout as LayoutName}
-use Rattle.script_models.specs.HeaderLayout.TheVariants as layout
-use Rattle.script_models.proofs.PassLemmas.{IsLasting, script_keeps}
-use Rattle.script_models.specs.Keys.{HasTagRoom}
+use Rattle.sh_script.specs.Words.{Word}
+use Rattle.sh_script.specs.HeaderMeaning.{AreTag, layout_of}
+use Rattle.sh_script.specs.CallMeaning.{SaysCall}
+use Rattle.sh_script.specs.CallLines.{CallsSoFar, no_calls}
+use Rattle.sh_script.specs.Scripts.{IsCalls}
+use Rattle.sh_script.specs.declared.calls.CallLine.{CallLine}
+use Rattle.sh_script.specs.declared.header.Header.{Header}
+use Rattle.sh_script.specs.declared.header.Layout.{Layout as LayoutName}
+use Rattle.sh_script.specs.declared.header.Layout.TheVariants as layout
+use Rattle.sh_script.proofs.PassLemmas.{IsLasting, script_keeps}
+use Rattle.script_output.specs.Keys.{HasTagRoom}
 
 tag_room : (l : LayoutName) (ws : List Word) (t : Option ℕ) → AreTag l ws t → HasTagRoom (layout_of l) t
 tag_room layout.Tiny ws t x = subst (HasTagRoom (layout_of layout.Tiny)) (sym x.1) tt

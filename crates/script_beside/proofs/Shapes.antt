@@ -2,24 +2,24 @@
 use Rattle.std.proofs.Common.{◌≡◌, ℕ, true, List, refl, ap, sym, ◌∙◌, subst, Option, Some, None}
 use Rattle.std.proofs.Common.{Result, Ok, Err, inl, inr}
 use Rattle.std.specs.Prelude.{IsSome}
-use Rattle.script_models.specs.Hold.{Hold}
-use Rattle.script_models.specs.Refusal.{Refusal}
-use Rattle.script_models.specs.Refusal.TheVariants as refusal
-use Rattle.script_models.specs.Layout.{Layout}
-use Rattle.script_models.specs.Shape.{Numbers}
-use Rattle.script_heap.specs.KeyRef.{KeyRef}
-use Rattle.script_heap.specs.Passes.{Caller, GetDoes, ReadDoes, RemoveDoes, ReleaseDoes}
-use Rattle.script_heap.specs.Pages.{AdoptRefused}
-use Rattle.script_heap.specs.Shards.{Sharded, InsertServes, value_class}
-use Rattle.script_models.specs.Call.{Call}
-use Rattle.script_models.specs.Call.TheVariants as call
-use Rattle.script_models.specs.Answer.{Answer}
-use Rattle.script_heap.specs.Side.TheVariants.{Pass, Shard}
-use Rattle.script_heap.specs.Sides.{SeenSide, SideDoes, SideAdopts, SideLeaves, SideInserts}
-use Rattle.script_heap.specs.Parts.{RunTerms, PassPart, is_placed_key}
-use Rattle.script_heap.specs.Receipts.{MayHeed, SideHeeded}
-use Rattle.script_heap.specs.Calls.{CallAnswers, OnKey, UnlessRefused, key_meant, words_refusal}
-use Rattle.script_heap.proofs.PlacedKeys.{placed}
+use Rattle.sh_value.specs.declared.hold.Hold.{Hold}
+use Rattle.sh_value.specs.declared.refusal.Refusal.{Refusal}
+use Rattle.sh_value.specs.declared.refusal.Refusal.TheVariants as refusal
+use Rattle.sh_key.specs.Layout.{Layout}
+use Rattle.sh_shape.specs.Shape.{Numbers}
+use Rattle.sh_slots.specs.declared.hand.KeyRef.{KeyRef}
+use Rattle.sh_pass.specs.Passes.{Caller, GetDoes, ReadDoes, RemoveDoes, ReleaseDoes}
+use Rattle.sh_shard.specs.Pages.{AdoptRefused}
+use Rattle.sh_shard.specs.Shards.{Sharded, InsertServes, value_class}
+use Rattle.sh_script.specs.declared.calls.Call.{Call}
+use Rattle.sh_script.specs.declared.calls.Call.TheVariants as call
+use Rattle.script_output.specs.declared.answer.Answer.{Answer}
+use Rattle.sh_member.specs.declared.member.Side.TheVariants.{Pass, Shard}
+use Rattle.sh_member.specs.Sides.{SeenSide, SideDoes, SideAdopts, SideLeaves, SideInserts}
+use Rattle.script_calls.specs.Parts.{RunTerms, PassPart, is_placed_key}
+use Rattle.script_calls.specs.Receipts.{MayHeed, SideHeeded}
+use Rattle.script_calls.specs.Calls.{CallAnswers, OnKey, UnlessRefused, key_meant, words_refusal}
+use Rattle.script_calls.proofs.PlacedKeys.{placed}
 
 abbrev pub KnowsShape : Numbers → SeenSide → Type 0
 KnowsShape n (Pass c) = c.view.shape ≡ n

@@ -4,18 +4,18 @@ use Rattle.std.proofs.Common.{refl, ap, sym, ◌∙◌, subst, slice_index_or, s
 use Rattle.std.proofs.Common.{Option, Some, None, Result, Ok, Err}
 use Rattle.std.specs.Prelude.{is_some, nat_le, IsSome}
 use Rattle.std.proofs.lemmas.List.{get_or-set_same, get_or-set_other, length-set}
-use Rattle.script_models.specs.Refusal.{Refusal}
-use Rattle.script_models.specs.Refusal.TheVariants as refusal
-use Rattle.script_models.specs.Entry.{Entry}
-use Rattle.script_models.specs.Call.TheVariants as call
-use Rattle.script_models.specs.Answer.{Answer}
-use Rattle.script_models.specs.Answer.TheVariants as answer
-use Rattle.script_models.specs.Results.{done_answer}
+use Rattle.sh_value.specs.declared.refusal.Refusal.{Refusal}
+use Rattle.sh_value.specs.declared.refusal.Refusal.TheVariants as refusal
+use Rattle.sh_history.specs.declared.entry.Entry.{Entry}
+use Rattle.sh_script.specs.declared.calls.Call.TheVariants as call
+use Rattle.script_output.specs.declared.answer.Answer.{Answer}
+use Rattle.script_output.specs.declared.answer.Answer.TheVariants as answer
+use Rattle.script_output.specs.Results.{done_answer}
 use Rattle.script_models.specs.PlainRun.{adopt_answer, adopts, leave_answer, leaves}
-use Rattle.script_heap.specs.Parts.{PassPart, Becomes}
-use Rattle.script_heap.specs.Calls.{CallAnswers, UnlessRefused, PartAdopted, PartLeft, adopt_refusal, needs_shard}
+use Rattle.script_calls.specs.Parts.{PassPart, Becomes}
+use Rattle.script_calls.specs.Calls.{CallAnswers, UnlessRefused, PartAdopted, PartLeft, adopt_refusal, needs_shard}
 use Rattle.script_heap.specs.Owners.{AdoptIsExact, LeaveIsExact, IsFree, IsOwned}
-use Rattle.script_heap.specs.Runs.{with_number}
+use Rattle.script_calls.specs.Runs.{with_number}
 use Rattle.script_beside.proofs.Names.{AreNames, one_more_name}
 use Rattle.script_beside.proofs.Issued.{AreIssued, issued_same}
 use Rattle.script_beside.proofs.Turns.{Turn, Ready, Stepped, state, plain_before, stays, shard_kept}

@@ -2,18 +2,18 @@
 use Rattle.std.proofs.Common.{◌≡◌, ◌≢◌, ℕ, ◌<◌, ◌≤◌, Bool, true, false, List, [], ◌∷◌, ◌++◌, length}
 use Rattle.std.proofs.Common.{refl, ap, sym, ◌∙◌, subst, slice_index_or, Option}
 use Rattle.std.specs.Prelude.{is_some}
-use Rattle.script_models.specs.Entry.{Entry}
-use Rattle.script_models.specs.LogEntry.TheVariants.{Known}
-use Rattle.script_models.specs.History.{Allowed, Legal, is_insert}
-use Rattle.script_models.proofs.HistoryLaws.{legal_after_parts}
-use Rattle.script_models.specs.Call.{Call}
-use Rattle.script_models.specs.Answer.{Answer}
+use Rattle.sh_history.specs.declared.entry.Entry.{Entry}
+use Rattle.sh_history.specs.declared.log.LogEntry.TheVariants.{Known}
+use Rattle.sh_history.specs.History.{Allowed, Legal, is_insert}
+use Rattle.sh_history.proofs.Laws.{legal_after_parts}
+use Rattle.sh_script.specs.declared.calls.Call.{Call}
+use Rattle.script_output.specs.declared.answer.Answer.{Answer}
 use Rattle.script_models.specs.PlainRun.{Run, run_of}
-use Rattle.script_heap.specs.Parts.{RunTerms, PassPart, Becomes}
+use Rattle.script_calls.specs.Parts.{RunTerms, PassPart, Becomes}
 use Rattle.script_heap.specs.Crowding.{CrowdedIsExact}
-use Rattle.script_heap.specs.InOrder.{adds_entry}
+use Rattle.script_calls.specs.InOrder.{adds_entry}
 use Rattle.script_heap.specs.Owners.{CallIsExact}
-use Rattle.script_heap.specs.Runs.{with_number}
+use Rattle.script_calls.specs.Runs.{with_number}
 use Rattle.script_beside.specs.Beside.{CallBeside}
 use Rattle.script_beside.proofs.Logs.{Grown, LogIs, added_agrees}
 use Rattle.script_beside.proofs.Fewness.{FewHolds}

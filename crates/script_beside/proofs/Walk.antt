@@ -5,26 +5,26 @@ use Rattle.std.proofs.Common.{Option, None, slice_index_or, inl, inr}
 use Rattle.std.specs.Prelude.{is_some}
 use Rattle.std.proofs.lemmas.Bool.{eqb-false}
 use Rattle.std.specs.List.{All}
-use Rattle.script_models.specs.Entry.{Entry}
-use Rattle.script_models.specs.Entry.TheVariants.{Crowded}
-use Rattle.script_models.specs.History.{Legal}
-use Rattle.script_models.specs.Log.{pass_of}
-use Rattle.script_models.proofs.HistoryLaws.{legal_after_parts}
-use Rattle.script_models.specs.Call.{Call}
-use Rattle.script_models.specs.Call.TheVariants as call
-use Rattle.script_models.specs.CallLine.{CallLine}
-use Rattle.script_models.specs.Answer.{Answer}
-use Rattle.script_models.specs.Keys.{HasTagRoom}
+use Rattle.sh_history.specs.declared.entry.Entry.{Entry}
+use Rattle.sh_history.specs.declared.entry.Entry.TheVariants.{Crowded}
+use Rattle.sh_history.specs.History.{Legal}
+use Rattle.sh_history.specs.Log.{pass_of}
+use Rattle.sh_history.proofs.Laws.{legal_after_parts}
+use Rattle.sh_script.specs.declared.calls.Call.{Call}
+use Rattle.sh_script.specs.declared.calls.Call.TheVariants as call
+use Rattle.sh_script.specs.declared.calls.CallLine.{CallLine}
+use Rattle.script_output.specs.declared.answer.Answer.{Answer}
+use Rattle.script_output.specs.Keys.{HasTagRoom}
 use Rattle.script_models.specs.PlainRun.{Run}
-use Rattle.script_heap.specs.Parts.{RunTerms, PassPart}
-use Rattle.script_heap.specs.Receipts.{MayHeed}
-use Rattle.script_heap.specs.Calls.{CallAnswers}
+use Rattle.script_calls.specs.Parts.{RunTerms, PassPart}
+use Rattle.script_calls.specs.Receipts.{MayHeed}
+use Rattle.script_calls.specs.Calls.{CallAnswers}
 use Rattle.script_heap.specs.Crowding.{CrowdedIsExact}
-use Rattle.script_heap.specs.InOrder.{adds_entry, adding_passes}
+use Rattle.script_calls.specs.InOrder.{adds_entry, adding_passes}
 use Rattle.script_heap.specs.Owners.{AnswersAreExact, owned_after, owned_then}
-use Rattle.script_heap.specs.Runs.{CallsRun, LineAnswered, LinesAnswered, number_meant}
-use Rattle.script_heap.proofs.LineLemmas.{part_here, part_there}
-use Rattle.script_heap.proofs.NameLemmas.{may_log}
+use Rattle.script_calls.specs.Runs.{CallsRun, LineAnswered, LinesAnswered, number_meant}
+use Rattle.script_calls.proofs.LineLemmas.{part_here, part_there}
+use Rattle.script_calls.proofs.NameLemmas.{may_log}
 use Rattle.script_heap.proofs.OwnersTold.{shard_then}
 use Rattle.script_beside.specs.Beside.{CallBeside, RanBeside}
 use Rattle.script_beside.specs.Along.{RanAlong, NamesKey}

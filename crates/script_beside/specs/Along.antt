@@ -1,15 +1,15 @@
 -- Mode plain's own run along with mode heap, for scripts in which no line has a key as a number. The numbers of keys
 -- then occur only in the answers to inserts.
 use Rattle.std.specs.Prelude.{◌≡◌, ℕ, List, [], ◌∷◌, ◌⊎◌, Option}
-use Rattle.script_models.specs.Layout.{Layout}
-use Rattle.script_models.specs.Shape.{Numbers}
-use Rattle.script_models.specs.Reference.{Reference}
-use Rattle.script_models.specs.Reference.TheVariants as reference
-use Rattle.script_models.specs.Call.{Call}
-use Rattle.script_models.specs.Call.TheVariants as call
-use Rattle.script_models.specs.CallLine.{CallLine}
-use Rattle.script_models.specs.Answer.{Answer}
-use Rattle.script_models.specs.Answer.TheVariants as answer
+use Rattle.sh_key.specs.Layout.{Layout}
+use Rattle.sh_shape.specs.Shape.{Numbers}
+use Rattle.sh_script.specs.declared.calls.Reference.{Reference}
+use Rattle.sh_script.specs.declared.calls.Reference.TheVariants as reference
+use Rattle.sh_script.specs.declared.calls.Call.{Call}
+use Rattle.sh_script.specs.declared.calls.Call.TheVariants as call
+use Rattle.sh_script.specs.declared.calls.CallLine.{CallLine}
+use Rattle.script_output.specs.declared.answer.Answer.{Answer}
+use Rattle.script_output.specs.declared.answer.Answer.TheVariants as answer
 use Rattle.script_models.specs.PlainRun.{Run, CallDoes, at_turn, opening_run}
 use Rattle.script_heap.specs.Owners.{owned_after, nobody_owns}
 use Rattle.script_beside.specs.Beside.{RefusedAlone}

@@ -3,22 +3,22 @@
 -- the number of a key, and some refusals of an adopt or an insert.
 use Rattle.std.specs.Prelude.{◌≡◌, ℕ, ◌≤◌, Bool, true, false, List, [], ◌∷◌, ◌++◌, ◌⊎◌, length}
 use Rattle.std.specs.Prelude.{Option, Some, None, Result, Ok, Err}
-use Rattle.script_models.specs.Refusal.{Refusal}
-use Rattle.script_models.specs.Refusal.TheVariants as refusal
-use Rattle.script_models.specs.Layout.{Layout}
-use Rattle.script_models.specs.Shape.{Numbers}
-use Rattle.script_models.specs.Entry.TheVariants.{Insert}
-use Rattle.script_models.specs.Plain.{IsNewKey, with_added}
-use Rattle.script_models.specs.Call.{Call}
-use Rattle.script_models.specs.Call.TheVariants as call
-use Rattle.script_models.specs.CallLine.{CallLine}
-use Rattle.script_models.specs.Answer.{Answer}
-use Rattle.script_models.specs.Answer.TheVariants as answer
-use Rattle.script_models.specs.Keys.{shown}
+use Rattle.sh_value.specs.declared.refusal.Refusal.{Refusal}
+use Rattle.sh_value.specs.declared.refusal.Refusal.TheVariants as refusal
+use Rattle.sh_key.specs.Layout.{Layout}
+use Rattle.sh_shape.specs.Shape.{Numbers}
+use Rattle.sh_history.specs.declared.entry.Entry.TheVariants.{Insert}
+use Rattle.sh_plain.specs.Plain.{IsNewKey, with_added}
+use Rattle.sh_script.specs.declared.calls.Call.{Call}
+use Rattle.sh_script.specs.declared.calls.Call.TheVariants as call
+use Rattle.sh_script.specs.declared.calls.CallLine.{CallLine}
+use Rattle.script_output.specs.declared.answer.Answer.{Answer}
+use Rattle.script_output.specs.declared.answer.Answer.TheVariants as answer
+use Rattle.script_output.specs.Keys.{shown}
 use Rattle.script_models.specs.PlainRun.{Run, CallDoes, at_turn, has_shard, key_of, opening_run, adopt_answer}
 use Rattle.script_models.specs.PlainRun.{insert_attempt}
 use Rattle.script_heap.specs.Owners.{IsFree, IsOwned, owned_after, nobody_owns}
-use Rattle.script_heap.specs.Parts.{is_placed_key}
+use Rattle.script_calls.specs.Parts.{is_placed_key}
 
 -- ---- the numbers of keys
 

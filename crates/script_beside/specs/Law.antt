@@ -1,8 +1,8 @@
 -- The law: the answers of mode heap are beside those of mode plain.
 use Rattle.std.specs.Prelude.{ℕ, Bool, true, List}
 use Rattle.std.specs.List.{All}
-use Rattle.script_models.specs.HeaderMeaning.{layout_of}
-use Rattle.script_models.specs.CallLine.{CallLine}
+use Rattle.sh_script.specs.HeaderMeaning.{layout_of}
+use Rattle.sh_script.specs.declared.calls.CallLine.{CallLine}
 use Rattle.script_heap.specs.HeapOutput.{IsHeap}
 use Rattle.script_beside.specs.Beside.{AreBesidePlain}
 use Rattle.script_beside.specs.Along.{NamesKey, AreAlongPlain}

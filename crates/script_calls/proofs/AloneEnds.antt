@@ -5,8 +5,8 @@ use Rattle.std.specs.Prelude.{nat_lt, not}
 use Rattle.std.proofs.lemmas.Bool.Decides.{nat_tests}
 use Rattle.std.proofs.lemmas.Bool.{cases_lt}
 use Rattle.std.proofs.lemmas.List.Elements.{Contains-append_left}
-use Rattle.sh_pass.specs.Entry.{Entry}
-use Rattle.sh_pass.specs.Log.{Agrees, pass_of, entries_of}
+use Rattle.sh_history.specs.declared.entry.Entry.{Entry}
+use Rattle.sh_history.specs.Log.{Agrees, pass_of, entries_of}
 use Rattle.sh_script.specs.declared.calls.CallLine.{CallLine}
 use Rattle.sh_pass.specs.Passes.{Caller}
 use Rattle.script_calls.specs.Parts.{RunTerms, SeenPass, HasAllLogs, tale_told, passes_below}
@@ -21,10 +21,10 @@ use Rattle.script_calls.proofs.ListLemmas.{take_past, up_get}
 use Rattle.script_calls.proofs.NameLaws.{log_at}
 use Rattle.script_calls.proofs.OrderLemmas.{in_order}
 use Rattle.script_calls.proofs.InTurn.{tale_of_parts}
-use Rattle.sh_pass.specs.Seats.{Heap}
-use Rattle.sh_pass.specs.Tales.{by, Before}
-use Rattle.sh_pass.specs.Views.{Each}
-use Rattle.sh_pass.proofs.Zips.{zip_length}
+use Rattle.sh_table.specs.Seats.{Heap}
+use Rattle.sh_table.specs.Tales.{by, Before}
+use Rattle.sh_table.specs.Views.{Each}
+use Rattle.sh_table.proofs.Zips.{zip_length}
 
 none_by : (passes p : ℕ) → passes ≤ p → (es : List Entry) → entries_of (λ q. not (nat_lt q passes)) es ≡ []
     → by p es ≡ []

@@ -7,8 +7,8 @@ use Rattle.std.proofs.lemmas.List.Elements.{Contains-append_left, Contains-appen
 use Rattle.std.proofs.lemmas.Option.{slice_get_within}
 use mathlib.Core.Logic.{dite}
 use native.Mathlib.Decide.{ℕ_discrete}
-use Rattle.sh_pass.specs.Entry.{Entry}
-use Rattle.sh_pass.specs.LogEntry.{LogEntry}
+use Rattle.sh_history.specs.declared.entry.Entry.{Entry}
+use Rattle.sh_history.specs.declared.log.LogEntry.{LogEntry}
 use Rattle.sh_script.specs.declared.calls.CallLine.{CallLine}
 use Rattle.script_output.specs.declared.answer.Answer.{Answer}
 use Rattle.script_output.specs.Replies.{reply_line}
@@ -38,14 +38,14 @@ use Rattle.script_calls.proofs.OrderLemmas.{times_append, times_length, times_he
 use Rattle.script_calls.proofs.GrowLemmas.{grows}
 use Rattle.script_calls.proofs.InTurn.{begins_alone, answered_more, steps}
 use Rattle.script_calls.proofs.StepLaws.{lines_more, last_more, no_steps}
-use Rattle.sh_pass.specs.Heard.{Heard}
-use Rattle.sh_pass.specs.Order.{Order}
-use Rattle.sh_pass.specs.Seats.{Heap}
-use Rattle.sh_pass.specs.Tales.{Before}
-use Rattle.sh_pass.specs.Views.{Each, heard_in}
-use Rattle.sh_pass.proofs.Sums.Totals.{get_set_here}
-use Rattle.sh_pass.proofs.Standing.{contains_map}
-use Rattle.sh_pass.proofs.OrderLaws.{each_in}
+use Rattle.sh_table.specs.declared.view.Heard.{Heard}
+use Rattle.sh_table.specs.declared.view.Order.{Order}
+use Rattle.sh_table.specs.Seats.{Heap}
+use Rattle.sh_table.specs.Tales.{Before}
+use Rattle.sh_table.specs.Views.{Each, heard_in}
+use Rattle.sh_core.proofs.Sums.Totals.{get_set_here}
+use Rattle.sh_history.proofs.Standing.{contains_map}
+use Rattle.sh_table.proofs.OrderLaws.{each_in}
 
 -- ---- elements of lists
 

@@ -8,18 +8,18 @@ use Rattle.std.proofs.lemmas.Option.{none-some, same_Some, get_or_from_slice_get
 use mathlib.Core.Logic.{dite}
 use native.Mathlib.Decide.{ℕ_discrete}
 use Rattle.sh_value.specs.declared.refusal.Refusal.TheVariants as refusal
-use Rattle.sh_pass.specs.Entry.{Entry}
-use Rattle.sh_pass.specs.Entry.TheVariants.{Insert, Gone}
-use Rattle.sh_pass.specs.LogEntry.{LogEntry}
-use Rattle.sh_pass.specs.LogEntry.TheVariants.{Known}
-use Rattle.sh_pass.specs.History.{value_of, Allowed, Legal}
-use Rattle.sh_pass.specs.HistoryLaws.{HasRemoval}
-use Rattle.sh_pass.specs.Log.{Agrees, pass_of}
-use Rattle.sh_pass.proofs.HistoryLaws.{legal_after_parts}
-use Rattle.sh_pass.proofs.LogLaws.{value_of_insert}
-use Rattle.sh_pass.proofs.Standing.{splits_at, has_removal}
-use Rattle.sh_pass.specs.Tales.{by}
-use Rattle.sh_pass.proofs.Zips.{by_append}
+use Rattle.sh_history.specs.declared.entry.Entry.{Entry}
+use Rattle.sh_history.specs.declared.entry.Entry.TheVariants.{Insert, Gone}
+use Rattle.sh_history.specs.declared.log.LogEntry.{LogEntry}
+use Rattle.sh_history.specs.declared.log.LogEntry.TheVariants.{Known}
+use Rattle.sh_history.specs.History.{value_of, Allowed, Legal}
+use Rattle.sh_history.specs.Laws.{HasRemoval}
+use Rattle.sh_history.specs.Log.{Agrees, pass_of}
+use Rattle.sh_history.proofs.Laws.{legal_after_parts}
+use Rattle.sh_history.proofs.LogLaws.{value_of_insert}
+use Rattle.sh_history.proofs.Standing.{splits_at, has_removal}
+use Rattle.sh_table.specs.Tales.{by}
+use Rattle.sh_table.proofs.Zips.{by_append}
 use Rattle.sh_script.specs.declared.calls.Reference.TheVariants as reference
 use Rattle.sh_script.specs.declared.calls.Call.{Call}
 use Rattle.sh_script.specs.declared.calls.Call.TheVariants as call
@@ -35,7 +35,7 @@ use Rattle.script_calls.specs.Told.{part_told, IsTold, FollowsInsert, WasRemoved
 use Rattle.script_calls.specs.Told.{number_on}
 use Rattle.script_calls.specs.InOrder.{Precedes, adds_entry, adding_passes, entries_added, times}
 use Rattle.script_calls.specs.Named.{BindsNeeded, numbers_told}
-use Rattle.sh_pass.specs.Seats.{Heap}
+use Rattle.sh_table.specs.Seats.{Heap}
 use Rattle.script_calls.proofs.ListLemmas.{up_get}
 use Rattle.script_calls.proofs.LineLemmas.{part_here, part_there}
 use Rattle.script_calls.proofs.Newcomers.{get_middle}

@@ -5,10 +5,10 @@ use Rattle.std.proofs.Common.{Option, Some, None, Result, Ok, Err, length-append
 use Rattle.sh_value.specs.declared.hold.Hold.{Hold}
 use Rattle.sh_value.specs.declared.refusal.Refusal.{Refusal}
 use Rattle.sh_value.specs.declared.refusal.Refusal.TheVariants as refusal
-use Rattle.sh_pass.specs.Entry.{Entry}
-use Rattle.sh_pass.specs.LogEntry.{LogEntry}
-use Rattle.sh_pass.specs.LogEntry.TheVariants.{Known}
-use Rattle.sh_pass.specs.Log.{filled}
+use Rattle.sh_history.specs.declared.entry.Entry.{Entry}
+use Rattle.sh_history.specs.declared.log.LogEntry.{LogEntry}
+use Rattle.sh_history.specs.declared.log.LogEntry.TheVariants.{Known}
+use Rattle.sh_history.specs.Log.{filled}
 use Rattle.std.specs.Prelude.{ok_or}
 use Rattle.sh_script.specs.declared.calls.Reference.{Reference}
 use Rattle.sh_script.specs.declared.calls.Reference.TheVariants as reference
@@ -27,7 +27,7 @@ use Rattle.script_calls.specs.Calls.{remove_refusal}
 use Rattle.script_calls.specs.InOrder.{adds_entry, is_done_gone_or_crowded, is_done_or_gone, is_done, is_key}
 use Rattle.std.proofs.lemmas.Option.{none-some, same_Some}
 use Rattle.script_calls.proofs.Newcomers.{length_map}
-use Rattle.sh_pass.proofs.ByPlace.{get_front}
+use Rattle.sh_history.proofs.ByPlace.{get_front}
 
 -- what was known stays, in its place
 abbrev pub KeepsKnown : List LogEntry → List LogEntry → Type 0

@@ -7,12 +7,12 @@ use Rattle.std.proofs.lemmas.List.Elements.{Contains-append_left, Contains-appen
 use Rattle.std.proofs.lemmas.Option.{none-some, same_Some, slice_get_within}
 use mathlib.Core.Logic.{dite}
 use native.Mathlib.Decide.{ℕ_discrete}
-use Rattle.sh_pass.specs.Order.{Order}
-use Rattle.sh_pass.specs.Seats.{Heap}
-use Rattle.sh_pass.specs.Views.{heard_in}
-use Rattle.sh_pass.proofs.Sums.Totals.{get_set_here}
-use Rattle.sh_pass.proofs.Zips.{set_other}
-use Rattle.sh_pass.proofs.Standing.{contains_map}
+use Rattle.sh_table.specs.declared.view.Order.{Order}
+use Rattle.sh_table.specs.Seats.{Heap}
+use Rattle.sh_table.specs.Views.{heard_in}
+use Rattle.sh_core.proofs.Sums.Totals.{get_set_here}
+use Rattle.sh_table.proofs.Zips.{set_other}
+use Rattle.sh_history.proofs.Standing.{contains_map}
 use Rattle.sh_pass.specs.Passes.{Caller}
 use Rattle.script_calls.specs.OwnParts.{own_part}
 use Rattle.script_calls.specs.Parts.{RunTerms, SeenPass}

@@ -4,12 +4,12 @@ use Rattle.std.proofs.Common.{arith, ⊎_elim}
 use Rattle.std.specs.List.{Contains}
 use Rattle.std.proofs.lemmas.List.Elements.{Contains-append_left, Contains-append_right, Contains-append_cases}
 use Rattle.std.proofs.lemmas.List.Elements.{Contains-push}
-use Rattle.sh_pass.specs.Entry.{Entry}
-use Rattle.sh_pass.specs.LogEntry.{LogEntry}
-use Rattle.sh_pass.specs.Order.{Order}
-use Rattle.sh_pass.specs.Seats.{Heap}
-use Rattle.sh_pass.specs.Tales.{Before}
-use Rattle.sh_pass.specs.Views.{Each}
+use Rattle.sh_history.specs.declared.entry.Entry.{Entry}
+use Rattle.sh_history.specs.declared.log.LogEntry.{LogEntry}
+use Rattle.sh_table.specs.declared.view.Order.{Order}
+use Rattle.sh_table.specs.Seats.{Heap}
+use Rattle.sh_table.specs.Tales.{Before}
+use Rattle.sh_table.specs.Views.{Each}
 use Rattle.sh_pass.specs.Passes.{Caller}
 use Rattle.script_calls.specs.Parts.{RunTerms, SeenPass, HasAllLogs, tale_told}
 use Rattle.script_calls.specs.Receipts.{seen_of_receipt}
@@ -17,7 +17,7 @@ use Rattle.script_calls.specs.Meeting.{AllOfHeap, HasMet, KeepsOrders, orders_of
 use Rattle.script_calls.specs.Heeding.{HeedsInTurn, AllHeedInTurn}
 use Rattle.script_calls.specs.InOrder.{AllHeard, LastHeard}
 use Rattle.script_calls.proofs.NameLemmas.{may_log}
-use Rattle.sh_pass.proofs.OrderLaws.{each_in}
+use Rattle.sh_table.proofs.OrderLaws.{each_in}
 
 -- ---- each of them
 

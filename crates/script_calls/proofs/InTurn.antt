@@ -33,10 +33,10 @@ use Rattle.script_calls.proofs.HeardAll.{met_of_heard}
 use Rattle.script_calls.proofs.NameLaws.{named_by}
 use Rattle.script_calls.proofs.LineLemmas.{one_more, part_here, part_there}
 use Rattle.script_calls.proofs.Newcomers.{newcomers_length, newcomers_get, length_map}
-use Rattle.sh_pass.specs.Seats.{Heap}
+use Rattle.sh_table.specs.Seats.{Heap}
 use Rattle.sh_pass.specs.Passes.{Caller}
-use Rattle.sh_pass.proofs.Sums.Totals.{get_set_here}
-use Rattle.sh_pass.proofs.Zips.{set_other}
+use Rattle.sh_core.proofs.Sums.Totals.{get_set_here}
+use Rattle.sh_table.proofs.Zips.{set_other}
 
 -- ---- one more line
 

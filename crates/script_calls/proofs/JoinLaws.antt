@@ -4,12 +4,12 @@ use Rattle.std.specs.List.{Contains}
 use Rattle.std.proofs.lemmas.List.{map-append}
 use Rattle.std.proofs.lemmas.List.Elements.{Contains-append_left, Contains-append_right, Contains-append_cases}
 use Rattle.sh_key.specs.Layout.{Layout}
-use Rattle.sh_pass.specs.View.{View}
-use Rattle.sh_pass.specs.Views.{told_of, joined_view, order_of, heard_in}
-use Rattle.sh_pass.specs.Order.{Order}
+use Rattle.sh_table.specs.declared.view.View.{View}
+use Rattle.sh_table.specs.Views.{told_of, joined_view, order_of, heard_in}
+use Rattle.sh_table.specs.declared.view.Order.{Order}
 use Rattle.sh_pass.specs.Passes.{Caller}
 use Rattle.script_calls.specs.Parts.{PassTold, tale_told}
-use Rattle.sh_pass.specs.Told.{Told}
+use Rattle.sh_table.specs.declared.view.Told.{Told}
 use Rattle.script_calls.specs.Meeting.{KeepsOrders, parts_carried}
 use Rattle.script_calls.specs.Running.{seen_of_caller, log_told}
 

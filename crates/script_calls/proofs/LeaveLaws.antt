@@ -7,12 +7,12 @@ use Rattle.std.proofs.lemmas.Option.{none-some, same_Some, slice_get_within}
 use mathlib.Core.Logic.{dite}
 use native.Mathlib.Decide.{ℕ_discrete}
 use Rattle.sh_value.specs.declared.refusal.Refusal.TheVariants as refusal
-use Rattle.sh_pass.specs.Heard.{Heard}
-use Rattle.sh_pass.specs.Order.{Order}
-use Rattle.sh_pass.specs.Own.{Own}
-use Rattle.sh_pass.specs.Seats.{Heap}
-use Rattle.sh_pass.proofs.Sums.Totals.{get_set_here}
-use Rattle.sh_pass.proofs.Zips.{set_other}
+use Rattle.sh_table.specs.declared.view.Heard.{Heard}
+use Rattle.sh_table.specs.declared.view.Order.{Order}
+use Rattle.sh_table.specs.declared.view.Own.{Own}
+use Rattle.sh_table.specs.Seats.{Heap}
+use Rattle.sh_core.proofs.Sums.Totals.{get_set_here}
+use Rattle.sh_table.proofs.Zips.{set_other}
 use Rattle.sh_pass.specs.Passes.{Caller}
 use Rattle.sh_member.specs.Sides.{SideLeaves}
 use Rattle.script_calls.specs.OwnParts.{EndsWith, PartIsTrue, own_part, shape_in, steps_of}

@@ -3,8 +3,8 @@ use Rattle.std.proofs.Common.{◌≡◌, ℕ, zero, suc, ◌<◌, ◌≤◌, ◌
 use Rattle.std.proofs.Common.{slice_get, Some, refl, ap, sym, ◌∙◌, inl, inr, ⊎_elim, arith, length-append}
 use mathlib.Core.Logic.{dite}
 use native.Mathlib.Decide.{ℕ_discrete}
-use Rattle.sh_pass.proofs.ByPlace.{get_front, get_last}
-use Rattle.sh_pass.specs.Views.{Each}
+use Rattle.sh_history.proofs.ByPlace.{get_front, get_last}
+use Rattle.sh_table.specs.Views.{Each}
 use Rattle.std.proofs.lemmas.Option.{none-some, same_Some}
 use Rattle.script_calls.specs.Parts.{passes_below}
 

@@ -5,15 +5,15 @@ use Rattle.std.specs.Prelude.{nat_lt, not}
 use Rattle.std.specs.List.{All, Contains}
 use Rattle.std.proofs.lemmas.List.Elements.{All-head, All-tail}
 use Rattle.std.proofs.lemmas.List.Elements.{Contains-append_left, Contains-append_right, Contains-append_cases}
-use Rattle.sh_pass.specs.History.{Legal}
-use Rattle.sh_pass.specs.Log.{entries_of}
-use Rattle.sh_pass.specs.Order.{Order}
+use Rattle.sh_history.specs.History.{Legal}
+use Rattle.sh_history.specs.Log.{entries_of}
+use Rattle.sh_table.specs.declared.view.Order.{Order}
 use Rattle.script_calls.specs.Parts.{RunTerms, SeenPass, PassTold, SamePass, HasAllLogs, tale_told}
 use Rattle.script_calls.specs.Receipts.{HasOrderedTale}
 use Rattle.script_calls.specs.Meeting.{CarriesTale, MeetsCarrier, HasMet, tales_told, AllOfHeap, KeepsOrders}
 use Rattle.script_calls.specs.Meeting.{CarriesOrders, IsOfHeap, IsShardless, OwnsNone, orders_of}
 use Rattle.script_calls.proofs.ListLemmas.{map_more}
-use Rattle.sh_pass.specs.Seats.{Heap}
+use Rattle.sh_table.specs.Seats.{Heap}
 
 tales_more : (ss : List SeenPass) (s : SeenPass) → tales_told (ss ++ s ∷ []) ≡ tales_told ss ++ tale_told s
 tales_more [] s = append-nil (tale_told s)

@@ -5,11 +5,11 @@ use Rattle.std.proofs.lemmas.Option.{none-some, same_Some}
 use Rattle.sh_value.specs.declared.hold.Hold.{Hold}
 use Rattle.sh_value.specs.declared.refusal.Refusal.{Refusal}
 use Rattle.sh_key.specs.Layout.{Layout, first_key, key_count}
-use Rattle.sh_pass.specs.View.{View}
-use Rattle.sh_pass.specs.Tales.{ViewIsValid}
-use Rattle.sh_pass.specs.Together.{LeadsTogether}
+use Rattle.sh_table.specs.declared.view.View.{View}
+use Rattle.sh_table.specs.Tales.{ViewIsValid}
+use Rattle.sh_table.specs.Together.{LeadsTogether}
 use Rattle.sh_pass.specs.Passes.{Caller, GetDoes, ReadDoes, RemoveDoes, ReleaseDoes}
-use Rattle.sh_member.specs.Shards.{value_class}
+use Rattle.sh_shard.specs.Shards.{value_class}
 use Rattle.sh_member.specs.declared.member.Side.TheVariants.{Pass, Shard}
 use Rattle.sh_member.specs.SideBounds.{AdoptTakes}
 use Rattle.sh_member.specs.Sides.{SeenSide, SideDoes, SideInserts, SideAdopts, SideLeaves, SideIsValid, SideHeeds}

@@ -3,14 +3,14 @@ use Rattle.std.proofs.Common.{◌≡◌, ℕ, zero, suc, ◌≤◌, List, [], �
 use Rattle.std.proofs.Common.{Some, sym, ap, ◌∙◌, subst, arith, refl, length-append}
 use Rattle.std.specs.List.{Contains}
 use Rattle.std.proofs.lemmas.Option.{none-some, same_Some}
-use Rattle.sh_pass.specs.Entry.{Entry}
-use Rattle.sh_pass.specs.Log.{Agrees}
-use Rattle.sh_pass.specs.Heard.{Heard}
-use Rattle.sh_pass.specs.Order.{Order}
-use Rattle.sh_pass.specs.Seats.{Heap}
-use Rattle.sh_pass.specs.Tales.{by, Before, HasFirst}
-use Rattle.sh_pass.proofs.Zips.{zip_length}
-use Rattle.sh_pass.proofs.OrderLaws.{each_in}
+use Rattle.sh_history.specs.declared.entry.Entry.{Entry}
+use Rattle.sh_history.specs.Log.{Agrees}
+use Rattle.sh_table.specs.declared.view.Heard.{Heard}
+use Rattle.sh_table.specs.declared.view.Order.{Order}
+use Rattle.sh_table.specs.Seats.{Heap}
+use Rattle.sh_table.specs.Tales.{by, Before, HasFirst}
+use Rattle.sh_table.proofs.Zips.{zip_length}
+use Rattle.sh_table.proofs.OrderLaws.{each_in}
 use Rattle.sh_script.specs.declared.calls.CallLine.{CallLine}
 use Rattle.script_output.specs.declared.answer.Answer.{Answer}
 use Rattle.script_calls.specs.Parts.{RunTerms, SeenPass, PassPart, HasAllLogs, HasLogOf}

@@ -8,10 +8,10 @@ use Rattle.std.proofs.lemmas.List.Elements.{Contains-append_cases}
 use Rattle.std.proofs.lemmas.Option.{none-some, same_Some, slice_get_within}
 use mathlib.Core.Logic.{dite}
 use native.Mathlib.Decide.{ℕ_discrete}
-use Rattle.sh_pass.specs.LogEntry.{LogEntry}
-use Rattle.sh_pass.specs.Heard.{Heard}
-use Rattle.sh_pass.specs.Order.{Order}
-use Rattle.sh_pass.specs.Views.{heard_in}
+use Rattle.sh_history.specs.declared.log.LogEntry.{LogEntry}
+use Rattle.sh_table.specs.declared.view.Heard.{Heard}
+use Rattle.sh_table.specs.declared.view.Order.{Order}
+use Rattle.sh_table.specs.Views.{heard_in}
 use Rattle.sh_script.specs.BoundNames.{names_in}
 use Rattle.sh_script.specs.declared.calls.Call.{Call}
 use Rattle.sh_script.specs.declared.calls.CallLine.{CallLine}
@@ -30,7 +30,7 @@ use Rattle.script_calls.proofs.ListLemmas.{get_snoc, take_past}
 use Rattle.script_calls.proofs.LineLemmas.{part_here, part_there}
 use Rattle.script_calls.proofs.OrderLemmas.{times_length, times_here, times_else}
 use Rattle.script_calls.proofs.GrowLemmas.{grows}
-use Rattle.sh_pass.proofs.Standing.{contains_map}
+use Rattle.sh_history.proofs.Standing.{contains_map}
 
 -- ---- lists
 

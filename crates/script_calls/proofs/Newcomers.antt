@@ -8,7 +8,7 @@ use Rattle.script_calls.specs.Parts.{RunTerms, SeenPass, new_pass, new_passes}
 use Rattle.script_calls.specs.Parts.{passes_below}
 use Rattle.script_calls.specs.Finished.{heap_seen, terms_seen, AreAllNew}
 use Rattle.script_calls.proofs.ListLemmas.{get_snoc}
-use Rattle.sh_pass.specs.Seats.{Heap}
+use Rattle.sh_table.specs.Seats.{Heap}
 
 pub newcomers_length : (heap : Option Heap) (terms : RunTerms) (n : ℕ) → length (new_passes heap terms n) ≡ n
 newcomers_length heap terms zero = refl

@@ -5,11 +5,11 @@ use Rattle.std.proofs.Common.{eq-eqb, ne_eqb, inl, inr, ◌⊎◌, ⊎_elim}
 use mathlib.Core.Logic.{dite}
 use native.Mathlib.Decide.{ℕ_discrete}
 use Rattle.std.proofs.lemmas.List.Elements.{filter-append}
-use Rattle.sh_pass.specs.Entry.{Entry}
-use Rattle.sh_pass.specs.Log.{pass_of}
-use Rattle.sh_pass.specs.Tales.{by}
+use Rattle.sh_history.specs.declared.entry.Entry.{Entry}
+use Rattle.sh_history.specs.Log.{pass_of}
+use Rattle.sh_table.specs.Tales.{by}
 use Rattle.script_calls.specs.InOrder.{times, AllHeard}
-use Rattle.sh_pass.proofs.Zips.{by_append}
+use Rattle.sh_table.proofs.Zips.{by_append}
 
 -- ---- counts
 

@@ -8,8 +8,8 @@ use Rattle.sh_value.specs.declared.refusal.Refusal.TheVariants as refusal
 use Rattle.sh_key.specs.Layout.{Layout, first_key, key_count}
 use Rattle.sh_key.proofs.Packing.{keys_are_consecutive}
 use Rattle.sh_pass.specs.Owners.{IsKeyIn}
-use Rattle.sh_member.specs.Pages.{ShardLeft}
-use Rattle.sh_member.specs.Shards.{Sharded, AdoptServes, LeaveServes, InsertServes}
+use Rattle.sh_shard.specs.Pages.{ShardLeft}
+use Rattle.sh_shard.specs.Shards.{Sharded, AdoptServes, LeaveServes, InsertServes}
 use Rattle.sh_member.specs.SideBounds.{AdoptTakes}
 use Rattle.sh_pass.specs.Passes.{Caller}
 use Rattle.sh_member.specs.declared.member.Side.TheVariants.{Pass, Shard}

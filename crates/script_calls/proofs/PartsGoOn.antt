@@ -8,11 +8,11 @@ use Rattle.sh_value.specs.declared.hold.Hold.{Hold}
 use Rattle.sh_value.specs.declared.refusal.Refusal.{Refusal}
 use Rattle.sh_value.specs.declared.refusal.Refusal.TheVariants as refusal
 use Rattle.sh_key.specs.Layout.{Layout}
-use Rattle.sh_pass.specs.Footstep.{Footstep}
-use Rattle.sh_pass.specs.Own.{Own}
+use Rattle.sh_step.specs.declared.footstep.Footstep.{Footstep}
+use Rattle.sh_table.specs.declared.view.Own.{Own}
 use Rattle.sh_pass.specs.Growing.{GoesOn, SameTale}
 use Rattle.sh_pass.specs.Passes.{Caller, GetDoes, ReadDoes, RemoveDoes, ReleaseDoes}
-use Rattle.sh_member.specs.Pages.{AdoptRefused}
+use Rattle.sh_shard.specs.Pages.{AdoptRefused}
 use Rattle.sh_member.specs.declared.member.Side.TheVariants.{Pass, Shard}
 use Rattle.sh_member.specs.Sides.{SeenSide, SideDoes, SideAdopts, SideLeaves, SideInserts}
 use Rattle.sh_script.specs.declared.calls.Call.{Call}

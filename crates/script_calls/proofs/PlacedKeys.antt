@@ -5,12 +5,12 @@ use Rattle.std.specs.Prelude.{nat_lt, IsSome}
 use Rattle.std.proofs.lemmas.Option.{same_Some}
 use Rattle.sh_key.specs.declared.parts.Parts.{Parts}
 use Rattle.sh_key.specs.Layout.{Layout, unpacked}
-use Rattle.sh_pass.specs.Shape.{Numbers}
-use Rattle.sh_pass.specs.Places.{pages_of, page_number}
-use Rattle.sh_pass.specs.KeyRef.{KeyRef}
-use Rattle.sh_pass.specs.Moves.{has_place, place_named}
-use Rattle.sh_pass.specs.Plans.{plan_of, shard_of}
-use Rattle.sh_pass.proofs.NameLaws.{no_key, no_place, a_place}
+use Rattle.sh_shape.specs.Shape.{Numbers}
+use Rattle.sh_shape.specs.Places.{pages_of, page_number}
+use Rattle.sh_slots.specs.declared.hand.KeyRef.{KeyRef}
+use Rattle.sh_step.specs.Moves.{has_place, place_named}
+use Rattle.sh_step.specs.Plans.{plan_of, shard_of}
+use Rattle.sh_step.proofs.NameLaws.{no_key, no_place, a_place}
 use Rattle.sh_pass.proofs.OwnMay.{home_is}
 use Rattle.script_calls.specs.Parts.{is_placed_key, is_key_of_shard}
 

@@ -1,11 +1,11 @@
 -- What a receipt contains, and what a pass knows that heeded one.
 use Rattle.std.proofs.Common.{◌≡◌, ◌∷◌, ◌++◌, length, map, refl, sym, ap, subst, ◌∙◌, Some}
 use Rattle.sh_key.specs.Layout.{Layout}
-use Rattle.sh_pass.specs.Told.{Told}
-use Rattle.sh_pass.specs.Views.{done_by}
-use Rattle.sh_pass.specs.Order.{Order}
+use Rattle.sh_table.specs.declared.view.Told.{Told}
+use Rattle.sh_table.specs.Views.{done_by}
+use Rattle.sh_table.specs.declared.view.Order.{Order}
 use Rattle.sh_pass.specs.Receipts.{receipt_by, heeded}
-use Rattle.sh_member.specs.Shards.{Sharded, shard_heeded}
+use Rattle.sh_shard.specs.Shards.{Sharded, shard_heeded}
 use Rattle.sh_pass.specs.Passes.{Caller}
 use Rattle.script_calls.specs.OwnParts.{own_part, taken_in}
 use Rattle.script_calls.specs.Receipts.{seen_of_receipt, receipt_seen, Heeds}

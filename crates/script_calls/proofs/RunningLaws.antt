@@ -7,17 +7,17 @@ use Rattle.sh_value.specs.declared.hold.Hold.{Hold}
 use Rattle.sh_value.specs.declared.refusal.Refusal.{Refusal}
 use Rattle.sh_value.specs.declared.refusal.Refusal.TheVariants as refusal
 use Rattle.sh_key.specs.Layout.{Layout}
-use Rattle.sh_pass.specs.Shape.{Numbers}
-use Rattle.sh_pass.specs.Entry.TheVariants as entry
-use Rattle.sh_pass.specs.LogEntry.{LogEntry}
-use Rattle.sh_pass.specs.LogEntry.TheVariants.{Known, Unread}
-use Rattle.sh_pass.specs.Log.{filled, logged_holds_by, logged_hold_count}
-use Rattle.sh_pass.specs.Moves.{place_named}
-use Rattle.sh_pass.specs.Collections.{has}
-use Rattle.sh_pass.specs.Plans.{plan_of}
-use Rattle.sh_pass.specs.Lists.{times}
-use Rattle.sh_pass.proofs.Sums.ListCounts.{has_some, some_has}
-use Rattle.sh_pass.specs.Tales.{ViewIsValid}
+use Rattle.sh_shape.specs.Shape.{Numbers}
+use Rattle.sh_history.specs.declared.entry.Entry.TheVariants as entry
+use Rattle.sh_history.specs.declared.log.LogEntry.{LogEntry}
+use Rattle.sh_history.specs.declared.log.LogEntry.TheVariants.{Known, Unread}
+use Rattle.sh_history.specs.Log.{filled, logged_holds_by, logged_hold_count}
+use Rattle.sh_step.specs.Moves.{place_named}
+use Rattle.sh_step.specs.Collections.{has}
+use Rattle.sh_step.specs.Plans.{plan_of}
+use Rattle.sh_core.specs.Lists.{times}
+use Rattle.sh_core.proofs.Sums.ListCounts.{has_some, some_has}
+use Rattle.sh_table.specs.Tales.{ViewIsValid}
 use Rattle.sh_pass.proofs.SameTales.{same_now}
 use Rattle.sh_pass.specs.Growing.{SameTale}
 use Rattle.sh_pass.specs.Passes.{Caller, IsKeyOfHeap, GetDoes, ReadDoes, RemoveDoes, ReleaseDoes, holds}

@@ -6,9 +6,9 @@ use mathlib.Core.Logic.{dite}
 use native.Mathlib.Decide.{ℕ_discrete}
 use Rattle.sh_script.specs.declared.calls.CallLine.{CallLine}
 use Rattle.script_output.specs.declared.answer.Answer.{Answer}
-use Rattle.sh_pass.specs.Heard.{Heard}
-use Rattle.sh_pass.specs.Order.{Order}
-use Rattle.sh_pass.specs.Seats.{Heap}
+use Rattle.sh_table.specs.declared.view.Heard.{Heard}
+use Rattle.sh_table.specs.declared.view.Order.{Order}
+use Rattle.sh_table.specs.Seats.{Heap}
 use Rattle.sh_pass.specs.Passes.{Caller}
 use Rattle.script_calls.specs.OwnParts.{PartIsTrue, steps_of}
 use Rattle.script_calls.specs.Parts.{RunTerms, PassPart, SeenPass, SamePass}
@@ -23,7 +23,7 @@ use Rattle.script_calls.proofs.HearLaws.{orders_only, ordered_heard, own_heard}
 use Rattle.script_calls.proofs.LineLemmas.{part_here, part_there}
 use Rattle.script_calls.proofs.ListLemmas.{get_some, take_past}
 use Rattle.script_calls.proofs.NameLemmas.{heeded_order, orders_at, orders_set}
-use Rattle.sh_pass.proofs.Sums.Totals.{get_set_here}
+use Rattle.sh_core.proofs.Sums.Totals.{get_set_here}
 
 -- ---- more orders, and one more line
 

@@ -5,13 +5,13 @@ use Rattle.std.specs.Prelude.{nat_lt, not}
 use Rattle.std.proofs.lemmas.Bool.Decides.{nat_tests}
 use Rattle.std.specs.List.{All}
 use Rattle.sh_key.specs.Layout.{Layout}
-use Rattle.sh_pass.specs.Shape.{Numbers}
-use Rattle.sh_pass.specs.Entry.{Entry}
-use Rattle.sh_pass.specs.Log.{pass_of, entries_of}
-use Rattle.sh_pass.specs.Told.{Told}
-use Rattle.sh_pass.specs.Tales.{ViewIsValid, IsLogOf, Before, IsTale}
-use Rattle.sh_pass.specs.Views.{Each, names_told}
-use Rattle.sh_pass.specs.Whole.{IsWhole}
+use Rattle.sh_shape.specs.Shape.{Numbers}
+use Rattle.sh_history.specs.declared.entry.Entry.{Entry}
+use Rattle.sh_history.specs.Log.{pass_of, entries_of}
+use Rattle.sh_table.specs.declared.view.Told.{Told}
+use Rattle.sh_table.specs.Tales.{ViewIsValid, IsLogOf, Before, IsTale}
+use Rattle.sh_table.specs.Views.{Each, names_told}
+use Rattle.sh_table.specs.Whole.{IsWhole}
 use Rattle.sh_pass.specs.Passes.{Caller}
 use Rattle.script_calls.specs.Parts.{HasAllLogs, HasWholeTale, tale_told, told_pass, passes_below, heap_terms}
 use Rattle.sh_member.specs.Sides.{SeenSide}

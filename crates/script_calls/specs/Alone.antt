@@ -11,7 +11,7 @@ use Rattle.script_calls.specs.InOrder.{times, adding_passes, LastHeard}
 use Rattle.script_calls.specs.Meeting.{orders_of}
 use Rattle.script_calls.specs.Named.{NamesWereHeard}
 use Rattle.script_calls.specs.Stepping.{LinesHeard, LastHasSteps}
-use Rattle.sh_pass.specs.Seats.{Heap}
+use Rattle.sh_table.specs.Seats.{Heap}
 
 -- the last receipt, if there is one, is of this heap
 abbrev pub IsLastOf : Option Heap → Option Caller → Type 0

@@ -6,10 +6,10 @@ use Rattle.sh_value.specs.declared.hold.Hold.{Hold}
 use Rattle.sh_value.specs.declared.refusal.Refusal.{Refusal}
 use Rattle.sh_value.specs.declared.refusal.Refusal.TheVariants as refusal
 use Rattle.sh_key.specs.Layout.{first_key, key_count}
-use Rattle.sh_pass.specs.Entry.TheVariants.{Insert, Gone, Crowded, Removed, Released}
-use Rattle.sh_pass.specs.LogEntry.{LogEntry}
-use Rattle.sh_pass.specs.LogEntry.TheVariants.{Known}
-use Rattle.sh_pass.specs.Log.{IsGotBy, filled, AllHaveValue, logged_holds_by, logged_hold_count}
+use Rattle.sh_history.specs.declared.entry.Entry.TheVariants.{Insert, Gone, Crowded, Removed, Released}
+use Rattle.sh_history.specs.declared.log.LogEntry.{LogEntry}
+use Rattle.sh_history.specs.declared.log.LogEntry.TheVariants.{Known}
+use Rattle.sh_history.specs.Log.{IsGotBy, filled, AllHaveValue, logged_holds_by, logged_hold_count}
 pub use Rattle.sh_script.specs.BoundNames.{name_referred, name_used, binds}
 use Rattle.sh_script.specs.declared.calls.Reference.{Reference}
 use Rattle.sh_script.specs.declared.calls.Reference.TheVariants as reference

@@ -1,8 +1,8 @@
 -- Passes that hear of one another before they leave their shards and meet.
 use Rattle.std.specs.Prelude.{◌≡◌, ℕ, ◌<◌, ◌≤◌, List, [], length, take, slice_get, Option, Some, None}
 use Rattle.std.specs.List.{Contains}
-use Rattle.sh_pass.specs.Heard.{Heard}
-use Rattle.sh_pass.specs.Seats.{Heap}
+use Rattle.sh_table.specs.declared.view.Heard.{Heard}
+use Rattle.sh_table.specs.Seats.{Heap}
 use Rattle.sh_pass.specs.Passes.{Caller}
 use Rattle.script_calls.specs.Parts.{SeenPass}
 use Rattle.script_calls.specs.Receipts.{MayHeed, seen_of_receipt, order_seen, part_heard}

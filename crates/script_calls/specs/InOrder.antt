@@ -3,12 +3,12 @@ use Rattle.std.specs.Prelude.{◌≡◌, ℕ, ◌<◌, ◌≤◌, ◌==◌, Bool
 use Rattle.std.specs.Prelude.{Option, Some, None}
 use Rattle.std.specs.List.{Contains}
 use Rattle.sh_value.specs.declared.refusal.Refusal.TheVariants as refusal
-use Rattle.sh_pass.specs.Entry.{Entry}
-use Rattle.sh_pass.specs.Log.{pass_of}
-use Rattle.sh_pass.specs.Heard.{Heard}
-use Rattle.sh_pass.specs.Seats.{Heap}
-use Rattle.sh_pass.specs.Tales.{by, Before}
-use Rattle.sh_pass.specs.Views.{Each}
+use Rattle.sh_history.specs.declared.entry.Entry.{Entry}
+use Rattle.sh_history.specs.Log.{pass_of}
+use Rattle.sh_table.specs.declared.view.Heard.{Heard}
+use Rattle.sh_table.specs.Seats.{Heap}
+use Rattle.sh_table.specs.Tales.{by, Before}
+use Rattle.sh_table.specs.Views.{Each}
 use Rattle.sh_script.specs.declared.calls.Call.{Call}
 use Rattle.sh_script.specs.declared.calls.Call.TheVariants as call
 use Rattle.sh_script.specs.declared.calls.CallLine.{CallLine}

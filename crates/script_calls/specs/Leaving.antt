@@ -4,11 +4,11 @@ use Rattle.std.specs.Prelude.{◌≡◌, ◌≢◌, ◌⊎◌, ℕ, ◌<◌, ◌
 use Rattle.std.specs.Prelude.{IfSome, IfNone}
 use Rattle.std.specs.List.{All, Contains}
 use Rattle.sh_value.specs.declared.refusal.Refusal.TheVariants as refusal
-use Rattle.sh_pass.specs.Heard.{Heard}
-use Rattle.sh_pass.specs.Order.{Order}
-use Rattle.sh_pass.specs.Seats.{Heap}
-use Rattle.sh_pass.specs.Together.{LeadsTogether}
-use Rattle.sh_pass.specs.View.{View}
+use Rattle.sh_table.specs.declared.view.Heard.{Heard}
+use Rattle.sh_table.specs.declared.view.Order.{Order}
+use Rattle.sh_table.specs.Seats.{Heap}
+use Rattle.sh_table.specs.Together.{LeadsTogether}
+use Rattle.sh_table.specs.declared.view.View.{View}
 use Rattle.sh_pass.specs.Passes.{Caller}
 use Rattle.sh_member.specs.Sides.{SideLeaves}
 use Rattle.script_calls.specs.OwnParts.{EndsWith, PartIsTrue, own_part, shape_in, steps_of}

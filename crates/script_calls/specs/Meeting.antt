@@ -4,13 +4,13 @@ use Rattle.std.specs.List.{Contains}
 use Rattle.script_calls.specs.OwnParts.{EndsWith, own_part, taken_in}
 use Rattle.script_calls.specs.Parts.{RunTerms, PassPart, SeenPass, PassTold, HasWholeTale, tale_told}
 use Rattle.script_calls.specs.Receipts.{MayHeed, HeedsTwice}
-use Rattle.sh_pass.specs.Own.{Own}
+use Rattle.sh_table.specs.declared.view.Own.{Own}
 use Rattle.sh_pass.specs.Passes.{Caller}
-use Rattle.sh_pass.specs.Told.{Told}
-use Rattle.sh_pass.specs.Order.{Order}
-use Rattle.sh_pass.specs.Seats.{Heap}
-use Rattle.sh_pass.specs.Tales.{Before}
-use Rattle.sh_pass.specs.Views.{Each}
+use Rattle.sh_table.specs.declared.view.Told.{Told}
+use Rattle.sh_table.specs.declared.view.Order.{Order}
+use Rattle.sh_table.specs.Seats.{Heap}
+use Rattle.sh_table.specs.Tales.{Before}
+use Rattle.sh_table.specs.Views.{Each}
 
 -- the pass that carries the tale, if there is one yet
 abbrev pub CarriesTale : Option Heap → RunTerms → Option SeenPass → List PassTold → Type 0

@@ -2,9 +2,9 @@
 use Rattle.std.specs.Prelude.{◌≡◌, ℕ, ◌<◌, ◌≤◌, suc, true, cond, List, [], ◌∷◌, ◌++◌, take, length, slice_get}
 use Rattle.std.specs.Prelude.{Option, Some}
 use Rattle.std.specs.List.{Contains}
-use Rattle.sh_pass.specs.Entry.{Entry}
-use Rattle.sh_pass.specs.Heard.{Heard}
-use Rattle.sh_pass.specs.Order.{Order}
+use Rattle.sh_history.specs.declared.entry.Entry.{Entry}
+use Rattle.sh_table.specs.declared.view.Heard.{Heard}
+use Rattle.sh_table.specs.declared.view.Order.{Order}
 use Rattle.sh_script.specs.BoundNames.{name_needed, names_in}
 use Rattle.sh_script.specs.declared.calls.Call.{Call}
 use Rattle.sh_script.specs.declared.calls.CallLine.{CallLine}

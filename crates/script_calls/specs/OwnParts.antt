@@ -1,10 +1,10 @@
 -- The own part of a pass: what it knows of its own, its entries, and each of its steps with the word that it found.
 use Rattle.std.specs.Prelude.{◌≡◌, ℕ, List, length, Ok}
 use Rattle.sh_key.specs.Layout.{Layout}
-use Rattle.sh_pass.specs.Shape.{Numbers}
+use Rattle.sh_shape.specs.Shape.{Numbers}
 use Rattle.sh_pass.specs.Growing.{GoesOn}
-use Rattle.sh_pass.specs.Own.{Own}
-use Rattle.sh_pass.specs.Told.{Told}
+use Rattle.sh_table.specs.declared.view.Own.{Own}
+use Rattle.sh_table.specs.declared.view.Told.{Told}
 use Rattle.sh_member.specs.declared.member.Side.TheVariants.{Pass, Shard}
 use Rattle.sh_member.specs.Sides.{SeenSide, SideLeaves, SideIsValid}
 use Rattle.script_calls.specs.Parts.{PassPart}

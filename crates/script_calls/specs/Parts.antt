@@ -3,15 +3,15 @@ use Rattle.std.specs.Prelude.{◌≡◌, ℕ, zero, suc, ◌==◌, nat_lt, not, 
 use Rattle.std.specs.Prelude.{Option, Some, None}
 use Rattle.std.specs.List.{AllZip}
 use Rattle.sh_key.specs.Layout.{Layout, unpacked}
-use Rattle.sh_pass.specs.Shape.{Numbers}
-use Rattle.sh_pass.specs.Entry.{Entry}
-use Rattle.sh_pass.specs.LogEntry.{LogEntry}
-use Rattle.sh_pass.specs.History.{Legal}
-use Rattle.sh_pass.specs.Log.{Agrees, entries_of}
-use Rattle.sh_pass.specs.Moves.{has_place}
-use Rattle.sh_pass.specs.Order.{Order}
-use Rattle.sh_pass.specs.Seats.{Heap}
-use Rattle.sh_pass.specs.Views.{newly}
+use Rattle.sh_shape.specs.Shape.{Numbers}
+use Rattle.sh_history.specs.declared.entry.Entry.{Entry}
+use Rattle.sh_history.specs.declared.log.LogEntry.{LogEntry}
+use Rattle.sh_history.specs.History.{Legal}
+use Rattle.sh_history.specs.Log.{Agrees, entries_of}
+use Rattle.sh_step.specs.Moves.{has_place}
+use Rattle.sh_table.specs.declared.view.Order.{Order}
+use Rattle.sh_table.specs.Seats.{Heap}
+use Rattle.sh_table.specs.Views.{newly}
 use Rattle.sh_member.specs.declared.member.Side.TheVariants.{Pass, Shard}
 use Rattle.sh_member.specs.Sides.{SeenSide}
 

@@ -1,14 +1,14 @@
 -- Receipts, as a run of calls sees them: what one contains, and what a pass knows after it heeded one.
 use Rattle.std.specs.Prelude.{◌≡◌, ℕ, List, ◌∷◌, ◌++◌, ◌⊎◌, map, length, Option, Some}
-use Rattle.sh_pass.specs.Heard.{Heard}
-use Rattle.sh_pass.specs.Order.{Order}
-use Rattle.sh_pass.specs.Seats.{Heap}
-use Rattle.sh_pass.specs.Tales.{Before}
-use Rattle.sh_pass.specs.Views.{Each, done_by, heard_in}
-use Rattle.sh_pass.specs.Told.{Told}
+use Rattle.sh_table.specs.declared.view.Heard.{Heard}
+use Rattle.sh_table.specs.declared.view.Order.{Order}
+use Rattle.sh_table.specs.Seats.{Heap}
+use Rattle.sh_table.specs.Tales.{Before}
+use Rattle.sh_table.specs.Views.{Each, done_by, heard_in}
+use Rattle.sh_table.specs.declared.view.Told.{Told}
 use Rattle.sh_pass.specs.Passes.{Caller}
 use Rattle.sh_pass.specs.Receipts.{heeded}
-use Rattle.sh_member.specs.Shards.{shard_heeded}
+use Rattle.sh_shard.specs.Shards.{shard_heeded}
 use Rattle.sh_member.specs.declared.member.Side.TheVariants.{Pass, Shard}
 use Rattle.sh_member.specs.Sides.{SeenSide}
 use Rattle.script_calls.specs.OwnParts.{steps_of, taken_in}

@@ -1,9 +1,9 @@
 -- Passes and owners of the running heap, and members, which are either, as a run of calls sees them.
 use Rattle.std.specs.Prelude.{map, Some}
 use Rattle.sh_key.specs.Layout.{Layout}
-use Rattle.sh_pass.specs.Told.{Told}
+use Rattle.sh_table.specs.declared.view.Told.{Told}
 use Rattle.sh_pass.specs.Passes.{Caller}
-use Rattle.sh_member.specs.Shards.{Sharded}
+use Rattle.sh_shard.specs.Shards.{Sharded}
 use Rattle.sh_member.specs.declared.member.Side.TheVariants.{Pass, Shard}
 use Rattle.sh_member.specs.Sides.{SeenSide}
 use Rattle.script_calls.specs.Parts.{PassPart, PassTold, SeenPass, heap_terms, shard_owned}

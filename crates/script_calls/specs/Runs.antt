@@ -5,7 +5,7 @@ use Rattle.sh_script.specs.declared.calls.Call.{Call}
 use Rattle.sh_script.specs.declared.calls.CallLine.{CallLine}
 use Rattle.script_output.specs.declared.answer.Answer.{Answer}
 use Rattle.script_output.specs.Replies.{reply_line}
-use Rattle.sh_pass.specs.Seats.{Heap}
+use Rattle.sh_table.specs.Seats.{Heap}
 use Rattle.script_calls.specs.Parts.{RunTerms, PassPart, new_part}
 use Rattle.script_calls.specs.Receipts.{MayHeed}
 use Rattle.script_calls.specs.Calls.{CallAnswers, name_used, binds, number_told}

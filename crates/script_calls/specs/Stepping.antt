@@ -3,9 +3,9 @@ use Rattle.std.specs.Prelude.{◌≡◌, ℕ, ◌<◌, ◌≤◌, List, [], ◌�
 use Rattle.std.specs.List.{Contains}
 use Rattle.sh_script.specs.declared.calls.CallLine.{CallLine}
 use Rattle.script_output.specs.declared.answer.Answer.{Answer}
-use Rattle.sh_pass.specs.Heard.{Heard}
-use Rattle.sh_pass.specs.Order.{Order}
-use Rattle.sh_pass.specs.Seats.{Heap}
+use Rattle.sh_table.specs.declared.view.Heard.{Heard}
+use Rattle.sh_table.specs.declared.view.Order.{Order}
+use Rattle.sh_table.specs.Seats.{Heap}
 use Rattle.sh_pass.specs.Passes.{Caller}
 use Rattle.script_calls.specs.OwnParts.{PartIsTrue, steps_of}
 use Rattle.script_calls.specs.Parts.{RunTerms, PassPart}

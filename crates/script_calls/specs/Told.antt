@@ -3,11 +3,11 @@ use Rattle.std.specs.Prelude.{◌≡◌, ℕ, ◌<◌, ◌≤◌, Bool, true, Li
 use Rattle.std.specs.Prelude.{None}
 use Rattle.std.specs.List.{All, Contains}
 use Rattle.sh_value.specs.declared.refusal.Refusal.TheVariants as refusal
-use Rattle.sh_pass.specs.Entry.{Entry}
-use Rattle.sh_pass.specs.Entry.TheVariants.{Insert, Gone}
-use Rattle.sh_pass.specs.HistoryLaws.{HasRemoval}
-use Rattle.sh_pass.specs.Log.{pass_of}
-use Rattle.sh_pass.specs.Tales.{by}
+use Rattle.sh_history.specs.declared.entry.Entry.{Entry}
+use Rattle.sh_history.specs.declared.entry.Entry.TheVariants.{Insert, Gone}
+use Rattle.sh_history.specs.Laws.{HasRemoval}
+use Rattle.sh_history.specs.Log.{pass_of}
+use Rattle.sh_table.specs.Tales.{by}
 use Rattle.sh_script.specs.declared.calls.Call.{Call}
 use Rattle.sh_script.specs.declared.calls.Call.TheVariants as call
 use Rattle.sh_script.specs.declared.calls.CallLine.{CallLine}
@@ -17,7 +17,7 @@ use Rattle.script_output.specs.declared.answer.Answer.{Answer}
 use Rattle.script_output.specs.declared.answer.Answer.TheVariants as answer
 use Rattle.script_output.specs.Keys.{key_shown}
 use Rattle.script_output.specs.Replies.{replies_text}
-use Rattle.sh_pass.specs.Seats.{Heap}
+use Rattle.sh_table.specs.Seats.{Heap}
 use Rattle.script_calls.specs.Parts.{RunTerms, PassPart, PassTold, HasWholeTale, passes_below}
 use Rattle.script_calls.specs.InOrder.{IsInOrder, entries_added}
 use Rattle.script_calls.specs.Named.{NamesComeFirst, BindsNeeded, numbers_told}

@@ -2,7 +2,7 @@
 ghost use Rattle.std.specs.Prelude.{true, ◌≡◌, Option, ◌<◌, IfOk, IfErr, map, option_map};
 ghost use Rattle.std.specs.List.{All};
 ghost use Rattle.sh_script.specs.declared.calls.CallLine.{CallLine};
-ghost use Rattle.sh_pass.specs.Seats.{Heap};
+ghost use Rattle.sh_table.specs.Seats.{Heap};
 ghost use Rattle.script_output.specs.Keys.{HasTagRoom};
 ghost use Rattle.script_calls.specs.Parts.{RunTerms, new_passes};
 ghost use Rattle.script_calls.specs.Finished.{heap_seen, terms_seen, AreAllNew, LinesRan};

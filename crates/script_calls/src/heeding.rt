@@ -1,6 +1,6 @@
 //! Passes that hear of one another before they leave their shards and meet.
 ghost use Rattle.std.specs.Prelude.{Option, map};
-ghost use Rattle.sh_pass.specs.Seats.{Heap};
+ghost use Rattle.sh_table.specs.Seats.{Heap};
 ghost use Rattle.script_calls.specs.Parts.{RunTerms};
 ghost use Rattle.script_calls.specs.Alone.{IsLastOf, HeedsLast};
 ghost use Rattle.script_calls.specs.Heeding.{AllHeedInTurn, LastKnows};

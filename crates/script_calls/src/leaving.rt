@@ -1,6 +1,6 @@
 //! Passes that leave their shards, one after the other, and then meet.
 ghost use Rattle.std.specs.Prelude.{◌≡◌, true, false, Option, None, Err, IfOk, IfErr, map, option_map};
-ghost use Rattle.sh_pass.specs.Seats.{Heap};
+ghost use Rattle.sh_table.specs.Seats.{Heap};
 ghost use Rattle.sh_member.specs.Sides.{SideLeaves};
 ghost use Rattle.script_calls.specs.OwnParts.{EndsWith, own_part};
 ghost use Rattle.script_calls.specs.Parts.{RunTerms, SamePass};

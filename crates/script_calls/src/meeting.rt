@@ -1,7 +1,7 @@
 //! Passes that meet.
 ghost use Rattle.std.specs.Prelude.{◌≡◌, [], Option, None, IfSome, IfNone, map, option_map};
 ghost use Rattle.std.specs.List.{All};
-ghost use Rattle.sh_pass.specs.Seats.{Heap};
+ghost use Rattle.sh_table.specs.Seats.{Heap};
 ghost use Rattle.script_calls.specs.Parts.{RunTerms};
 ghost use Rattle.script_calls.specs.Meeting.{MeetsCarrier, OwnsNone, IsOfHeap, HasMet, tales_told};
 ghost use Rattle.script_calls.specs.Meeting.{AllOfHeap, orders_of, JoinsParts, CarriesOwn, IsShardless};

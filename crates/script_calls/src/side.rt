@@ -4,7 +4,7 @@ ghost use Rattle.sh_key.specs.Layout.{first_key, key_count};
 ghost use Rattle.script_calls.specs.Parts.{SeenPass, SamePass, tale_told};
 ghost use Rattle.script_calls.specs.Calls.{AdoptAnswers, LeaveAnswers, InsertAnswers, GetAnswers, ReadAnswers};
 ghost use Rattle.script_calls.specs.Calls.{RemoveAnswers, ReleaseAnswers};
-ghost use Rattle.sh_pass.specs.Together.{LeadsTogether};
+ghost use Rattle.sh_table.specs.Together.{LeadsTogether};
 ghost use Rattle.script_calls.specs.Meeting.{KeepsOrders, OpensFor, BindsSide, parts_carried};
 ghost use Rattle.script_calls.specs.OwnParts.{PartIsTrue, shape_in};
 ghost use Rattle.script_calls.specs.Receipts.{seen_of_receipt, receipt_seen, Heeds, HasOrderedTale};

@@ -6,28 +6,28 @@ use Rattle.std.specs.Prelude.{count_by, replicate}
 use Rattle.std.proofs.lemmas.Bool.{cases_eq}
 use Rattle.std.proofs.lemmas.Option.{none-some, same_Some, slice_get_within}
 use Rattle.sh_shape.specs.declared.places.Place.TheVariants.{Class}
-use Rattle.sh_core.specs.Action.{Action}
-use Rattle.sh_core.specs.Event.{Event}
-use Rattle.sh_core.specs.Body.{Body}
-use Rattle.sh_core.specs.Footstep.{Footstep}
-use Rattle.sh_core.specs.Move.{Move}
-use Rattle.sh_core.specs.Move.TheVariants as move
-use Rattle.sh_core.specs.Hand.TheVariants.{Idle, Leaving, ToPut}
-use Rattle.sh_core.specs.Collections.{if1, noted}
-use Rattle.sh_core.specs.Conditions.{May, action_of}
-use Rattle.sh_core.specs.Footsteps.{footstep_of}
-use Rattle.sh_core.specs.Moves.{row, row_of}
-use Rattle.sh_core.specs.Operations.{operate}
-use Rattle.sh_core.specs.Parts.{newcomer}
-use Rattle.sh_core.specs.Plans.{Plan}
-use Rattle.sh_core.specs.Rows.{Row, hand, own, look_place}
+use Rattle.sh_step.specs.declared.action.Action.{Action}
+use Rattle.sh_step.specs.declared.action.Event.{Event}
+use Rattle.sh_step.specs.declared.body.Body.{Body}
+use Rattle.sh_step.specs.declared.footstep.Footstep.{Footstep}
+use Rattle.sh_step.specs.declared.moves.Move.{Move}
+use Rattle.sh_step.specs.declared.moves.Move.TheVariants as move
+use Rattle.sh_slots.specs.declared.hand.Hand.TheVariants.{Idle, Leaving, ToPut}
+use Rattle.sh_step.specs.Collections.{if1, noted}
+use Rattle.sh_step.specs.Conditions.{May, action_of}
+use Rattle.sh_step.specs.Footsteps.{footstep_of}
+use Rattle.sh_step.specs.Moves.{row, row_of}
+use Rattle.sh_step.specs.Operations.{operate}
+use Rattle.sh_step.specs.Parts.{newcomer}
+use Rattle.sh_step.specs.Plans.{Plan}
+use Rattle.sh_step.specs.Rows.{Row, hand, own, look_place}
 use Rattle.sh_core.specs.Outcomes.{row_of_event}
-use Rattle.sh_core.specs.Slots.{live_at, has_room, is_reusable_after, slot_ref_of}
+use Rattle.sh_slots.specs.Slots.{live_at, has_room, is_reusable_after, slot_ref_of}
 use Rattle.sh_core.specs.Trails.{trail_of}
 use Rattle.sh_core.specs.Words.{Words, put, read, write}
 use Rattle.sh_core.specs.Worlds.{World, apply, run, open_world}
-use Rattle.sh_core.proofs.ConditionLaws.{move_of_row}
-use Rattle.sh_core.proofs.FootstepLaws.{counts_grow}
+use Rattle.sh_step.proofs.ConditionLaws.{move_of_row}
+use Rattle.sh_step.proofs.FootstepLaws.{counts_grow}
 use Rattle.sh_core.proofs.Sums.Tests.{cond_either}
 use Rattle.sh_core.proofs.Sums.Totals.{get_set}
 use Rattle.sh_core.proofs.Sums.Writes.{put_same, put_other, write_same}
@@ -217,7 +217,7 @@ module _ (plan : Plan) (few : (es : List Event) → length (run plan es).parts �
           → Counted (run plan (es ++ e ∷ [])) (trail_of plan (es ++ e ∷ []))
       by_row None is = skips (row_of_at plan (run plan es) e p at ∙ is)
       by_row (Some r) is = done (move_of_row plan p e.action r is) where
-        done : (m : Move) × (Rattle.sh_core.specs.Moves.move_of plan p e.action ≡ Some m) × May plan p m
+        done : (m : Move) × (Rattle.sh_step.specs.Moves.move_of plan p e.action ≡ Some m) × May plan p m
             × (action_of plan m ≡ e.action) × (r ≡ row_of plan p m)
             → Counted (run plan (es ++ e ∷ [])) (trail_of plan (es ++ e ∷ []))
         done (m, _, may, act, same) =

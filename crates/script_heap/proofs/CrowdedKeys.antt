@@ -9,32 +9,32 @@ use Rattle.std.proofs.lemmas.List.{length-append}
 use Rattle.std.proofs.lemmas.Option.{none-some, slice_get_within}
 use Rattle.sh_key.specs.Layout.{Layout, IsLayout}
 use Rattle.sh_shape.specs.Shape.{Numbers, IsShape, Fits}
-use Rattle.sh_core.specs.Body.{Body}
-use Rattle.sh_core.specs.Collections.{total, if1}
-use Rattle.sh_core.specs.Conditions.{May}
-use Rattle.sh_core.specs.Event.{Event}
-use Rattle.sh_core.specs.Fields.{Fields, fields_of}
-use Rattle.sh_core.specs.Footsteps.{footstep_of}
-use Rattle.sh_core.specs.Hand.TheVariants.{Idle}
-use Rattle.sh_core.specs.KeyRef.{KeyRef}
+use Rattle.sh_step.specs.declared.body.Body.{Body}
+use Rattle.sh_step.specs.Collections.{total, if1}
+use Rattle.sh_step.specs.Conditions.{May}
+use Rattle.sh_step.specs.declared.action.Event.{Event}
+use Rattle.sh_word.specs.Fields.{Fields, fields_of}
+use Rattle.sh_step.specs.Footsteps.{footstep_of}
+use Rattle.sh_slots.specs.declared.hand.Hand.TheVariants.{Idle}
+use Rattle.sh_slots.specs.declared.hand.KeyRef.{KeyRef}
 use Rattle.sh_core.specs.Lists.{lists_of, state_of, times}
-use Rattle.sh_core.specs.Move.{Move}
-use Rattle.sh_core.specs.Move.TheVariants as move
-use Rattle.sh_core.specs.Moves.{row, row_of}
+use Rattle.sh_step.specs.declared.moves.Move.{Move}
+use Rattle.sh_step.specs.declared.moves.Move.TheVariants as move
+use Rattle.sh_step.specs.Moves.{row, row_of}
 use Rattle.sh_core.specs.Outcomes.{row_of_event}
-use Rattle.sh_core.specs.Plans.{Plan, plan_of, keys_of}
+use Rattle.sh_step.specs.Plans.{Plan, plan_of, keys_of}
 use Rattle.sh_core.specs.Quiet.{Quiet}
 use Rattle.sh_core.specs.Refines.{Refines, holds_now}
-use Rattle.sh_core.specs.Rows.{Row}
-use Rattle.sh_core.specs.SlotRef.{SlotRef}
-use Rattle.sh_core.specs.Slots.{same_slot, slot_ref_of, live_at, past_at, has_room, value_seen}
+use Rattle.sh_step.specs.Rows.{Row}
+use Rattle.sh_slots.specs.declared.hand.SlotRef.{SlotRef}
+use Rattle.sh_slots.specs.Slots.{same_slot, slot_ref_of, live_at, past_at, has_room, value_seen}
 use Rattle.sh_core.specs.Tallies.{at_slot, current, visits}
 use Rattle.sh_core.specs.Trails.{trail_of}
 use Rattle.sh_core.specs.Words.{read}
 use Rattle.sh_core.specs.Worlds.{World, step, apply, run, run_from, open_world, entry, entry_of, joined, value_at_place}
 use Rattle.sh_core.proofs.Clauses.LayoutLaws.{plan_lawful}
 use Rattle.sh_core.proofs.Clauses.RunTheorem.{theorem}
-use Rattle.sh_core.proofs.ConditionLaws.{move_of_row}
+use Rattle.sh_step.proofs.ConditionLaws.{move_of_row}
 use Rattle.sh_core.proofs.Quiet.{none_of}
 use Rattle.sh_core.proofs.Slots.Logs.{live_parts}
 use Rattle.sh_core.proofs.Slots.MarkStep.{same_key}
@@ -44,9 +44,9 @@ use Rattle.sh_core.proofs.WaitFree.{skipped, step_applies}
 use Rattle.sh_core.proofs.Words.Stepping.{row_of_past}
 use Rattle.sh_core.proofs.Words.Steps.{run_snoc, row_of_at, trail_grows}
 use Rattle.sh_core.proofs.Words.Trails.{trails_lengthen}
-use Rattle.sh_pass.specs.Entry.{Entry}
-use Rattle.sh_pass.specs.Entry.TheVariants.{Insert, Got, Gone, Crowded, Removed, Released, Seen}
-use Rattle.sh_pass.specs.History.{holds_on}
+use Rattle.sh_history.specs.declared.entry.Entry.{Entry}
+use Rattle.sh_history.specs.declared.entry.Entry.TheVariants.{Insert, Got, Gone, Crowded, Removed, Released, Seen}
+use Rattle.sh_history.specs.History.{holds_on}
 use Rattle.sh_slots.specs.declared.reply.Reply.{Reply}
 use Rattle.sh_slots.specs.declared.reply.Reply.TheVariants as reply
 use Rattle.script_heap.specs.Crowding.{CrowdedIsExact}

@@ -6,17 +6,17 @@ use Rattle.std.proofs.lemmas.List.{length-append}
 use Rattle.std.proofs.lemmas.List.Elements.{All-head, All-tail}
 use Rattle.sh_key.specs.Layout.{Layout, IsLayout}
 use Rattle.sh_shape.specs.Shape.{Numbers, IsShape, Fits}
-use Rattle.sh_core.specs.Event.{Event}
-use Rattle.sh_core.specs.Footstep.{Footstep}
-use Rattle.sh_core.specs.Plans.{Plan, plan_of}
+use Rattle.sh_step.specs.declared.action.Event.{Event}
+use Rattle.sh_step.specs.declared.footstep.Footstep.{Footstep}
+use Rattle.sh_step.specs.Plans.{Plan, plan_of}
 use Rattle.sh_core.specs.Trails.{trail_of, log_of}
 use Rattle.sh_core.specs.Worlds.{run}
 use Rattle.sh_core.proofs.Clauses.RunTheorem.{theorem}
 use Rattle.sh_core.proofs.Entries.{entries, log_goes_on}
-use Rattle.sh_pass.specs.Entry.{Entry}
-use Rattle.sh_pass.specs.Log.{Agrees, entries_of, pass_of}
-use Rattle.sh_pass.specs.LogEntry.{LogEntry}
-use Rattle.sh_pass.proofs.Zips.{by_append}
+use Rattle.sh_history.specs.declared.entry.Entry.{Entry}
+use Rattle.sh_history.specs.Log.{Agrees, entries_of, pass_of}
+use Rattle.sh_history.specs.declared.log.LogEntry.{LogEntry}
+use Rattle.sh_table.proofs.Zips.{by_append}
 use Rattle.sh_script.specs.declared.calls.CallLine.{CallLine}
 use Rattle.script_output.specs.declared.answer.Answer.{Answer}
 use Rattle.script_calls.specs.OwnParts.{own_part}

@@ -8,22 +8,22 @@ use Rattle.sh_value.specs.declared.refusal.Refusal.{Refusal}
 use Rattle.sh_value.specs.declared.refusal.Refusal.TheVariants as refusal
 use Rattle.sh_key.specs.Layout.{Layout, IsLayout}
 use Rattle.sh_shape.specs.Shape.{Numbers, IsShape, Fits}
-use Rattle.sh_core.specs.Body.{Body}
-use Rattle.sh_core.specs.Collections.{noted}
-use Rattle.sh_core.specs.Event.{Event}
-use Rattle.sh_core.specs.Places.{pages_of, page_number as number_of}
-use Rattle.sh_core.specs.Plans.{Plan, plan_of, shard_of, page_number}
+use Rattle.sh_step.specs.declared.body.Body.{Body}
+use Rattle.sh_step.specs.Collections.{noted}
+use Rattle.sh_step.specs.declared.action.Event.{Event}
+use Rattle.sh_shape.specs.Places.{pages_of, page_number as number_of}
+use Rattle.sh_step.specs.Plans.{Plan, plan_of, shard_of, page_number}
 use Rattle.sh_core.specs.Refines.{OwnPartIsValid}
-use Rattle.sh_core.specs.Rows.{own, owned_by}
+use Rattle.sh_step.specs.Rows.{own, owned_by}
 use Rattle.sh_core.specs.Trails.{trail_of}
 use Rattle.sh_core.specs.Worlds.{World, run}
 use Rattle.sh_core.proofs.Clauses.RunTheorem.{theorem}
-use Rattle.sh_pass.specs.Own.{Own}
+use Rattle.sh_table.specs.declared.view.Own.{Own}
 use Rattle.sh_pass.specs.Passes.{Caller}
-use Rattle.sh_pass.specs.Seats.{Heap}
-use Rattle.sh_pass.specs.Views.{fresh}
-use Rattle.sh_member.specs.Pages.{BarePage, page_at}
-use Rattle.sh_member.specs.Shards.{Sharded, shard_heeded}
+use Rattle.sh_table.specs.Seats.{Heap}
+use Rattle.sh_table.specs.Views.{fresh}
+use Rattle.sh_shard.specs.Pages.{BarePage, page_at}
+use Rattle.sh_shard.specs.Shards.{Sharded, shard_heeded}
 use Rattle.sh_member.specs.SideBounds.{AdoptTakes}
 use Rattle.sh_member.specs.declared.member.Side.TheVariants.{Pass, Shard}
 use Rattle.sh_member.specs.Sides.{SeenSide, SideAdopts, SideInserts}

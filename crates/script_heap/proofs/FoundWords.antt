@@ -7,20 +7,20 @@ use Rattle.std.proofs.lemmas.List.{length-append}
 use Rattle.std.proofs.lemmas.Option.{none-some, slice_get_within}
 use Rattle.sh_shape.specs.declared.places.Place.{Place}
 use Rattle.sh_shape.specs.declared.places.Place.TheVariants.{Owner}
-use Rattle.sh_core.specs.Action.{Action}
-use Rattle.sh_core.specs.Action.TheVariants.{Adopt}
-use Rattle.sh_core.specs.Event.{Event}
-use Rattle.sh_core.specs.Body.{Body}
-use Rattle.sh_core.specs.Footstep.{Footstep}
-use Rattle.sh_core.specs.Operation.{Operation}
-use Rattle.sh_core.specs.Operation.TheVariants.{FetchAdd, FetchSub, FetchOr, Swap, Store}
-use Rattle.sh_core.specs.Operation.TheVariants.{CompareExchange, Load}
-use Rattle.sh_core.specs.Footsteps.{footstep_of, at_owner, did_find, meets_owner}
-use Rattle.sh_core.specs.Moves.{row}
-use Rattle.sh_core.specs.Operations.{answer}
-use Rattle.sh_core.specs.Plans.{Plan}
-use Rattle.sh_core.specs.Rows.{Row}
-use Rattle.sh_core.proofs.Truths.{and2}
+use Rattle.sh_step.specs.declared.action.Action.{Action}
+use Rattle.sh_step.specs.declared.action.Action.TheVariants.{Adopt}
+use Rattle.sh_step.specs.declared.action.Event.{Event}
+use Rattle.sh_step.specs.declared.body.Body.{Body}
+use Rattle.sh_step.specs.declared.footstep.Footstep.{Footstep}
+use Rattle.sh_step.specs.declared.operation.Operation.{Operation}
+use Rattle.sh_step.specs.declared.operation.Operation.TheVariants.{FetchAdd, FetchSub, FetchOr, Swap, Store}
+use Rattle.sh_step.specs.declared.operation.Operation.TheVariants.{CompareExchange, Load}
+use Rattle.sh_step.specs.Footsteps.{footstep_of, at_owner, did_find, meets_owner}
+use Rattle.sh_step.specs.Moves.{row}
+use Rattle.sh_step.specs.Operations.{answer}
+use Rattle.sh_step.specs.Plans.{Plan}
+use Rattle.sh_step.specs.Rows.{Row}
+use Rattle.sh_step.proofs.Truths.{and2}
 use Rattle.sh_core.specs.Outcomes.{row_of_event}
 use Rattle.sh_core.specs.Trails.{trail_of}
 use Rattle.sh_core.specs.Words.{Words, read}

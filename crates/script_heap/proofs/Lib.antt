@@ -20,7 +20,3 @@ pub mod PageSums
 pub mod NoLines
 pub mod FirstInsert
 pub mod SmallScripts
-pub use Rattle.script_calls.proofs.GrowLemmas
-pub use Rattle.script_calls.proofs.LineLemmas
-pub use Rattle.script_calls.proofs.NameLemmas
-pub use Rattle.script_calls.proofs.PlacedKeys

@@ -4,11 +4,11 @@ use Rattle.std.proofs.Common.{subst, arith, append-nil, append_assoc, ⊎_elim}
 use Rattle.std.specs.List.{Contains}
 use mathlib.Core.Logic.{dite}
 use native.Mathlib.Decide.{ℕ_discrete}
-use Rattle.sh_core.specs.Event.{Event}
-use Rattle.sh_core.specs.Plans.{Plan}
-use Rattle.sh_pass.specs.Order.{Order}
-use Rattle.sh_pass.specs.Reached.{StepsBefore}
-use Rattle.sh_pass.specs.Views.{Each}
+use Rattle.sh_step.specs.declared.action.Event.{Event}
+use Rattle.sh_step.specs.Plans.{Plan}
+use Rattle.sh_table.specs.declared.view.Order.{Order}
+use Rattle.sh_table.specs.Reached.{StepsBefore}
+use Rattle.sh_table.specs.Views.{Each}
 use Rattle.sh_quiet.proofs.Cuts.{CutBefore, Heard, compare, done, done_more, heard_early, heard_cut as cut_heard}
 
 cancel : (xs ys zs : List Event) → xs ++ ys ≡ xs ++ zs → ys ≡ zs

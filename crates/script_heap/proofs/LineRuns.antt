@@ -6,23 +6,23 @@ use mathlib.Core.Logic.{dite}
 use native.Mathlib.Decide.{ℕ_discrete}
 use Rattle.sh_key.specs.Layout.{Layout}
 use Rattle.sh_shape.specs.Shape.{Numbers}
-use Rattle.sh_core.specs.Hand.TheVariants.{Idle}
-use Rattle.sh_core.specs.Places.{pages_of}
-use Rattle.sh_core.specs.Event.{Event}
-use Rattle.sh_core.specs.Body.{Body}
-use Rattle.sh_core.specs.Footstep.{Footstep}
-use Rattle.sh_core.specs.Footsteps.{bell_met}
-use Rattle.sh_core.specs.Parts.{newcomer}
-use Rattle.sh_core.specs.Plans.{Plan, plan_of}
+use Rattle.sh_slots.specs.declared.hand.Hand.TheVariants.{Idle}
+use Rattle.sh_shape.specs.Places.{pages_of}
+use Rattle.sh_step.specs.declared.action.Event.{Event}
+use Rattle.sh_step.specs.declared.body.Body.{Body}
+use Rattle.sh_step.specs.declared.footstep.Footstep.{Footstep}
+use Rattle.sh_step.specs.Footsteps.{bell_met}
+use Rattle.sh_step.specs.Parts.{newcomer}
+use Rattle.sh_step.specs.Plans.{Plan, plan_of}
 use Rattle.sh_core.specs.Trails.{trail_of, body_by, decided}
 use Rattle.sh_core.proofs.Entries.{steps_make_entries}
 use Rattle.sh_core.proofs.Replays.{steps_make_parts}
 use Rattle.sh_core.proofs.Words.Trails.{trail_goes_on}
-use Rattle.sh_pass.specs.LogEntry.{LogEntry}
-use Rattle.sh_pass.specs.Order.{Order}
-use Rattle.sh_pass.specs.Reached.{StepsBefore}
-use Rattle.sh_pass.specs.Seats.{Heap}
-use Rattle.sh_pass.specs.Views.{Each}
+use Rattle.sh_history.specs.declared.log.LogEntry.{LogEntry}
+use Rattle.sh_table.specs.declared.view.Order.{Order}
+use Rattle.sh_table.specs.Reached.{StepsBefore}
+use Rattle.sh_table.specs.Seats.{Heap}
+use Rattle.sh_table.specs.Views.{Each}
 use Rattle.sh_pass.specs.Growing.{GoesOn}
 use Rattle.sh_pass.specs.Owners.{SeenBell}
 use Rattle.sh_member.specs.declared.member.Side.TheVariants.{Pass, Shard}

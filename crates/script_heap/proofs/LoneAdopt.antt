@@ -5,13 +5,13 @@ use Rattle.sh_key.specs.Layout.{Layout}
 use Rattle.sh_shape.specs.Shape.{Numbers}
 use Rattle.sh_value.specs.declared.refusal.Refusal.{Refusal}
 use Rattle.sh_value.specs.declared.refusal.Refusal.TheVariants as refusal
-use Rattle.sh_core.specs.Event.{Event}
-use Rattle.sh_core.specs.Footsteps.{owner_met}
-use Rattle.sh_core.specs.Plans.{plan_of}
+use Rattle.sh_step.specs.declared.action.Event.{Event}
+use Rattle.sh_step.specs.Footsteps.{owner_met}
+use Rattle.sh_step.specs.Plans.{plan_of}
 use Rattle.sh_core.specs.Trails.{trail_of}
-use Rattle.sh_pass.specs.Own.{Own}
-use Rattle.sh_pass.specs.Seats.{Heap}
-use Rattle.sh_pass.specs.Views.{fresh, newly}
+use Rattle.sh_table.specs.declared.view.Own.{Own}
+use Rattle.sh_table.specs.Seats.{Heap}
+use Rattle.sh_table.specs.Views.{fresh, newly}
 use Rattle.sh_pass.specs.Passes.{Caller}
 use Rattle.sh_pass.specs.Receipts.{heeded}
 use Rattle.script_output.specs.declared.answer.Answer.{Answer}

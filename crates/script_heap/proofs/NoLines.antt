@@ -8,9 +8,9 @@ use Rattle.sh_key.specs.Layout.{Layout, IsLayout}
 use Rattle.sh_shape.specs.Shape.{Numbers, IsShape, Fits}
 use Rattle.sh_shape.specs.Places.{page_number, pages_of}
 use Rattle.sh_core.specs.declared.accounts.Accounts.{Accounts}
-use Rattle.sh_core.specs.Event.{Event}
+use Rattle.sh_step.specs.declared.action.Event.{Event}
 use Rattle.sh_core.specs.Lists.{PutLists, accounts, class_named, lists_of}
-use Rattle.sh_core.specs.Plans.{Plan, plan_of}
+use Rattle.sh_step.specs.Plans.{Plan, plan_of}
 use Rattle.sh_core.specs.Trails.{trail_of}
 use Rattle.sh_core.specs.Worlds.{World, run}
 use Rattle.sh_core.proofs.Clauses.RunTheorem.{theorem}

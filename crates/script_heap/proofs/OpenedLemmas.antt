@@ -4,7 +4,7 @@ use Rattle.std.specs.List.{All}
 use Rattle.sh_key.specs.Layout.{Layout}
 use Rattle.sh_shape.specs.Shape.{IsShape}
 use Rattle.sh_script.specs.declared.calls.CallLine.{CallLine}
-use Rattle.sh_pass.specs.Seats.{Heap}
+use Rattle.sh_table.specs.Seats.{Heap}
 use Rattle.script_output.specs.Keys.{HasTagRoom}
 use Rattle.script_calls.specs.Parts.{SeenPass, RunTerms, new_passes, heap_terms}
 use Rattle.script_calls.specs.Finished.{heap_seen, terms_seen, AreAllNew, LinesRan}

@@ -13,15 +13,15 @@ use Rattle.sh_value.specs.declared.refusal.Refusal.{Refusal}
 use Rattle.sh_value.specs.declared.refusal.Refusal.TheVariants as refusal
 use Rattle.sh_key.specs.Layout.{Layout, IsLayout}
 use Rattle.sh_shape.specs.Shape.{Numbers, IsShape, Fits}
-use Rattle.sh_core.specs.Hand.TheVariants.{Idle}
-use Rattle.sh_core.specs.Event.{Event}
-use Rattle.sh_core.specs.Body.{Body}
-use Rattle.sh_core.specs.Footstep.{Footstep}
-use Rattle.sh_core.specs.Collections.{if1}
-use Rattle.sh_core.specs.Footsteps.{meets_owner, owner_met}
-use Rattle.sh_core.specs.Parts.{newcomer}
-use Rattle.sh_core.specs.Plans.{Plan, plan_of}
-use Rattle.sh_core.proofs.FootstepLaws.{counts_grow}
+use Rattle.sh_slots.specs.declared.hand.Hand.TheVariants.{Idle}
+use Rattle.sh_step.specs.declared.action.Event.{Event}
+use Rattle.sh_step.specs.declared.body.Body.{Body}
+use Rattle.sh_step.specs.declared.footstep.Footstep.{Footstep}
+use Rattle.sh_step.specs.Collections.{if1}
+use Rattle.sh_step.specs.Footsteps.{meets_owner, owner_met}
+use Rattle.sh_step.specs.Parts.{newcomer}
+use Rattle.sh_step.specs.Plans.{Plan, plan_of}
+use Rattle.sh_step.proofs.FootstepLaws.{counts_grow}
 use Rattle.sh_core.specs.Lists.{lists_of}
 use Rattle.sh_core.specs.Quiet.{Quiet}
 use Rattle.sh_core.specs.Refines.{Refines}
@@ -30,12 +30,12 @@ use Rattle.sh_core.specs.Worlds.{run}
 use Rattle.sh_core.proofs.Clauses.RunTheorem.{theorem}
 use Rattle.sh_core.proofs.Replays.{steps_make_parts}
 use Rattle.sh_core.proofs.Sums.Tests.{if1_one}
-use Rattle.sh_pass.specs.Own.{Own}
+use Rattle.sh_table.specs.declared.view.Own.{Own}
 use Rattle.sh_pass.specs.Owners.{FoundFree, finds_free}
 use Rattle.sh_pass.specs.Passes.{Caller}
-use Rattle.sh_member.specs.Leaving.{Waiting}
-use Rattle.sh_member.specs.Pages.{AdoptRefused}
-use Rattle.sh_member.specs.Shards.{Sharded}
+use Rattle.sh_shard.specs.Leaving.{Waiting}
+use Rattle.sh_shard.specs.Pages.{AdoptRefused}
+use Rattle.sh_shard.specs.Shards.{Sharded}
 use Rattle.sh_quiet.proofs.Exact.{Goes}
 use Rattle.sh_quiet.proofs.Leaves.{never_waits}
 use Rattle.sh_quiet.proofs.Working.{SeesBell}

@@ -1,7 +1,7 @@
 -- The pages of a shard by their numbers over the whole heap.
 use Rattle.std.proofs.Common.{◌≡◌, ℕ, ◌<◌}
 use Rattle.std.proofs.lemmas.Nat.{div-mul-add}
-use Rattle.sh_core.specs.Plans.{Plan, shard_of, page_number}
+use Rattle.sh_step.specs.Plans.{Plan, shard_of, page_number}
 
 -- page p of shard k is of shard k
 pub home_number : (plan : Plan) (k p : ℕ) → p < plan.pages → shard_of plan (page_number plan k p) ≡ k

@@ -4,8 +4,8 @@ use Rattle.std.proofs.Common.{[], ◌∷◌, cond, length, refl, ap, ◌∙◌, 
 use Rattle.std.proofs.lemmas.List.Sums.{sum_by-append}
 use Rattle.sh_shape.specs.declared.places.Place.{Place}
 use Rattle.sh_shape.specs.declared.places.Place.TheVariants.{Class}
-use Rattle.sh_core.specs.Footstep.{Footstep}
-use Rattle.sh_core.specs.Collections.{if1}
+use Rattle.sh_step.specs.declared.footstep.Footstep.{Footstep}
+use Rattle.sh_step.specs.Collections.{if1}
 use Rattle.script_heap.proofs.ClassSteps.{on_class, class_steps}
 
 -- the sum over the numbers below n

@@ -8,16 +8,16 @@ use Rattle.sh_key.specs.Layout.{Layout, IsLayout}
 use Rattle.sh_shape.specs.Classes.{slots}
 use Rattle.sh_shape.specs.Shape.{Numbers, IsShape, Fits}
 use Rattle.sh_shape.proofs.ClassLaws.{slots_few}
-use Rattle.sh_core.specs.Event.{Event}
-use Rattle.sh_core.specs.Body.{Body}
-use Rattle.sh_core.specs.Collections.{has, noted}
-use Rattle.sh_core.specs.KeyRef.{KeyRef}
-use Rattle.sh_core.specs.SlotRef.{SlotRef}
-use Rattle.sh_core.specs.Slots.{same_slot, slot_ref_of}
-use Rattle.sh_core.specs.Moves.{place_named}
-use Rattle.sh_core.specs.Places.{pages_of}
-use Rattle.sh_core.specs.Plans.{Plan, plan_of, keys_of, heap_pages, shard_of, page_number}
-use Rattle.sh_core.specs.Rows.{own, owned_by}
+use Rattle.sh_step.specs.declared.action.Event.{Event}
+use Rattle.sh_step.specs.declared.body.Body.{Body}
+use Rattle.sh_step.specs.Collections.{has, noted}
+use Rattle.sh_slots.specs.declared.hand.KeyRef.{KeyRef}
+use Rattle.sh_slots.specs.declared.hand.SlotRef.{SlotRef}
+use Rattle.sh_slots.specs.Slots.{same_slot, slot_ref_of}
+use Rattle.sh_step.specs.Moves.{place_named}
+use Rattle.sh_shape.specs.Places.{pages_of}
+use Rattle.sh_step.specs.Plans.{Plan, plan_of, keys_of, heap_pages, shard_of, page_number}
+use Rattle.sh_step.specs.Rows.{own, owned_by}
 use Rattle.sh_core.specs.Lists.{lists_of, mine_at, slots_under, state_of}
 use Rattle.sh_core.specs.Quiet.{Quiet}
 use Rattle.sh_core.specs.Refines.{Refines, OwnPartIsValid, mine, kind_count}
@@ -28,12 +28,12 @@ use Rattle.sh_core.proofs.Sums.ListCounts.{has_some}
 use Rattle.sh_core.proofs.Sums.Tests.{if1_few}
 use Rattle.sh_core.proofs.Sums.Totals.{total_at}
 use Rattle.sh_core.proofs.UsedSlots.{UsedAs, says_same, used_there, was_free, is_of_class}
-use Rattle.sh_pass.specs.Entry.TheVariants.{Insert}
-use Rattle.sh_pass.specs.Own.{Own}
+use Rattle.sh_history.specs.declared.entry.Entry.TheVariants.{Insert}
+use Rattle.sh_table.specs.declared.view.Own.{Own}
 use Rattle.sh_pass.specs.Owners.{heap_page, own_body}
-use Rattle.sh_member.specs.Pages.{WhollyMine, page_at, shard_page}
-use Rattle.sh_member.specs.Shards.{Sharded, NoneLeft, IsSpare, IsBlank, IsNextFor, NextAfterSearch, FindsPage, FoundFor}
-use Rattle.sh_member.specs.Shards.{StaysOwner}
+use Rattle.sh_shard.specs.Pages.{WhollyMine, page_at, shard_page}
+use Rattle.sh_shard.specs.Shards.{Sharded, NoneLeft, IsSpare, IsBlank, IsNextFor, NextAfterSearch, FindsPage, FoundFor}
+use Rattle.sh_shard.specs.Shards.{StaysOwner}
 use Rattle.sh_member.specs.declared.member.Side.TheVariants.{Shard}
 use Rattle.sh_member.specs.Sides.{SeenSide}
 use Rattle.sh_quiet.specs.Quiescence.{IsUsed}

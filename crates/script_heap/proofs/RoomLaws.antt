@@ -9,14 +9,14 @@ use Rattle.sh_value.specs.declared.refusal.Refusal.{Refusal}
 use Rattle.sh_value.specs.declared.refusal.Refusal.TheVariants as refusal
 use Rattle.sh_key.specs.Layout.{Layout, IsLayout}
 use Rattle.sh_shape.specs.Shape.{Numbers, IsShape, Fits}
-use Rattle.sh_core.specs.Event.{Event}
-use Rattle.sh_core.specs.Hand.TheVariants.{Idle}
-use Rattle.sh_core.specs.Body.{Body}
-use Rattle.sh_core.specs.Places.{pages_of}
-use Rattle.sh_core.specs.Collections.{has, noted}
-use Rattle.sh_core.specs.Slots.{same_slot}
-use Rattle.sh_core.specs.Plans.{Plan, plan_of, shard_of, page_number}
-use Rattle.sh_core.specs.Rows.{own, owned_by}
+use Rattle.sh_step.specs.declared.action.Event.{Event}
+use Rattle.sh_slots.specs.declared.hand.Hand.TheVariants.{Idle}
+use Rattle.sh_step.specs.declared.body.Body.{Body}
+use Rattle.sh_shape.specs.Places.{pages_of}
+use Rattle.sh_step.specs.Collections.{has, noted}
+use Rattle.sh_slots.specs.Slots.{same_slot}
+use Rattle.sh_step.specs.Plans.{Plan, plan_of, shard_of, page_number}
+use Rattle.sh_step.specs.Rows.{own, owned_by}
 use Rattle.sh_core.specs.Lists.{lists_of}
 use Rattle.sh_core.specs.Quiet.{Quiet}
 use Rattle.sh_core.specs.Refines.{Refines, OwnPartIsValid, mine}
@@ -24,8 +24,8 @@ use Rattle.sh_core.specs.Stacks.{slot_ref}
 use Rattle.sh_core.specs.Worlds.{World, run}
 use Rattle.sh_core.proofs.Clauses.RunTheorem.{theorem}
 use Rattle.sh_pass.specs.Owners.{heap_page, own_body}
-use Rattle.sh_member.specs.Pages.{Paged, KnowsWords, WhollyMine, page_at, shard_page}
-use Rattle.sh_member.specs.Shards.{Sharded, NoneLeft, StaysOwner, InsertServes, value_class}
+use Rattle.sh_shard.specs.Pages.{Paged, KnowsWords, WhollyMine, page_at, shard_page}
+use Rattle.sh_shard.specs.Shards.{Sharded, NoneLeft, StaysOwner, InsertServes, value_class}
 use Rattle.sh_member.specs.declared.member.Side.TheVariants.{Pass, Shard}
 use Rattle.sh_member.specs.Sides.{SeenSide, SideInserts}
 use Rattle.sh_quiet.specs.Quiescence.{IsUsed}

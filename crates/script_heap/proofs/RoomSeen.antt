@@ -9,14 +9,14 @@ use Rattle.sh_value.specs.declared.refusal.Refusal.{Refusal}
 use Rattle.sh_value.specs.declared.refusal.Refusal.TheVariants as refusal
 use Rattle.sh_key.specs.Layout.{Layout, IsLayout}
 use Rattle.sh_shape.specs.Shape.{Numbers, IsShape, Fits}
-use Rattle.sh_core.specs.Event.{Event}
-use Rattle.sh_core.specs.Plans.{Plan, plan_of}
+use Rattle.sh_step.specs.declared.action.Event.{Event}
+use Rattle.sh_step.specs.Plans.{Plan, plan_of}
 use Rattle.sh_core.specs.Worlds.{run}
-use Rattle.sh_pass.specs.Entry.{Entry}
-use Rattle.sh_pass.specs.Entry.TheVariants.{Insert}
-use Rattle.sh_pass.specs.LogEntry.TheVariants.{Known}
-use Rattle.sh_pass.specs.Log.{Agrees, entries_of}
-use Rattle.sh_member.specs.Shards.{Sharded, StaysOwner, InsertServes, value_class}
+use Rattle.sh_history.specs.declared.entry.Entry.{Entry}
+use Rattle.sh_history.specs.declared.entry.Entry.TheVariants.{Insert}
+use Rattle.sh_history.specs.declared.log.LogEntry.TheVariants.{Known}
+use Rattle.sh_history.specs.Log.{Agrees, entries_of}
+use Rattle.sh_shard.specs.Shards.{Sharded, StaysOwner, InsertServes, value_class}
 use Rattle.sh_member.specs.declared.member.Side.TheVariants.{Pass, Shard}
 use Rattle.sh_member.specs.Sides.{SeenSide, SideInserts}
 use Rattle.sh_script.specs.declared.calls.Call.{Call}

@@ -12,26 +12,26 @@ use native.Mathlib.Decide.{ℕ_discrete}
 use Rattle.sh_value.specs.declared.refusal.Refusal.TheVariants as refusal
 use Rattle.sh_key.specs.Layout.{Layout}
 use Rattle.sh_shape.specs.Shape.{Numbers, IsShape}
-use Rattle.sh_core.specs.Hand.TheVariants.{Idle}
-use Rattle.sh_core.specs.Event.{Event}
-use Rattle.sh_core.specs.Body.{Body}
-use Rattle.sh_core.specs.Footstep.{Footstep}
-use Rattle.sh_core.specs.Parts.{newcomer}
-use Rattle.sh_core.specs.Plans.{Plan, plan_of}
+use Rattle.sh_slots.specs.declared.hand.Hand.TheVariants.{Idle}
+use Rattle.sh_step.specs.declared.action.Event.{Event}
+use Rattle.sh_step.specs.declared.body.Body.{Body}
+use Rattle.sh_step.specs.declared.footstep.Footstep.{Footstep}
+use Rattle.sh_step.specs.Parts.{newcomer}
+use Rattle.sh_step.specs.Plans.{Plan, plan_of}
 use Rattle.sh_core.specs.Quiet.{Quiet}
 use Rattle.sh_core.specs.Trails.{trail_of, body_by}
 use Rattle.sh_core.specs.Worlds.{run}
 use Rattle.sh_core.proofs.Clauses.RunTheorem.{theorem}
 use Rattle.sh_core.proofs.Replays.{steps_make_parts}
 use Rattle.sh_core.proofs.Words.Trails.{trail_goes_on}
-use Rattle.sh_pass.specs.Order.{Order}
-use Rattle.sh_pass.specs.Reached.{HasOwn}
-use Rattle.sh_pass.specs.Seats.{Heap}
-use Rattle.sh_pass.specs.Together.{LeadsTogether}
-use Rattle.sh_pass.specs.Told.{Told}
-use Rattle.sh_pass.specs.View.{View}
-use Rattle.sh_pass.proofs.OrderLaws.{each_in}
-use Rattle.sh_member.specs.Shards.{Sharded}
+use Rattle.sh_table.specs.declared.view.Order.{Order}
+use Rattle.sh_table.specs.Reached.{HasOwn}
+use Rattle.sh_table.specs.Seats.{Heap}
+use Rattle.sh_table.specs.Together.{LeadsTogether}
+use Rattle.sh_table.specs.declared.view.Told.{Told}
+use Rattle.sh_table.specs.declared.view.View.{View}
+use Rattle.sh_table.proofs.OrderLaws.{each_in}
+use Rattle.sh_shard.specs.Shards.{Sharded}
 use Rattle.sh_member.specs.declared.member.Side.TheVariants.{Pass, Shard}
 use Rattle.sh_member.specs.Sides.{SeenSide, SideLeaves}
 use Rattle.sh_quiet.proofs.Cuts.{CutBefore, same_front}

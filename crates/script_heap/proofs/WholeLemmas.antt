@@ -3,20 +3,20 @@ use Rattle.std.proofs.Common.{◌≡◌, ℕ, zero, suc, ◌++◌, Bool, true, f
 use Rattle.std.proofs.Common.{Option, Some, Result, Ok, Err, OnOk, append-nil}
 use Rattle.std.proofs.lemmas.Option.{same_Some}
 use Rattle.sh_key.specs.Layout.{Layout}
-use Rattle.sh_pass.specs.Entry.{Entry}
+use Rattle.sh_history.specs.declared.entry.Entry.{Entry}
 use Rattle.sh_shape.specs.Shape.{Numbers}
 use Rattle.sh_shape.specs.Places.{page_number}
-use Rattle.sh_core.specs.Event.{Event}
-use Rattle.sh_core.specs.Plans.{plan_of}
+use Rattle.sh_step.specs.declared.action.Event.{Event}
+use Rattle.sh_step.specs.Plans.{plan_of}
 use Rattle.sh_core.specs.Worlds.{run}
-use Rattle.sh_pass.specs.View.{View}
+use Rattle.sh_table.specs.declared.view.View.{View}
 use Rattle.sh_script.specs.declared.calls.CallLine.{CallLine}
-use Rattle.sh_pass.specs.Seats.{Heap}
-use Rattle.sh_pass.specs.Tales.{Before}
-use Rattle.sh_pass.specs.Whole.{IsWhole}
-use Rattle.sh_pass.specs.Views.{Each, newly}
-use Rattle.sh_pass.specs.Told.{Told}
-use Rattle.sh_pass.specs.Reached.{HasOwn, StepsBefore}
+use Rattle.sh_table.specs.Seats.{Heap}
+use Rattle.sh_table.specs.Tales.{Before}
+use Rattle.sh_table.specs.Whole.{IsWhole}
+use Rattle.sh_table.specs.Views.{Each, newly}
+use Rattle.sh_table.specs.declared.view.Told.{Told}
+use Rattle.sh_table.specs.Reached.{HasOwn, StepsBefore}
 use Rattle.std.specs.List.{All}
 use Rattle.std.proofs.lemmas.List.Elements.{All-nil, All-cons, All-contains}
 use Rattle.std.specs.Prelude.{◌<◌}

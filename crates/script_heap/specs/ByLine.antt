@@ -1,10 +1,10 @@
 -- The run of the core that the lines of a run in one thread are: their steps, one line after the other.
 use Rattle.std.specs.Prelude.{◌≡◌, ℕ, ◌<◌, List, [], ◌∷◌, ◌++◌, length, Option, Some, slice_get}
-use Rattle.sh_core.specs.Hand.TheVariants.{Idle}
-use Rattle.sh_core.specs.Places.{pages_of}
-use Rattle.sh_core.specs.Event.{Event}
-use Rattle.sh_core.specs.Footsteps.{bell_takes, bell_met}
-use Rattle.sh_core.specs.Plans.{Plan}
+use Rattle.sh_slots.specs.declared.hand.Hand.TheVariants.{Idle}
+use Rattle.sh_shape.specs.Places.{pages_of}
+use Rattle.sh_step.specs.declared.action.Event.{Event}
+use Rattle.sh_step.specs.Footsteps.{bell_takes, bell_met}
+use Rattle.sh_step.specs.Plans.{Plan}
 use Rattle.sh_core.specs.Trails.{trail_of, log_of}
 use Rattle.sh_core.specs.Worlds.{run}
 use Rattle.sh_member.specs.declared.member.Side.TheVariants.{Pass, Shard}

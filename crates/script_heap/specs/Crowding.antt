@@ -3,9 +3,9 @@ use Rattle.std.specs.Prelude.{◌≡◌, ℕ, ◌<◌, Bool, true, List, ◌∷�
 use Rattle.std.specs.List.{All}
 use Rattle.sh_key.specs.Layout.{Layout, IsLayout}
 use Rattle.sh_shape.specs.Shape.{Numbers, IsShape, Fits}
-use Rattle.sh_pass.specs.Entry.{Entry}
-use Rattle.sh_pass.specs.Entry.TheVariants.{Crowded}
-use Rattle.sh_pass.specs.History.{holds_on}
+use Rattle.sh_history.specs.declared.entry.Entry.{Entry}
+use Rattle.sh_history.specs.declared.entry.Entry.TheVariants.{Crowded}
+use Rattle.sh_history.specs.History.{holds_on}
 use Rattle.sh_script.specs.declared.calls.CallLine.{CallLine}
 use Rattle.script_heap.specs.HeapOutput.{IsHeapOutput}
 

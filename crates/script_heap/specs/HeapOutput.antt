@@ -4,22 +4,22 @@ use Rattle.std.specs.Prelude.{◌≡◌, ℕ, ◌<◌, Bool, true, false, List, 
 use Rattle.std.specs.List.{All}
 use Rattle.sh_key.specs.Layout.{Layout}
 use Rattle.sh_shape.specs.Shape.{Numbers}
-use Rattle.sh_pass.specs.Entry.{Entry}
-use Rattle.sh_core.specs.Event.{Event}
-use Rattle.sh_core.specs.Plans.{plan_of}
+use Rattle.sh_history.specs.declared.entry.Entry.{Entry}
+use Rattle.sh_step.specs.declared.action.Event.{Event}
+use Rattle.sh_step.specs.Plans.{plan_of}
 use Rattle.sh_core.specs.Worlds.{run}
 use Rattle.sh_script.specs.HeaderMeaning.{layout_of}
 use Rattle.sh_script.specs.Scripts.{IsCalls}
 use Rattle.sh_script.specs.declared.calls.CallLine.{CallLine}
 use Rattle.sh_script.specs.declared.header.Header.{Header}
-use Rattle.sh_pass.specs.Order.{Order}
-use Rattle.sh_pass.specs.Seats.{Heap}
-use Rattle.sh_pass.specs.Tales.{Before}
-use Rattle.sh_pass.specs.Views.{Each}
-use Rattle.sh_pass.specs.Own.{Own}
-use Rattle.sh_pass.specs.Told.{Told}
-use Rattle.sh_pass.specs.Reached.{HasOwn, StepsBefore}
-use Rattle.sh_core.specs.Plans.{Plan}
+use Rattle.sh_table.specs.declared.view.Order.{Order}
+use Rattle.sh_table.specs.Seats.{Heap}
+use Rattle.sh_table.specs.Tales.{Before}
+use Rattle.sh_table.specs.Views.{Each}
+use Rattle.sh_table.specs.declared.view.Own.{Own}
+use Rattle.sh_table.specs.declared.view.Told.{Told}
+use Rattle.sh_table.specs.Reached.{HasOwn, StepsBefore}
+use Rattle.sh_step.specs.Plans.{Plan}
 use Rattle.script_calls.specs.OwnParts.{EndsWith}
 use Rattle.script_calls.specs.Parts.{PassPart, PassTold, HasWholeTale, heap_terms}
 use Rattle.script_calls.specs.Receipts.{HeedsTwice}

@@ -5,16 +5,3 @@ pub mod OwnSteps
 pub mod Owners
 pub mod Rooms
 pub mod Crowding
-pub use Rattle.sh_core.specs.KeyRef
-pub use Rattle.sh_pass.specs.Passes
-pub use Rattle.sh_pass.specs.Seats
-pub use Rattle.sh_member.specs.Pages
-pub use Rattle.sh_member.specs.Shards
-pub use Rattle.sh_member.specs.declared.member.Side
-pub use Rattle.sh_member.specs.Sides
-pub use Rattle.script_calls.specs.Calls
-pub use Rattle.script_calls.specs.InOrder
-pub use Rattle.script_calls.specs.Parts
-pub use Rattle.script_calls.specs.Receipts
-pub use Rattle.script_calls.specs.Runs
-pub use Rattle.script_calls.specs.Told

@@ -7,8 +7,8 @@ use Rattle.std.specs.List.{All}
 use Rattle.sh_value.specs.declared.refusal.Refusal.TheVariants as refusal
 use Rattle.sh_key.specs.Layout.{Layout, IsLayout}
 use Rattle.sh_shape.specs.Shape.{Numbers, IsShape, Fits}
-use Rattle.sh_core.specs.Event.{Event}
-use Rattle.sh_core.specs.Plans.{Plan, plan_of}
+use Rattle.sh_step.specs.declared.action.Event.{Event}
+use Rattle.sh_step.specs.Plans.{Plan, plan_of}
 use Rattle.sh_script.specs.declared.calls.Call.{Call}
 use Rattle.sh_script.specs.declared.calls.Call.TheVariants as call
 use Rattle.sh_script.specs.declared.calls.CallLine.{CallLine}

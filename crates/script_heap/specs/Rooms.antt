@@ -6,14 +6,14 @@ use Rattle.sh_value.specs.declared.refusal.Refusal.TheVariants as refusal
 use Rattle.sh_key.specs.Layout.{Layout, IsLayout}
 use Rattle.sh_shape.specs.Classes.{slots}
 use Rattle.sh_shape.specs.Shape.{Numbers, IsShape, Fits}
-use Rattle.sh_core.specs.Event.{Event}
-use Rattle.sh_core.specs.KeyRef.{KeyRef}
-use Rattle.sh_core.specs.Moves.{place_named}
-use Rattle.sh_core.specs.Plans.{Plan, plan_of, page_number}
+use Rattle.sh_step.specs.declared.action.Event.{Event}
+use Rattle.sh_slots.specs.declared.hand.KeyRef.{KeyRef}
+use Rattle.sh_step.specs.Moves.{place_named}
+use Rattle.sh_step.specs.Plans.{Plan, plan_of, page_number}
 use Rattle.sh_core.specs.Refines.{mine}
 use Rattle.sh_core.specs.Stacks.{slot_ref}
 use Rattle.sh_core.specs.Worlds.{World, run}
-use Rattle.sh_member.specs.Shards.{value_class}
+use Rattle.sh_shard.specs.Shards.{value_class}
 use Rattle.sh_quiet.specs.Quiescence.{IsUsed}
 use Rattle.sh_script.specs.declared.calls.Call.{Call}
 use Rattle.sh_script.specs.declared.calls.Call.TheVariants as call

@@ -2,12 +2,12 @@
 use Rattle.std.specs.Prelude.{◌≡◌, ℕ, List}
 use Rattle.sh_key.specs.Layout.{Layout}
 use Rattle.sh_shape.specs.Shape.{Numbers}
-use Rattle.sh_pass.specs.Entry.{Entry}
-use Rattle.sh_core.specs.Event.{Event}
-use Rattle.sh_core.specs.Plans.{Plan, plan_of}
+use Rattle.sh_history.specs.declared.entry.Entry.{Entry}
+use Rattle.sh_step.specs.declared.action.Event.{Event}
+use Rattle.sh_step.specs.Plans.{Plan, plan_of}
 use Rattle.sh_core.specs.declared.accounts.Accounts.{Accounts}
 use Rattle.sh_core.specs.Worlds.{run}
-use Rattle.sh_gather.specs.Accounts.{FillPage}
+use Rattle.sh_accounts.specs.Accounts.{FillPage}
 use Rattle.sh_pass.specs.Passes.{Caller}
 use Rattle.sh_gather.specs.Histories.{IsHistory, LeadsHere}
 use Rattle.sh_gather.specs.Gathering.{CountsKeys}

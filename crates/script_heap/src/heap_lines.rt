@@ -1,10 +1,10 @@
 //! The calls of a script on a running heap: the heap is opened, the lines are run, and the passes meet at the end.
 ghost use Rattle.std.specs.Prelude.{◌≡◌, ◌++◌, ℕ, Bool, List, IfOk, IfErr, OnOk, Option, Some, map, option_map};
 ghost use Rattle.sh_shape.specs.Shape.{IsShape, Fits};
-ghost use Rattle.sh_core.specs.Event.{Event};
+ghost use Rattle.sh_step.specs.declared.action.Event.{Event};
 ghost use Rattle.sh_script.specs.declared.calls.CallLine.{CallLine};
-ghost use Rattle.sh_pass.specs.Seats.{Heap as HeapSeen};
-ghost use Rattle.sh_pass.specs.Whole.{IsWhole};
+ghost use Rattle.sh_table.specs.Seats.{Heap as HeapSeen};
+ghost use Rattle.sh_table.specs.Whole.{IsWhole};
 ghost use Rattle.script_calls.specs.Parts.{heap_terms, new_passes, tale_told};
 ghost use Rattle.script_calls.specs.Finished.{LinesRan, CarrierRan};
 ghost use Rattle.script_calls.specs.Running.{as_member, seen_of_caller, seen_of_member};

@@ -3,7 +3,7 @@ ghost use Rattle.std.specs.Prelude.{true, ◌≡◌, ℕ, ◌<◌, List, [], Opt
 ghost use Rattle.std.specs.List.{All};
 ghost use Rattle.sh_shape.specs.Shape.{IsShape, Fits};
 ghost use Rattle.sh_script.specs.declared.calls.CallLine.{CallLine};
-ghost use Rattle.sh_pass.specs.Seats.{Heap as HeapSeen};
+ghost use Rattle.sh_table.specs.Seats.{Heap as HeapSeen};
 ghost use Rattle.script_output.specs.Keys.{HasTagRoom};
 ghost use Rattle.script_heap.specs.HeapOutput.{IsHeapOutput, IsHeap};
 ghost use Rattle.script_output.specs.Ends.{IsEndFault};

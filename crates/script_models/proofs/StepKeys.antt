@@ -6,9 +6,9 @@ use Rattle.sh_key.specs.declared.parts.Parts.{Parts}
 use Rattle.sh_key.specs.Layout.{Layout, unpacked, first_key, key_count}
 use Rattle.sh_key.specs.Laws.{KeysAreConsecutive}
 use Rattle.sh_shape.specs.Shape.{Numbers}
-use Rattle.sh_step.specs.KeyRef.{KeyRef}
-use Rattle.sh_step.specs.Reply.{Reply}
-use Rattle.sh_step.specs.Reply.TheVariants as reply
+use Rattle.sh_slots.specs.declared.hand.KeyRef.{KeyRef}
+use Rattle.sh_slots.specs.declared.reply.Reply.{Reply}
+use Rattle.sh_slots.specs.declared.reply.Reply.TheVariants as reply
 use Rattle.sh_step.specs.declared.action.Event.{Event}
 use Rattle.sh_step.specs.declared.body.Body.{Body}
 use Rattle.sh_step.specs.declared.moves.Move.{Move}

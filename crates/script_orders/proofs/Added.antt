@@ -18,7 +18,7 @@ use Rattle.script_orders.specs.States.{AreAlike, HasAlike, WithOrders, Added}
 use Rattle.script_orders.specs.States.Added.{merged, pushed}
 use Rattle.script_orders.specs.Walks.{IsFollowed}
 use Rattle.script_orders.proofs.ListSteps.{get_set_same, get_set_other, get_push}
-use Rattle.sh_core.proofs.ByPlace.{get_last}
+use Rattle.sh_history.proofs.ByPlace.{get_last}
 
 pub all_set : {A : Type 0} (P : A → Type 0) (xs : List A) (i : ℕ) (y : A) → i < length xs → P y → All P xs
     → All P (set xs i y)

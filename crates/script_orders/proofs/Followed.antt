@@ -10,7 +10,7 @@ use Rattle.std.proofs.lemmas.Grind.{flat_map-append}
 use Rattle.std.proofs.lemmas.List.{length-map, map-append}
 use Rattle.std.proofs.lemmas.Option.{slice_get-map, slice_get_within, get_or_from_slice_get}
 use Rattle.sh_key.specs.Layout.{Layout}
-use Rattle.sh_core.proofs.ByPlace.{get_last}
+use Rattle.sh_history.proofs.ByPlace.{get_last}
 use Rattle.script_orders.specs.declared.orders.Orders.{Orders}
 use Rattle.script_orders.specs.declared.found.Program.{Program}
 use Rattle.script_orders.specs.declared.state.State.{State}

@@ -7,7 +7,7 @@ use Rattle.script_orders.specs.declared.found.Found.{Found}
 use Rattle.script_orders.specs.Reached.{Has}
 use Rattle.script_orders.specs.Walks.{KeepsFound}
 use Rattle.script_orders.proofs.ListSteps.{get_set_same, get_set_other, get_push}
-use Rattle.sh_core.proofs.ByPlace.{get_last}
+use Rattle.sh_history.proofs.ByPlace.{get_last}
 
 -- an outcome that is the same takes the place of one
 pub keeps_set : (xs : List Found) (place : ℕ) (f g : Found) → slice_get xs place ≡ Some f

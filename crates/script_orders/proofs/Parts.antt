@@ -5,7 +5,7 @@ use Rattle.std.specs.Prelude.{option_map}
 use Rattle.std.proofs.lemmas.List.{length-set, length-replicate, ext_get_or}
 use Rattle.std.proofs.lemmas.Option.{slice_get-get_or, get_or_from_slice_get}
 use Rattle.sh_key.specs.Layout.{Layout}
-use Rattle.sh_core.specs.Entry.{Entry}
+use Rattle.sh_history.specs.declared.entry.Entry.{Entry}
 use Rattle.sh_shape.specs.Shape.{Numbers}
 use Rattle.sh_shape.specs.Places.{IsPlace}
 use Rattle.sh_step.specs.declared.action.Event.{Event}

@@ -2,7 +2,7 @@
 use Rattle.std.proofs.Common.{◌≡◌, ℕ, zero, suc, ◌+◌, ◌<◌, ◌≤◌, List, ◌++◌, refl, sym, ap, ◌∙◌, arith, Option, Some}
 use Rattle.std.proofs.Common.{None}
 use Rattle.std.specs.List.{flat_map, range_with_len}
-use Rattle.sh_core.specs.Entry.{Entry}
+use Rattle.sh_history.specs.declared.entry.Entry.{Entry}
 use Rattle.sh_key.specs.Layout.{Layout}
 use Rattle.sh_shape.specs.Classes.{slots}
 use Rattle.sh_shape.specs.Places.{all_pages, page_number, pages_of}
@@ -16,8 +16,8 @@ use Rattle.sh_core.specs.Lists.{accounts, class_named, lists_of}
 use Rattle.sh_core.specs.Refines.{Always, OneKind}
 use Rattle.sh_core.specs.Worlds.{run}
 use Rattle.sh_core.proofs.Clauses.RunTheorem.{theorem}
-use Rattle.script_output.specs.Accounts.{AreAccounts, class_word, counted, no_slots}
-use Rattle.script_output.proofs.PageCounts.{are_counted, are_none}
+use Rattle.sh_accounts.specs.Accounts.{AreAccounts, class_word, counted, no_slots}
+use Rattle.sh_accounts.proofs.PageCounts.{are_counted, are_none}
 use Rattle.script_output.specs.AccountLines.{accounts_text, accounts_after, shard_text, page_text}
 use Rattle.script_orders.specs.declared.found.Program.{Program}
 use Rattle.script_orders.specs.declared.state.State.{State}

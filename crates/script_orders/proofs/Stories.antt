@@ -7,7 +7,7 @@ use Rattle.sh_slots.specs.declared.hand.Sight.TheVariants.{Bare}
 use Rattle.sh_slots.specs.declared.hand.SlotRef.{SlotRef}
 use Rattle.sh_slots.specs.Slots.{live_at, past_at, has_room, answer_to_get, after_drop, slot_ref_of}
 use Rattle.sh_slots.specs.Slots.{is_reusable_after}
-use Rattle.sh_step.specs.Fields.{fields_of}
+use Rattle.sh_word.specs.Fields.{fields_of}
 use Rattle.sh_step.specs.declared.action.Event.{Event}
 use Rattle.sh_step.specs.declared.body.Body.{Body}
 use Rattle.sh_step.specs.declared.moves.Move.{Move}

@@ -1,7 +1,7 @@
 -- The shape of a script's header.
 use Rattle.std.proofs.Common.{◌≡◌, List, [], subst}
 use Rattle.sh_shape.specs.Shape.{IsShape, Fits}
-use Rattle.sh_core.specs.Event.{Event}
+use Rattle.sh_step.specs.declared.action.Event.{Event}
 use Rattle.std.specs.Prelude.{ℕ}
 use Rattle.sh_script.specs.HeaderMeaning.{layout_of}
 use Rattle.sh_script.specs.declared.header.Layout.{Layout as LayoutName}

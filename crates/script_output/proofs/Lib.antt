@@ -5,4 +5,3 @@ pub mod RangeLemmas
 pub mod Telling
 pub mod HeaderShapes
 pub mod FaultLemmas
-pub use Rattle.sh_accounts.proofs.PageCounts

@@ -5,8 +5,8 @@ use Rattle.std.specs.List.{flat_map, range_with_len}
 use Rattle.std.proofs.Math.Nat.{eq-or-lt_of_le}
 use Rattle.sh_key.specs.Layout.{Layout}
 use Rattle.sh_shape.specs.Shape.{Numbers}
-use Rattle.sh_core.specs.Event.{Event}
-use Rattle.sh_core.specs.Plans.{plan_of}
+use Rattle.sh_step.specs.declared.action.Event.{Event}
+use Rattle.sh_step.specs.Plans.{plan_of}
 use Rattle.sh_core.specs.declared.accounts.Accounts.{Accounts}
 use Rattle.script_output.specs.AccountLines.{Later, accounts_after}
 use Rattle.script_output.proofs.RangeLemmas.{texts_more}

@@ -3,8 +3,8 @@ use Rattle.std.specs.Prelude.{◌≡◌, ℕ, ◌<◌, Bool, true, List, [], ◌
 use Rattle.std.specs.List.{flat_map, range_with_len}
 use Rattle.sh_shape.specs.Shape.{Numbers}
 use Rattle.sh_shape.specs.Places.{page_number, pages_of}
-use Rattle.sh_core.specs.Event.{Event}
-use Rattle.sh_core.specs.Plans.{Plan}
+use Rattle.sh_step.specs.declared.action.Event.{Event}
+use Rattle.sh_step.specs.Plans.{Plan}
 use Rattle.sh_core.specs.declared.accounts.Accounts.{Accounts}
 use Rattle.sh_core.specs.Lists.{accounts, lists_of}
 use Rattle.sh_core.specs.Worlds.{run}

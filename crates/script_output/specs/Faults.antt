@@ -1,6 +1,6 @@
 -- Which texts are scripts of a mode, and which faults a run of a text may end with.
 use Rattle.std.specs.Prelude.{ℕ, List}
-use Rattle.sh_core.specs.Event.{Event}
+use Rattle.sh_step.specs.declared.action.Event.{Event}
 use Rattle.sh_script.specs.Scripts.{IsCalls, IsCallsFault, IsEvents, IsEventsFault}
 use Rattle.sh_script.specs.declared.calls.CallLine.{CallLine}
 use Rattle.sh_script.specs.declared.header.Header.{Header}

@@ -5,4 +5,3 @@ pub mod Results
 pub mod AccountLines
 pub mod Ends
 pub mod Faults
-pub use Rattle.sh_accounts.specs.Accounts

@@ -2,8 +2,8 @@
 ghost use Rattle.std.specs.Prelude.{◌≡◌, ◌++◌, ◌<◌, List, OnOk, decimal};
 ghost use Rattle.sh_shape.specs.Shape.{IsShape};
 ghost use Rattle.sh_shape.specs.Places.{page_number, pages_of};
-ghost use Rattle.sh_core.specs.Event.{Event};
-ghost use Rattle.sh_core.specs.Plans.{plan_of};
+ghost use Rattle.sh_step.specs.declared.action.Event.{Event};
+ghost use Rattle.sh_step.specs.Plans.{plan_of};
 ghost use Rattle.sh_accounts.specs.Accounts.{ShapeHasPage};
 ghost use Rattle.script_output.specs.AccountLines.{page_name, used_text, empty_text, account_line, page_text};
 ghost use Rattle.script_output.specs.AccountLines.{shard_text};

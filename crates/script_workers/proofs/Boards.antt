@@ -1,7 +1,7 @@
 -- A binding that a pass heeds, and one that it leaves.
 use Rattle.std.proofs.Common.{◌≡◌, ℕ, List, length, Option, Some, None, sym, refl, ap, ◌∙◌, subst, inl, inr}
-use Rattle.sh_pass.specs.Order.{Order}
-use Rattle.sh_pass.specs.Seats.{Heap}
+use Rattle.sh_table.specs.declared.view.Order.{Order}
+use Rattle.sh_table.specs.Seats.{Heap}
 use Rattle.sh_pass.specs.Passes.{Caller}
 use Rattle.script_calls.specs.InOrder.{Covers}
 use Rattle.script_calls.specs.Parts.{SeenPass}

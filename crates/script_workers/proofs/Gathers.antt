@@ -9,7 +9,7 @@ use Rattle.script_calls.proofs.Newcomers.{get_middle}
 use Rattle.script_workers.specs.declared.worker.Made.{Made}
 use Rattle.script_workers.specs.Works.{IsWork}
 use Rattle.script_workers.specs.Gathers.{HaveEnded}
-use Rattle.sh_pass.specs.Seats.{Heap}
+use Rattle.sh_table.specs.Seats.{Heap}
 
 pub none_ended : (heap : Option Heap) (terms : RunTerms) (tag : Option ℕ) (lines : List CallLine)
     → HaveEnded heap terms tag lines 0 [] []

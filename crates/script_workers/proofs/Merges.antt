@@ -33,10 +33,10 @@ use Rattle.script_workers.specs.declared.worker.Made.{Made}
 use Rattle.script_workers.specs.Works.{own_calls, bound_by, bound_number, HeardOfBound, CallMade, CallsMade, IsWork}
 use Rattle.script_workers.specs.Gathers.{HaveEnded}
 use Rattle.script_workers.specs.Merges.{AreNames, bound_at, bound_needed, number_in, MergedSoFar, AllAnswered}
-use Rattle.sh_pass.specs.Seats.{Heap}
-use Rattle.sh_pass.proofs.Sums.Totals.{get_set_here}
-use Rattle.sh_pass.proofs.Zips.{set_other}
-use Rattle.sh_pass.proofs.ByPlace.{get_front}
+use Rattle.sh_table.specs.Seats.{Heap}
+use Rattle.sh_core.proofs.Sums.Totals.{get_set_here}
+use Rattle.sh_table.proofs.Zips.{set_other}
+use Rattle.sh_history.proofs.ByPlace.{get_front}
 
 -- ---- lists
 

@@ -20,9 +20,9 @@ use Rattle.script_workers.specs.declared.worker.Made.{Made}
 use Rattle.script_workers.specs.Boards.{MayHearName}
 use Rattle.script_workers.specs.Works.{own_calls, bound_number, HeardOfBound, CallMade, CallsMade, IsWork}
 use Rattle.script_workers.proofs.Boards.{name_only, name_heeds, name_keeps, name_heard, bound_kept}
-use Rattle.sh_pass.specs.LogEntry.{LogEntry}
-use Rattle.sh_pass.specs.Order.{Order}
-use Rattle.sh_pass.specs.Seats.{Heap}
+use Rattle.sh_history.specs.declared.log.LogEntry.{LogEntry}
+use Rattle.sh_table.specs.declared.view.Order.{Order}
+use Rattle.sh_table.specs.Seats.{Heap}
 
 own_take : (p : ℕ) (ls : List CallLine) (i : ℕ) (l : CallLine) → slice_get ls i ≡ Some l
     → own_calls p (take (suc i) ls) ≡ own_calls p (take i ls) ++ cond (eqb l.pass p) (l.call ∷ []) []

@@ -1,6 +1,6 @@
 -- Names on a board, and what comes with them.
 use Rattle.std.specs.Prelude.{◌≡◌, Option, Some, None}
-use Rattle.sh_pass.specs.Seats.{Heap}
+use Rattle.sh_table.specs.Seats.{Heap}
 use Rattle.sh_pass.specs.Passes.{Caller}
 use Rattle.script_calls.specs.InOrder.{Covers}
 use Rattle.script_calls.specs.Parts.{SeenPass}

@@ -4,7 +4,7 @@ use Rattle.sh_script.specs.declared.calls.CallLine.{CallLine}
 use Rattle.script_calls.specs.Parts.{RunTerms, SeenPass, new_part}
 use Rattle.script_workers.specs.declared.worker.Made.{Made}
 use Rattle.script_workers.specs.Works.{IsWork}
-use Rattle.sh_pass.specs.Seats.{Heap}
+use Rattle.sh_table.specs.Seats.{Heap}
 
 -- passes 0 to n - 1 of the heap, and the calls that each made: all of its own among these lines
 pub record HaveEnded (heap : Option Heap) (terms : RunTerms) (tag : Option ℕ) (lines : List CallLine) (n : ℕ)

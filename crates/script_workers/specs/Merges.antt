@@ -14,7 +14,7 @@ use Rattle.script_calls.specs.InOrder.{entries_added}
 use Rattle.script_workers.specs.declared.board.Bound.{Bound}
 use Rattle.script_workers.specs.declared.worker.Made.{Made}
 use Rattle.script_workers.specs.Works.{IsWork}
-use Rattle.sh_pass.specs.Seats.{Heap}
+use Rattle.sh_table.specs.Seats.{Heap}
 
 -- what the name is bound to, among those that are bound
 abbrev pub bound_at : List Bound → Option ℕ → Option Bound

@@ -8,8 +8,8 @@ use Rattle.script_calls.specs.Receipts.{MayHeed}
 use Rattle.script_calls.specs.Named.{HeardOfEntries}
 use Rattle.script_workers.specs.declared.board.Bound.{Bound}
 use Rattle.script_workers.specs.declared.worker.Made.{Made}
-use Rattle.sh_pass.specs.Order.{Order}
-use Rattle.sh_pass.specs.Seats.{Heap}
+use Rattle.sh_table.specs.declared.view.Order.{Order}
+use Rattle.sh_table.specs.Seats.{Heap}
 
 -- the line is one of the pass's own
 abbrev pub is_line_of : ℕ → CallLine → Bool

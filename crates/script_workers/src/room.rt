@@ -6,7 +6,7 @@ pub trait Room {
     ghost use Rattle.std.specs.Prelude.{ℕ, List, Option};
     ghost use Rattle.sh_script.specs.declared.calls.CallLine.{CallLine};
     ghost use Rattle.script_calls.specs.Parts.{RunTerms};
-    ghost use Rattle.sh_pass.specs.Seats.{Heap};
+    ghost use Rattle.sh_table.specs.Seats.{Heap};
 
     ghost heap: { Option Heap };
 

@@ -5,8 +5,8 @@ use Rattle.std.specs.Prelude.{◌==◌, ◌+◌, ◌*◌, ◌^◌, ◌/◌, ◌%
 use Rattle.std.proofs.lemmas.Nat.{div-mul-add}
 use Rattle.std.proofs.lemmas.List.Elements.{All-cons, All-head, All-nil, All-tail}
 use Rattle.std.proofs.lemmas.Bool.{false≢true}
-use Rattle.history_local.specs.Entry.{Entry}
-use Rattle.history_local.specs.Entry.TheVariants.{Insert, Got, Gone, Crowded, Removed, Released, Seen}
+use Rattle.sh_history.specs.declared.entry.Entry.{Entry}
+use Rattle.sh_history.specs.declared.entry.Entry.TheVariants.{Insert, Got, Gone, Crowded, Removed, Released, Seen}
 use Rattle.history_local.specs.Groups.{key_of, entries_in, IsWithin, renamed, IsOneToOne}
 use Rattle.history_local.proofs.Groups.{groups_are_legal, one_history_of_all}
 use Rattle.history_local.proofs.Renaming.{keys_may_be_renamed}

@@ -1,8 +1,8 @@
 -- The histories of chunks, as one history.
 use Rattle.std.specs.Prelude.{◌≡◌, ℕ, ◌^◌, ◌<◌, List, map}
 use Rattle.std.specs.List.{All}
-use Rattle.history_local.specs.Entry.{Entry}
-use Rattle.history_local.specs.History.{Legal}
+use Rattle.sh_history.specs.declared.entry.Entry.{Entry}
+use Rattle.sh_history.specs.History.{Legal}
 use Rattle.history_local.specs.Groups.{key_of, entries_in, renamed}
 use Rattle.sh_chunk.specs.Chunks.{with_chunk, chunk_of, key_within}
 

@@ -21,7 +21,7 @@ use Rattle.sh_step.proofs.ConditionLaws.{move_of_row}
 use Rattle.sh_step.specs.declared.action.Event.{Event}
 use Rattle.sh_step.specs.Plans.{Plan, plan_of}
 use Rattle.sh_step.specs.Rows.{Row}
-use Rattle.sh_step.specs.Fields.{Fields, fields_of}
+use Rattle.sh_word.specs.Fields.{Fields, fields_of}
 use Rattle.sh_core.specs.AtomicMap.{map_of, Finds, made_by, IsOneOperation, EventsAreOperations, OpensEmpty}
 use Rattle.sh_core.specs.AtomicMap.{StatesTell}
 use Rattle.sh_core.specs.Lists.{PutLists, lists_of}

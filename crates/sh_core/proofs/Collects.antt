@@ -4,7 +4,7 @@ use Rattle.std.proofs.Common.{cond, List, [], ◌∷◌, ◌++◌, refl, ap, sym
 use Rattle.std.proofs.Common.{slice_get, ⊎_elim, append_assoc, append-nil, drop}
 use Rattle.std.specs.Prelude.{replicate, nat_lt, slice_set}
 use Rattle.std.proofs.lemmas.Bool.Decides.{nat_tests}
-use Rattle.sh_step.specs.Bell.{top_of}
+use Rattle.sh_bell.specs.Bell.{top_of}
 use Rattle.sh_key.specs.Layout.{Layout, IsLayout}
 use Rattle.sh_shape.specs.Shape.{Numbers, IsShape, Fits}
 use Rattle.sh_slots.specs.declared.hand.Hand.TheVariants.{Idle}

@@ -15,8 +15,3 @@ pub mod LoneEntries
 pub mod UsedSlots
 pub mod MapEntries
 pub mod AtomicMap
-pub use Rattle.sh_history.proofs.ByPlace
-pub use Rattle.sh_step.proofs.ConditionLaws
-pub use Rattle.sh_step.proofs.FootstepLaws
-pub use Rattle.sh_step.proofs.PartTests
-pub use Rattle.sh_step.proofs.Truths

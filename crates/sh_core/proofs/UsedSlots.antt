@@ -22,7 +22,7 @@ use Rattle.sh_step.specs.declared.action.Event.{Event}
 use Rattle.sh_step.specs.declared.body.Body.{Body}
 use Rattle.sh_step.specs.Collections.{if1, total}
 use Rattle.sh_step.specs.Conditions.{Named}
-use Rattle.sh_step.specs.Fields.{Fields}
+use Rattle.sh_word.specs.Fields.{Fields}
 use Rattle.sh_step.specs.Moves.{place_named}
 use Rattle.sh_step.specs.Parts.{newcomer}
 use Rattle.sh_step.specs.Plans.{Plan, plan_of, heap_pages}

@@ -8,7 +8,7 @@ use Rattle.sh_slots.specs.declared.hand.Hand.TheVariants.{ToPut, Filling, Ringin
 use Rattle.sh_slots.specs.declared.hand.SlotRef.{SlotRef}
 use Rattle.sh_core.specs.declared.accounts.Accounts.{Accounts}
 use Rattle.sh_core.specs.Words.{put, read}
-use Rattle.sh_step.specs.Fields.{Fields, fields_of}
+use Rattle.sh_word.specs.Fields.{Fields, fields_of}
 use Rattle.sh_step.specs.Plans.{Plan, page_of, slot_of, shard_of}
 use Rattle.sh_shape.specs.Classes.{slots}
 use Rattle.sh_slots.specs.Slots.{same_slot, slot_refs}

@@ -14,8 +14,8 @@ use Rattle.sh_step.specs.Moves.{row, named, slotted}
 use Rattle.sh_step.specs.Plans.{local}
 use Rattle.sh_step.specs.Rows.{hand, idle, own, enter_get, enter_remove, drop_hand, drop_key, fill_slot, publish}
 use Rattle.sh_step.specs.Rows.{read_class, read_length, adopt, leave, ring, ring_tie, class_word_noted}
-use Rattle.sh_step.specs.Stack.{top_word}
-use Rattle.sh_step.specs.Fields.{fields_of}
+use Rattle.sh_stack.specs.Stack.{top_word}
+use Rattle.sh_word.specs.Fields.{fields_of}
 use Rattle.sh_core.specs.Variants.{Table}
 use Rattle.sh_core.specs.WrongRows.{finish_by}
 

@@ -3,7 +3,7 @@ use Rattle.std.specs.Prelude.{ℕ, ◌-◌, ◌/◌, ◌≡◌, ◌<◌, ◌≤�
 use Rattle.std.specs.Prelude.{slice_get}
 use Rattle.sh_slots.specs.declared.hand.SlotRef.{SlotRef}
 use Rattle.sh_core.specs.Words.{Words}
-use Rattle.sh_step.specs.Fields.{fields_of}
+use Rattle.sh_word.specs.Fields.{fields_of}
 use Rattle.sh_step.specs.Plans.{Plan, heap_pages}
 use Rattle.sh_shape.specs.Classes.{class_count, width}
 use Rattle.sh_slots.specs.Slots.{same_slot}

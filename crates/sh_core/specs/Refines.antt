@@ -4,7 +4,7 @@ use Rattle.std.specs.Prelude.{◌||◌, List, [], Some, None, All, length, slice
 use Rattle.sh_step.specs.declared.action.Event.{Event}
 use Rattle.sh_slots.specs.declared.hand.SlotRef.{SlotRef}
 use Rattle.sh_slots.specs.declared.hand.KeyRef.{KeyRef}
-use Rattle.sh_step.specs.Fields.{Fields}
+use Rattle.sh_word.specs.Fields.{Fields}
 use Rattle.sh_key.specs.Layout.{Layout, IsLayout}
 use Rattle.sh_shape.specs.Shape.{Numbers, IsShape, Fits}
 use Rattle.sh_shape.specs.Places.{slot_places}

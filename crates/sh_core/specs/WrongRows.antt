@@ -18,9 +18,9 @@ use Rattle.sh_step.specs.Plans.{Plan}
 use Rattle.sh_step.specs.Moves.{row, named, paged}
 use Rattle.sh_step.specs.Rows.{Row, silent, hand, idle, own, point, unpoint, enter_get, mark}
 use Rattle.sh_step.specs.Rows.{enter_remove, drop_hand, drop_key, finish, put_at, set_class, follow, leave, all_mine}
-use Rattle.sh_step.specs.Stack.{top_word}
-use Rattle.sh_step.specs.Bell.{head_word, is_armed}
-use Rattle.sh_step.specs.Fields.{word_of}
+use Rattle.sh_stack.specs.Stack.{top_word}
+use Rattle.sh_bell.specs.Bell.{head_word, is_armed}
+use Rattle.sh_word.specs.Fields.{word_of}
 use Rattle.sh_core.specs.Variants.{Table}
 
 -- ---- what is returned for a key, and what is known of it

@@ -8,14 +8,14 @@ use Rattle.std.proofs.lemmas.Bool.Decides.{nat_tests}
 use Rattle.std.proofs.lemmas.List.Elements.{All-head, All-tail}
 use mathlib.Core.Logic.{dite}
 use native.Mathlib.Decide.{ℕ_discrete}
-use Rattle.sh_table.specs.Entry.{Entry}
-use Rattle.sh_table.specs.Entry.TheVariants.{Insert, Got, Gone, Crowded, Removed, Released, Seen}
-use Rattle.sh_table.specs.LogEntry.{LogEntry}
-use Rattle.sh_table.specs.LogEntry.TheVariants.{Known, Unread}
-use Rattle.sh_table.specs.History.{value_of, is_removed, is_removal_of, is_got_of, is_release_of, got_count}
-use Rattle.sh_table.specs.History.{released_count, holds_on}
-use Rattle.sh_table.specs.Log.{Agrees, pass_of}
-use Rattle.sh_table.proofs.LogLaws.{count_by-cons}
+use Rattle.sh_history.specs.declared.entry.Entry.{Entry}
+use Rattle.sh_history.specs.declared.entry.Entry.TheVariants.{Insert, Got, Gone, Crowded, Removed, Released, Seen}
+use Rattle.sh_history.specs.declared.log.LogEntry.{LogEntry}
+use Rattle.sh_history.specs.declared.log.LogEntry.TheVariants.{Known, Unread}
+use Rattle.sh_history.specs.History.{value_of, is_removed, is_removal_of, is_got_of, is_release_of, got_count}
+use Rattle.sh_history.specs.History.{released_count, holds_on}
+use Rattle.sh_history.specs.Log.{Agrees, pass_of}
+use Rattle.sh_history.proofs.LogLaws.{count_by-cons}
 use Rattle.sh_key.specs.Layout.{Layout}
 use Rattle.sh_step.specs.Collections.{total, if1}
 use Rattle.sh_step.specs.Plans.{Plan}

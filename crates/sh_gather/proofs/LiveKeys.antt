@@ -5,7 +5,7 @@ use Rattle.std.proofs.Common.{arith, Some, ◌++◌}
 use Rattle.std.specs.Prelude.{not}
 use mathlib.Core.Logic.{dite}
 use native.Mathlib.Decide.{ℕ_discrete}
-use Rattle.sh_table.specs.Entry.{Entry}
+use Rattle.sh_history.specs.declared.entry.Entry.{Entry}
 use Rattle.sh_key.specs.Layout.{Layout}
 use Rattle.sh_shape.specs.declared.places.Place.TheVariants.{State}
 use Rattle.sh_shape.specs.Places.{all_pages}

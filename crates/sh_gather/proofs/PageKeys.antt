@@ -5,7 +5,7 @@ use Rattle.std.specs.Prelude.{not, nat_lt, IsSome, is_some}
 use Rattle.std.proofs.lemmas.Bool.Decides.{nat_tests}
 use mathlib.Core.Logic.{dite}
 use native.Mathlib.Decide.{ℕ_discrete}
-use Rattle.sh_table.specs.History.{value_of, is_removed, holds_on}
+use Rattle.sh_history.specs.History.{value_of, is_removed, holds_on}
 use Rattle.sh_word.specs.Fields.{Fields}
 use Rattle.sh_slots.specs.declared.hand.Hand.TheVariants.{Idle}
 use Rattle.sh_slots.specs.declared.hand.KeyRef.{KeyRef}

@@ -28,7 +28,7 @@ use Rattle.sh_gather.specs.Gathering.{IsGathered, NotedMore, NotesKeepHistories,
 use Rattle.sh_gather.specs.Gathering.{StatesAlone, with_state, WalkedTo}
 use Rattle.sh_gather.proofs.Leading.{Core, leads_before, leads_front, leading, laws, refined, rests, are_whole}
 use Rattle.sh_gather.proofs.PageNumbers.{walk_begins, walk_goes, walk_ends, walk_full}
-use Rattle.sh_table.proofs.ByPlace.{get_front, get_last}
+use Rattle.sh_history.proofs.ByPlace.{get_front, get_last}
 
 -- ---- a view that noted more
 

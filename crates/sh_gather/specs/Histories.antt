@@ -1,7 +1,7 @@
 -- The histories of a tale, and the lists of events that lead to what a view has noted.
 use Rattle.std.specs.Prelude.{◌≡◌, ◌<◌, List, All}
-use Rattle.sh_table.specs.Entry.{Entry}
-use Rattle.sh_table.specs.Log.{pass_of}
+use Rattle.sh_history.specs.declared.entry.Entry.{Entry}
+use Rattle.sh_history.specs.Log.{pass_of}
 use Rattle.sh_key.specs.Layout.{Layout}
 use Rattle.sh_step.specs.declared.action.Event.{Event}
 use Rattle.sh_step.specs.Plans.{plan_of}

@@ -1,7 +1,7 @@
 -- The keys of a heap of which all passes met, by the places of their slots: 48 for each page, in the order of the
 -- pages.
 use Rattle.std.specs.Prelude.{◌≡◌, ℕ, ◌*◌, ◌/◌, ◌%◌, true, false, List, Option, Some, None}
-use Rattle.sh_table.specs.Entry.{Entry}
+use Rattle.sh_history.specs.declared.entry.Entry.{Entry}
 use Rattle.sh_key.specs.Layout.{Layout}
 use Rattle.sh_shape.specs.Places.{all_pages, slot_places}
 use Rattle.sh_shape.specs.Shape.{Numbers}

@@ -2,8 +2,8 @@
 -- retired is removed, the last key of its slot, and not held.
 use Rattle.std.specs.Prelude.{◌≡◌, ◌<◌, ℕ, zero, suc, ◌==◌, nat_lt, Bool, false, not, ◌&&◌, List, [], ◌∷◌, ◌++◌, Some}
 use Rattle.std.specs.Prelude.{None, is_some}
-use Rattle.sh_table.specs.Entry.{Entry}
-use Rattle.sh_table.specs.History.{value_of, is_removed, holds_on}
+use Rattle.sh_history.specs.declared.entry.Entry.{Entry}
+use Rattle.sh_history.specs.History.{value_of, is_removed, holds_on}
 use Rattle.sh_key.specs.Layout.{Layout, IsLayout}
 use Rattle.sh_shape.specs.Shape.{Numbers, IsShape, Fits}
 use Rattle.sh_shape.specs.Places.{slot_places}

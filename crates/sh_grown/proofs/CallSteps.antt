@@ -10,12 +10,12 @@ use Rattle.sh_shape.specs.Shape.{Numbers, segment_pages}
 use Rattle.sh_chunk.specs.Chunks.{chunked}
 use Rattle.sh_value.specs.declared.refusal.Refusal.{Refusal}
 use Rattle.sh_value.specs.declared.refusal.Refusal.TheVariants as refusal
-use Rattle.sh_pass.specs.Seats.{Heap}
-use Rattle.sh_member.specs.Bounds.{adopt_steps, insert_steps, leave_steps}
-use Rattle.sh_member.specs.RemoteFrees.{collect_steps}
-use Rattle.sh_member.specs.Shards.{HoldsShard, Sharded, StaysOwner}
+use Rattle.sh_table.specs.Seats.{Heap}
+use Rattle.sh_shard.specs.Bounds.{adopt_steps, insert_steps, leave_steps}
+use Rattle.sh_shard.specs.RemoteFrees.{collect_steps}
+use Rattle.sh_shard.specs.Shards.{HoldsShard, Sharded, StaysOwner}
 use Rattle.sh_member.specs.SideBounds.{AdoptTakes, InsertTakes, LeaveTakes}
-use Rattle.sh_member.specs.Steps.{StepsAtMost}
+use Rattle.sh_shard.specs.Steps.{StepsAtMost}
 use Rattle.sh_member.specs.declared.member.Side.TheVariants.{Pass, Shard}
 use Rattle.sh_member.specs.Sides.{SeenSide, SideCollects, SideIsValid}
 use Rattle.sh_grown.specs.declared.chunk_member.ChunkMember.{ChunkMember}

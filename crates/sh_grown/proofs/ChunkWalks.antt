@@ -3,9 +3,9 @@ use Rattle.std.proofs.Common.{◌≡◌, ℕ, suc, ◌+◌, ◌-◌, ◌<◌, �
 use Rattle.std.proofs.Common.{⊎_elim, subst}
 use Rattle.std.specs.Prelude.{◌^◌, IsSome, Result, Ok}
 use Rattle.sh_chunk.specs.Chunks.{chunked}
-use Rattle.sh_chunk.specs.Layout.{unpacked}
+use Rattle.sh_key.specs.Layout.{unpacked}
 use Rattle.sh_value.specs.declared.refusal.Refusal.{Refusal}
-use Rattle.sh_pass.specs.LogEntry.{LogEntry}
+use Rattle.sh_history.specs.declared.log.LogEntry.{LogEntry}
 use Rattle.sh_pass.specs.Passes.{Caller}
 use Rattle.sh_member.specs.declared.member.Side.TheVariants.{Pass, Shard}
 use Rattle.sh_member.specs.Sides.{SeenSide, SideDoes}

@@ -7,7 +7,7 @@ use Rattle.sh_value.specs.declared.refusal.Refusal.{Refusal}
 use Rattle.sh_value.specs.declared.refusal.Refusal.TheVariants as refusal
 use Rattle.sh_member.specs.declared.member.Side.TheVariants.{Pass, Shard}
 use Rattle.sh_chunk.specs.Chunks.{chunked}
-use Rattle.sh_member.specs.Shards.{NoRoom, Sharded, value_class}
+use Rattle.sh_shard.specs.Shards.{NoRoom, Sharded, value_class}
 use Rattle.sh_member.specs.Sides.{SeenSide, SideCollects, IsPass}
 use Rattle.sh_grown.specs.declared.chunk_member.ChunkMember.{ChunkMember}
 use Rattle.sh_grown.specs.declared.tried.Tried.{Tried}

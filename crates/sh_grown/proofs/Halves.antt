@@ -6,7 +6,7 @@ use Rattle.std.proofs.Math.Nat.{div-add-mod, min-eq_left, min-eq_right, mod-lt, 
 use Rattle.std.proofs.lemmas.Bool.{cases_lt, ne_eqb}
 use Rattle.sh_shape.specs.Places.{page_words, words_of}
 use Rattle.sh_shape.specs.Shape.{segment_pages}
-use Rattle.sh_member.specs.Pages.{sum_below}
+use Rattle.sh_shard.specs.Pages.{sum_below}
 use Rattle.sh_grown.specs.declared.growing.Growing.{Growing}
 use Rattle.sh_grown.specs.ChunkShapes.{doublings}
 use Rattle.sh_grown.specs.Sizes.{FewInAll, HalfAsLarge, words_in}

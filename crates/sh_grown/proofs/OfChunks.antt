@@ -7,9 +7,9 @@ use Rattle.once_cell.specs.Once.{cell_name}
 use Rattle.sh_chunk.specs.Chunks.{chunked}
 use Rattle.sh_value.specs.declared.refusal.Refusal.{Refusal}
 use Rattle.sh_pass.specs.Passes.{Caller}
-use Rattle.sh_pass.specs.Seats.{Heap}
+use Rattle.sh_table.specs.Seats.{Heap}
 use Rattle.sh_member.specs.declared.member.Side.TheVariants.{Pass, Shard}
-use Rattle.sh_member.specs.Shards.{Sharded}
+use Rattle.sh_shard.specs.Shards.{Sharded}
 use Rattle.sh_member.specs.Sides.{SeenSide, SideDoes, SideHeeds}
 use Rattle.sh_grown.specs.ChunkShapes.{IsShaped}
 use Rattle.sh_grown.specs.Growing.{shape_in}

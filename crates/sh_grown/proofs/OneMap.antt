@@ -10,20 +10,20 @@ use Rattle.history_local.specs.Groups.{key_of}
 use Rattle.sh_chunk.specs.Chunks.{chunked, chunk_of}
 use Rattle.sh_chunk.specs.Histories.{KeysFit, fitting}
 use Rattle.sh_chunk.proofs.Histories.{first_chunk, one_history_of_chunks}
-use Rattle.sh_table.specs.Entry.{Entry}
-use Rattle.sh_table.specs.History.{Legal}
-use Rattle.sh_table.specs.Log.{Agrees, pass_of}
-use Rattle.sh_table.specs.LogEntry.{LogEntry}
-use Rattle.sh_table.specs.LogEntry.TheVariants.{Known, Unread}
-use Rattle.sh_table.specs.Plans.{plan_of}
+use Rattle.sh_history.specs.declared.entry.Entry.{Entry}
+use Rattle.sh_history.specs.History.{Legal}
+use Rattle.sh_history.specs.Log.{Agrees, pass_of}
+use Rattle.sh_history.specs.declared.log.LogEntry.{LogEntry}
+use Rattle.sh_history.specs.declared.log.LogEntry.TheVariants.{Known, Unread}
+use Rattle.sh_step.specs.Plans.{plan_of}
 use Rattle.sh_table.specs.Tales.{IsLogOf, IsTale, by}
 use Rattle.sh_table.specs.Together.{LeadsTogether}
 use Rattle.sh_core.specs.Worlds.{run}
-use Rattle.sh_pass.specs.Own.{Own}
+use Rattle.sh_table.specs.declared.view.Own.{Own}
 use Rattle.sh_table.specs.declared.view.View.{View}
 use Rattle.sh_member.specs.declared.member.Side.TheVariants.{Pass, Shard}
 use Rattle.sh_shape.specs.Shape.{Numbers}
-use Rattle.sh_pass.specs.Seats.{Heap}
+use Rattle.sh_table.specs.Seats.{Heap}
 use Rattle.sh_member.specs.Sides.{SeenSide, SideIsValid}
 use Rattle.sh_grown.specs.ChunkShapes.{IsShaped, shape_of}
 use Rattle.sh_grown.specs.Growing.{shape_in}

@@ -2,16 +2,16 @@
 use Rattle.std.proofs.Common.{◌≡◌, ℕ, zero, suc, ◌<◌, List, [], ◌∷◌, length, get_or, refl, arith, sym, ◌∙◌, ap}
 use Rattle.std.proofs.Common.{subst, rules, Option, Some, None}
 use Rattle.std.specs.Prelude.{◌^◌, IsSome, Ok, Result, slice_set}
-use Rattle.sh_chunk.specs.Parts.{Parts}
-use Rattle.sh_chunk.specs.Layout.{Layout, unpacked}
+use Rattle.sh_key.specs.declared.parts.Parts.{Parts}
+use Rattle.sh_key.specs.Layout.{Layout, unpacked}
 use Rattle.sh_shape.specs.Shape.{Numbers}
-use Rattle.sh_pass.specs.Plans.{plan_of}
-use Rattle.sh_pass.specs.Moves.{place_named}
-use Rattle.sh_pass.proofs.NameLaws.{no_key}
+use Rattle.sh_step.specs.Plans.{plan_of}
+use Rattle.sh_step.specs.Moves.{place_named}
+use Rattle.sh_step.proofs.NameLaws.{no_key}
 use Rattle.sh_value.specs.declared.refusal.Refusal.{Refusal}
 use Rattle.sh_pass.specs.Passes.{Caller}
 use Rattle.sh_pass.specs.Owners.{IsKeyIn}
-use Rattle.sh_pass.specs.KeyRef.{KeyRef}
+use Rattle.sh_slots.specs.declared.hand.KeyRef.{KeyRef}
 use Rattle.sh_chunk.specs.Chunks.{chunked}
 use Rattle.sh_member.specs.declared.member.Side.TheVariants.{Pass, Shard}
 use Rattle.sh_member.specs.Sides.{SeenSide, SideInserts}

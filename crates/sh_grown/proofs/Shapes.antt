@@ -5,7 +5,7 @@ use Rattle.std.proofs.Math.Nat.{min-le_right}
 use Rattle.std.proofs.Math.Pow.{pow_mono}
 use Rattle.sh_shape.specs.Rooms.{IsLeastRoomy}
 use Rattle.sh_shape.specs.Shape.{Fits, Numbers}
-use Rattle.sh_pass.specs.Seats.{Heap}
+use Rattle.sh_table.specs.Seats.{Heap}
 use Rattle.sh_chunk.specs.Chunks.{chunked}
 use Rattle.sh_grown.specs.ChunkShapes.{IsShaped, doublings, shards_of, segments_of, shape_of}
 

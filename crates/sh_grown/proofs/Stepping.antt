@@ -7,9 +7,9 @@ use Rattle.std.proofs.Math.Nat.{add-mul, mul-le-mul_right}
 use Rattle.std.proofs.lemmas.Bool.{cases_eq, eqb-true, lt-ltb, ltb-true, ne_eqb}
 use Rattle.sh_shape.specs.Places.{pages_of}
 use Rattle.sh_value.specs.declared.refusal.Refusal.{Refusal}
-use Rattle.sh_member.specs.Bounds.{adopt_steps, insert_steps, leave_steps}
-use Rattle.sh_member.specs.Pages.{sum_below}
-use Rattle.sh_member.specs.RemoteFrees.{collect_steps}
+use Rattle.sh_shard.specs.Bounds.{adopt_steps, insert_steps, leave_steps}
+use Rattle.sh_shard.specs.Pages.{sum_below}
+use Rattle.sh_shard.specs.RemoteFrees.{collect_steps}
 use Rattle.sh_grown.specs.declared.growing.Growing.{Growing}
 use Rattle.sh_grown.specs.declared.chunk_member.ChunkMember.{ChunkMember}
 use Rattle.sh_grown.specs.declared.caller.Caller.{Caller as SeenCaller}

@@ -11,8 +11,8 @@ use Rattle.sh_pass.specs.Fetching.{FetchDoes, LookDoes}
 use Rattle.sh_table.specs.Orders.{GoneIsRemoved, GotIsInserted, SeenIsInserted}
 use Rattle.sh_pass.specs.Passes.{Caller}
 use Rattle.sh_pass.specs.Receipts.{heeded}
-use Rattle.sh_pass.specs.Tales.{ViewIsValid}
-use Rattle.sh_member.specs.Shards.{Sharded}
+use Rattle.sh_table.specs.Tales.{ViewIsValid}
+use Rattle.sh_shard.specs.Shards.{Sharded}
 use Rattle.sh_member.specs.declared.member.Side.TheVariants.{Pass, Shard}
 use Rattle.sh_member.specs.Sides.{IsReceiptBy, SeenSide, SideDoes, SideHeeds}
 use Rattle.sh_member.specs.ToldKeys.{CoversInsert, IsAsInserted, TellsOfInsert}

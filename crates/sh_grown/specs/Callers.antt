@@ -8,7 +8,7 @@ use Rattle.sh_value.specs.declared.hold.Hold.{Hold}
 use Rattle.sh_value.specs.declared.refusal.Refusal.{Refusal}
 use Rattle.sh_value.specs.declared.refusal.Refusal.TheVariants as refusal
 use Rattle.sh_pass.specs.Passes.{Caller, IsAtRest, GetDoes}
-use Rattle.sh_pass.specs.Seats.{Heap}
+use Rattle.sh_table.specs.Seats.{Heap}
 use Rattle.sh_member.specs.declared.member.Side.TheVariants as side
 use Rattle.sh_member.specs.Sides.{SeenSide}
 use Rattle.sh_grown.specs.ChunkShapes.{IsShaped}

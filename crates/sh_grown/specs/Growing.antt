@@ -1,6 +1,6 @@
 -- How a growing heap is opened, which shape each of its chunks has, and why a further chunk is not opened.
 use Rattle.std.specs.Prelude.{◌≡◌, ◌==◌, ℕ, ◌≤◌, ◌⊎◌, if◌then◌else◌, Option, None, Result, Ok, Err, length}
-use Rattle.sh_pass.specs.Seats.{Heap}
+use Rattle.sh_table.specs.Seats.{Heap}
 use Rattle.sh_shape.specs.Rooms.{IsLeastRoomy, NoneRoomy}
 use Rattle.sh_shape.specs.Shape.{Numbers}
 use Rattle.sh_chunk.specs.Chunks.{chunked}

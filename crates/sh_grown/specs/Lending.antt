@@ -6,7 +6,7 @@ use Rattle.std.specs.Prelude.{◌==◌, Result, Ok, Err}
 use Rattle.std.proofs.lemmas.List.{get_or-set_same}
 use Rattle.sh_chunk.specs.Chunks.{chunked, chunk_of, key_within}
 use Rattle.sh_plain.specs.Store.{Lends}
-use Rattle.sh_table.specs.Collections.{has}
+use Rattle.sh_step.specs.Collections.{has}
 use Rattle.sh_value.specs.declared.hold.Hold.{Hold}
 use Rattle.sh_value.specs.declared.refusal.Refusal.{Refusal}
 use Rattle.sh_value.specs.declared.refusal.Refusal.TheVariants.{NotHeld, Memory, WrongKind}

@@ -20,4 +20,3 @@ pub mod Sums
 pub mod ToldKeys
 pub mod Walks
 pub mod Wholes
-pub use Rattle.sh_chunk.specs.Chunks

@@ -2,7 +2,7 @@
 use Rattle.std.specs.Prelude.{◌≡◌, ℕ, ◌<◌, List, Option, Some, None, IsSome, get_or, length, slice_get}
 use Rattle.std.specs.Option.{ForSome}
 use Rattle.once_cell.specs.Once.{cell_name}
-use Rattle.sh_pass.specs.Seats.{Heap}
+use Rattle.sh_table.specs.Seats.{Heap}
 use Rattle.sh_member.specs.Sides.{SeenSide}
 use Rattle.sh_grown.specs.ChunkShapes.{IsShaped}
 use Rattle.sh_grown.specs.Growing.{shape_in}

@@ -5,12 +5,12 @@ use Rattle.std.specs.Option.{ForSome}
 use Rattle.sh_chunk.specs.Chunks.{chunked, chunk_of}
 use Rattle.sh_chunk.specs.Histories.{fitting, in_chunk, of_chunk}
 use Rattle.history_local.specs.Groups.{entries_in, key_of}
-use Rattle.sh_table.specs.Entry.{Entry}
-use Rattle.sh_table.specs.History.{Legal}
-use Rattle.sh_table.specs.LogEntry.{LogEntry}
-use Rattle.sh_table.specs.LogEntry.TheVariants.{Known, Unread}
-use Rattle.sh_table.specs.Plans.{plan_of}
-use Rattle.sh_pass.specs.Own.{Own}
+use Rattle.sh_history.specs.declared.entry.Entry.{Entry}
+use Rattle.sh_history.specs.History.{Legal}
+use Rattle.sh_history.specs.declared.log.LogEntry.{LogEntry}
+use Rattle.sh_history.specs.declared.log.LogEntry.TheVariants.{Known, Unread}
+use Rattle.sh_step.specs.Plans.{plan_of}
+use Rattle.sh_table.specs.declared.view.Own.{Own}
 use Rattle.sh_core.specs.Worlds.{run}
 use Rattle.sh_table.specs.Tales.{IsLogOf, IsTale}
 use Rattle.sh_table.specs.Together.{LeadsTogether}

@@ -1,6 +1,6 @@
 -- How a chunk is opened outside an insert, and which chunks are open if none was.
 use Rattle.std.specs.Prelude.{◌≡◌, ℕ, ◌<◌, Option, Some, None, IsSomeAnd, Result, Ok, Err, get_or, length}
-use Rattle.sh_pass.specs.Seats.{Heap}
+use Rattle.sh_table.specs.Seats.{Heap}
 use Rattle.sh_value.specs.declared.refusal.Refusal.{Refusal}
 use Rattle.sh_value.specs.declared.refusal.Refusal.TheVariants as refusal
 use Rattle.sh_grown.specs.declared.growing.Growing.{Growing}

@@ -2,10 +2,10 @@
 use Rattle.std.specs.Prelude.{◌≡◌, ℕ, ◌<◌, ◌≤◌, ◌⊎◌, Bool, true, List, Option, Some, None, Err, IsSomeAnd, get_or}
 use Rattle.sh_chunk.specs.Chunks.{chunked}
 use Rattle.sh_value.specs.declared.refusal.Refusal.TheVariants as refusal
-use Rattle.sh_member.specs.Leaving.{Waiting}
-use Rattle.sh_member.specs.Pages.{AdoptRefused}
-use Rattle.sh_member.specs.RemoteFrees.{CollectServes}
-use Rattle.sh_member.specs.Shards.{InsertServes, NoRoom, Sharded, value_class}
+use Rattle.sh_shard.specs.Leaving.{Waiting}
+use Rattle.sh_shard.specs.Pages.{AdoptRefused}
+use Rattle.sh_shard.specs.RemoteFrees.{CollectServes}
+use Rattle.sh_shard.specs.Shards.{InsertServes, NoRoom, Sharded, value_class}
 use Rattle.sh_member.specs.declared.member.Side.TheVariants.{Pass, Shard}
 use Rattle.sh_member.specs.Sides.{SeenSide}
 use Rattle.sh_grown.specs.declared.chunk_member.ChunkMember.{ChunkMember}

@@ -3,7 +3,7 @@ use Rattle.std.specs.Prelude.{◌≡◌, ℕ, zero, suc, ◌+◌, ◌*◌, ◌�
 use Rattle.sh_shape.specs.Classes.{class_of, slots}
 use Rattle.sh_shape.specs.Places.{all_pages, words_of}
 use Rattle.sh_shape.specs.Shape.{Numbers}
-use Rattle.sh_member.specs.Pages.{sum_below}
+use Rattle.sh_shard.specs.Pages.{sum_below}
 use Rattle.sh_grown.specs.Growing.{shape_in}
 use Rattle.sh_grown.specs.Wholes.{SeenChunk, IsChunkOf}
 use Rattle.sh_grown.specs.declared.growing.Growing.{Growing}

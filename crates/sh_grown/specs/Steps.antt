@@ -3,10 +3,10 @@ use Rattle.std.specs.Prelude.{◌≡◌, ℕ, ◌+◌, ◌-◌, ◌*◌, ◌≤�
 use Rattle.std.specs.Prelude.{None, IfSome, MatchOption, get_or, length}
 use Rattle.sh_shape.specs.Places.{pages_of}
 use Rattle.sh_chunk.specs.Chunks.{chunked}
-use Rattle.sh_pass.specs.Seats.{Heap}
-use Rattle.sh_member.specs.Bounds.{adopt_steps, insert_steps, leave_steps}
-use Rattle.sh_member.specs.Pages.{sum_below}
-use Rattle.sh_member.specs.RemoteFrees.{collect_steps}
+use Rattle.sh_table.specs.Seats.{Heap}
+use Rattle.sh_shard.specs.Bounds.{adopt_steps, insert_steps, leave_steps}
+use Rattle.sh_shard.specs.Pages.{sum_below}
+use Rattle.sh_shard.specs.RemoteFrees.{collect_steps}
 use Rattle.sh_member.specs.SideBounds.{LeaveTakes}
 use Rattle.sh_member.specs.declared.member.Side.TheVariants.{Pass, Shard}
 use Rattle.sh_member.specs.Sides.{SeenSide, SideIsValid}

@@ -3,7 +3,7 @@ use Rattle.std.specs.Prelude.{◌≡◌, ℕ, zero, suc, ◌+◌, ◌<◌, ◌�
 use Rattle.std.specs.Prelude.{get_or, length, slice_get}
 use Rattle.std.specs.Option.{ForSome}
 use Rattle.once_cell.specs.Once.{cell_name}
-use Rattle.sh_pass.specs.Seats.{Heap}
+use Rattle.sh_table.specs.Seats.{Heap}
 use Rattle.sh_grown.specs.ChunkShapes.{IsShaped}
 use Rattle.sh_grown.specs.Growing.{shape_in}
 use Rattle.sh_grown.specs.declared.growing.Growing.{Growing}

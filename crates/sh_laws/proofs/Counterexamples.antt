@@ -1,13 +1,13 @@
 -- For each wrong table and each wider statement, a run that breaks it.
 use Rattle.std.proofs.Common.{◌≡◌, ℕ, zero, suc, ◌+◌, ◌<◌, ◌≤◌, List, [], ◌∷◌, ◌++◌, refl, arith}
-use Rattle.sh_core.specs.Action.TheVariants.{EnterGet, EnterRemove, Mark, Drop, DropHold, Put, PutSlot, Tie, Arm}
-use Rattle.sh_core.specs.Action.TheVariants.{Ring, Adopt, ReadPage, SetClass}
-use Rattle.sh_core.specs.Entry.TheVariants.{Gone}
-use Rattle.sh_core.specs.Event.{Event}
+use Rattle.sh_step.specs.declared.action.Action.TheVariants.{EnterGet, EnterRemove, Mark, Drop, DropHold, Put, PutSlot, Tie, Arm}
+use Rattle.sh_step.specs.declared.action.Action.TheVariants.{Ring, Adopt, ReadPage, SetClass}
+use Rattle.sh_history.specs.declared.entry.Entry.TheVariants.{Gone}
+use Rattle.sh_step.specs.declared.action.Event.{Event}
 use Rattle.sh_core.specs.Lists.{PutLists}
 use Rattle.sh_core.specs.MoreWrongRows.{keeps_hold}
-use Rattle.sh_core.specs.Moves.{row}
-use Rattle.sh_core.specs.Plans.{Plan}
+use Rattle.sh_step.specs.Moves.{row}
+use Rattle.sh_step.specs.Plans.{Plan}
 use Rattle.sh_core.specs.Refines.{Always}
 use Rattle.sh_core.specs.Variants.{AlwaysBy, step_by, run_from_by, run_by, list_step_by, lists_from_by, lists_by}
 use Rattle.sh_core.specs.Worlds.{World}

@@ -4,15 +4,15 @@ use Rattle.std.proofs.Common.{[], ◌∷◌, refl, cond, arith, ap, sym, ◌∙�
 use Rattle.std.specs.Prelude.{not, nat_lt}
 use Rattle.std.proofs.lemmas.Bool.Decides.{nat_tests}
 use Rattle.std.proofs.lemmas.Nat.{div-add-mod', mod_below}
-use Rattle.sh_core.specs.Body.{Body}
-use Rattle.sh_core.specs.Collections.{total, if1}
-use Rattle.sh_core.specs.Hand.{Hand}
-use Rattle.sh_core.specs.Hand.TheVariants.{Tying, RingTying}
+use Rattle.sh_step.specs.declared.body.Body.{Body}
+use Rattle.sh_step.specs.Collections.{total, if1}
+use Rattle.sh_slots.specs.declared.hand.Hand.{Hand}
+use Rattle.sh_slots.specs.declared.hand.Hand.TheVariants.{Tying, RingTying}
 use Rattle.sh_core.specs.Follows.{LinksOn}
 use Rattle.sh_core.specs.Lists.{PutLists, accounts, lists_of, slots_under, state_of, times}
-use Rattle.sh_core.specs.Plans.{Plan, heap_pages, plan_of, shard_of, over_heap}
+use Rattle.sh_step.specs.Plans.{Plan, heap_pages, plan_of, shard_of, over_heap}
 use Rattle.sh_core.specs.Refines.{Always, Refines, holds_now, in_hands, marked}
-use Rattle.sh_core.specs.Rows.{idle, hand}
+use Rattle.sh_step.specs.Rows.{idle, hand}
 use Rattle.sh_core.specs.Stacks.{slot_ref, link_to, ties_of, ring_ties, bell_link}
 use Rattle.sh_core.specs.Worlds.{World, run}
 use Rattle.sh_core.proofs.Clauses.LinkFacts.{links_of}

@@ -5,27 +5,27 @@ use Rattle.std.specs.Prelude.{cond, IsSome, nat_lt, ◌&&◌}
 use Rattle.std.proofs.lemmas.List.{append_cancel_left, length-append}
 use Rattle.sh_core.proofs.AtomicMap.{states_tell}
 use Rattle.sh_core.proofs.Words.Steps.{run_none}
-use Rattle.sh_core.specs.Action.{Action}
-use Rattle.sh_core.specs.Action.TheVariants as action
+use Rattle.sh_step.specs.declared.action.Action.{Action}
+use Rattle.sh_step.specs.declared.action.Action.TheVariants as action
 use Rattle.sh_core.specs.AtomicMap.{map_of}
-use Rattle.sh_core.specs.Event.{Event}
-use Rattle.sh_core.specs.Footstep.{Footstep}
-use Rattle.sh_core.specs.Footsteps.{footstep_of}
-use Rattle.sh_core.specs.KeyRef.{KeyRef}
-use Rattle.sh_core.specs.Moves.{place_named}
-use Rattle.sh_core.specs.Operation.{Operation}
-use Rattle.sh_core.specs.Operation.TheVariants.{FetchAdd, FetchSub, FetchOr, Swap, Store, CompareExchange, Load}
-use Rattle.sh_core.specs.Operations.{answer}
+use Rattle.sh_step.specs.declared.action.Event.{Event}
+use Rattle.sh_step.specs.declared.footstep.Footstep.{Footstep}
+use Rattle.sh_step.specs.Footsteps.{footstep_of}
+use Rattle.sh_slots.specs.declared.hand.KeyRef.{KeyRef}
+use Rattle.sh_step.specs.Moves.{place_named}
+use Rattle.sh_step.specs.declared.operation.Operation.{Operation}
+use Rattle.sh_step.specs.declared.operation.Operation.TheVariants.{FetchAdd, FetchSub, FetchOr, Swap, Store, CompareExchange, Load}
+use Rattle.sh_step.specs.Operations.{answer}
 use Rattle.sh_core.specs.Outcomes.{row_of_event}
-use Rattle.sh_core.specs.Plans.{Plan, heap_pages, plan_of}
-use Rattle.sh_core.specs.Rows.{Row}
-use Rattle.sh_core.specs.Slots.{live_at, past_at}
+use Rattle.sh_step.specs.Plans.{Plan, heap_pages, plan_of}
+use Rattle.sh_step.specs.Rows.{Row}
+use Rattle.sh_slots.specs.Slots.{live_at, past_at}
 use Rattle.sh_core.specs.Trails.{trail_from, trail_of}
 use Rattle.sh_core.specs.Words.{read}
 use Rattle.sh_core.specs.Worlds.{World, run, run_from, step, open_world, value_at}
 use Rattle.sh_pass.specs.Deciding.{step_at_slot}
 use Rattle.sh_pass.specs.Missing.{StepMisses}
-use Rattle.sh_pass.specs.View.{View}
+use Rattle.sh_table.specs.declared.view.View.{View}
 use Rattle.sh_laws.specs.Walks.{HeardIsRemoved, MissedIsAbsent, StayingIsMet}
 
 -- what an event adds to a trail, by the row of the event

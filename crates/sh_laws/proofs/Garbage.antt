@@ -2,17 +2,17 @@
 use Rattle.std.proofs.Common.{◌≡◌, ℕ, zero, suc, ◌+◌, ◌*◌, ◌≤◌, ◌==◌, ◌&&◌, Bool, true, false, refl, arith}
 use Rattle.std.proofs.Common.{Option, Some, None, length}
 use Rattle.std.specs.Prelude.{not}
-use Rattle.sh_core.specs.Body.{Body}
-use Rattle.sh_core.specs.Collections.{total, if1}
-use Rattle.sh_core.specs.Hand.{Hand}
-use Rattle.sh_core.specs.Hand.TheVariants.{Removing, Leaving, Finishing, ToPut, Filling}
-use Rattle.sh_core.specs.KeyRef.{KeyRef}
+use Rattle.sh_step.specs.declared.body.Body.{Body}
+use Rattle.sh_step.specs.Collections.{total, if1}
+use Rattle.sh_slots.specs.declared.hand.Hand.{Hand}
+use Rattle.sh_slots.specs.declared.hand.Hand.TheVariants.{Removing, Leaving, Finishing, ToPut, Filling}
+use Rattle.sh_slots.specs.declared.hand.KeyRef.{KeyRef}
 use Rattle.sh_core.specs.Lists.{PutLists, accounts, in_hand, lists_of, state_of}
-use Rattle.sh_core.specs.Plans.{Plan, plan_of}
+use Rattle.sh_step.specs.Plans.{Plan, plan_of}
 use Rattle.sh_core.specs.Refines.{Always, Refines, holds_now, in_hands, marked}
-use Rattle.sh_core.specs.Rows.{idle, hand}
-use Rattle.sh_core.specs.SlotRef.{SlotRef}
-use Rattle.sh_core.specs.Slots.{same_slot, slot_ref_of}
+use Rattle.sh_step.specs.Rows.{idle, hand}
+use Rattle.sh_slots.specs.declared.hand.SlotRef.{SlotRef}
+use Rattle.sh_slots.specs.Slots.{same_slot, slot_ref_of}
 use Rattle.sh_core.specs.Tallies.{at_slot, current, finishing, visits}
 use Rattle.sh_core.specs.Worlds.{World, run}
 use Rattle.sh_core.proofs.Clauses.RunTheorem.{theorem}

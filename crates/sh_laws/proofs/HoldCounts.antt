@@ -8,13 +8,13 @@ use Rattle.std.proofs.lemmas.Option.{slice_get-get_or}
 use Rattle.sh_history.specs.History.{is_got_by, is_release_by, got_count_by, released_count_by, holds_on}
 use Rattle.sh_history.specs.Log.{pass_of}
 use Rattle.sh_history.proofs.LogLaws.{count_by-cons}
-use Rattle.sh_core.specs.Body.{Body}
-use Rattle.sh_core.specs.Collections.{total, if1}
-use Rattle.sh_core.specs.Entry.{Entry}
-use Rattle.sh_core.specs.Entry.TheVariants.{Got, Released}
+use Rattle.sh_step.specs.declared.body.Body.{Body}
+use Rattle.sh_step.specs.Collections.{total, if1}
+use Rattle.sh_history.specs.declared.entry.Entry.{Entry}
+use Rattle.sh_history.specs.declared.entry.Entry.TheVariants.{Got, Released}
 use Rattle.sh_core.specs.Lists.{PutLists, times}
-use Rattle.sh_core.specs.Parts.{newcomer}
-use Rattle.sh_core.specs.Plans.{Plan}
+use Rattle.sh_step.specs.Parts.{newcomer}
+use Rattle.sh_step.specs.Plans.{Plan}
 use Rattle.sh_core.specs.Refines.{Refines}
 use Rattle.sh_core.specs.Worlds.{World}
 use Rattle.sh_laws.specs.Garbage.{sum_below}

@@ -8,17 +8,17 @@ use Rattle.sh_history.specs.History.{released_count_by, Allowed, Legal}
 use Rattle.sh_history.proofs.Laws.{legal_after_parts, some_value}
 use Rattle.sh_history.proofs.LogLaws.{value_of-append_some, value_of-append_none, count_by-push}
 use Rattle.sh_core.specs.AtomicMap.{map_of, made_by, Finds, IsOneOperation}
-use Rattle.sh_core.specs.Body.{Body}
-use Rattle.sh_core.specs.Collections.{if1}
-use Rattle.sh_core.specs.Entry.{Entry}
-use Rattle.sh_core.specs.Entry.TheVariants.{Insert, Got, Gone, Crowded, Removed, Released, Seen}
-use Rattle.sh_core.specs.Event.{Event}
-use Rattle.sh_core.specs.Fields.{fields_of}
-use Rattle.sh_core.specs.KeyRef.{KeyRef}
+use Rattle.sh_step.specs.declared.body.Body.{Body}
+use Rattle.sh_step.specs.Collections.{if1}
+use Rattle.sh_history.specs.declared.entry.Entry.{Entry}
+use Rattle.sh_history.specs.declared.entry.Entry.TheVariants.{Insert, Got, Gone, Crowded, Removed, Released, Seen}
+use Rattle.sh_step.specs.declared.action.Event.{Event}
+use Rattle.sh_word.specs.Fields.{fields_of}
+use Rattle.sh_slots.specs.declared.hand.KeyRef.{KeyRef}
 use Rattle.sh_core.specs.Lists.{PutLists, lists_of}
-use Rattle.sh_core.specs.Plans.{Plan, plan_of}
+use Rattle.sh_step.specs.Plans.{Plan, plan_of}
 use Rattle.sh_core.specs.Refines.{Refines}
-use Rattle.sh_core.specs.Slots.{live_at, past_at}
+use Rattle.sh_slots.specs.Slots.{live_at, past_at}
 use Rattle.sh_core.specs.Worlds.{World, run, run_from, open_world, value_at}
 use Rattle.sh_core.specs.declared.outcome.Outcome.{Outcome}
 use Rattle.sh_core.specs.declared.outcome.Outcome.TheVariants.{Replied, Moved, Skipped}

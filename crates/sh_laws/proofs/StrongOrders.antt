@@ -1,13 +1,13 @@
 -- The log of a run is its replies in order, and only grows.
 use Rattle.std.proofs.Common.{◌≡◌, Bool, true, false, List, [], ◌∷◌, ◌++◌, refl, ap, sym, ◌∙◌, Option, Some, None}
 use Rattle.std.proofs.Common.{append_assoc, append-nil}
-use Rattle.sh_core.specs.Entry.{Entry}
-use Rattle.sh_core.specs.Event.{Event}
+use Rattle.sh_history.specs.declared.entry.Entry.{Entry}
+use Rattle.sh_step.specs.declared.action.Event.{Event}
 use Rattle.sh_core.specs.declared.outcome.Outcome.{Outcome}
 use Rattle.sh_core.specs.declared.outcome.Outcome.TheVariants.{Replied, Moved, Skipped}
 use Rattle.sh_core.specs.Outcomes.{row_of_event, outcome_of, outcomes_from, IsTold}
-use Rattle.sh_core.specs.Plans.{Plan, plan_of}
-use Rattle.sh_core.specs.Rows.{Row}
+use Rattle.sh_step.specs.Plans.{Plan, plan_of}
+use Rattle.sh_step.specs.Rows.{Row}
 use Rattle.sh_core.specs.Worlds.{World, run, run_from, step, open_world}
 use Rattle.sh_core.proofs.Clauses.RunTheorem.{theorem}
 use Rattle.sh_core.proofs.Entries.{log_goes_on}

@@ -2,11 +2,11 @@
 use Rattle.std.proofs.Common.{◌≡◌, ℕ, zero, suc, ◌+◌, ◌*◌, ◌<◌, ◌≤◌, ◌==◌, ◌&&◌, Bool, true, false, List, [], ◌∷◌, refl}
 use Rattle.std.proofs.Common.{arith, ap, sym, ◌∙◌, eqb-true, ne_eqb}
 use Rattle.std.proofs.lemmas.Bool.Decides.{nat_tests}
-use Rattle.sh_core.specs.Collections.{total, if1}
+use Rattle.sh_step.specs.Collections.{total, if1}
 use Rattle.sh_core.specs.Lists.{among, slots_under}
-use Rattle.sh_core.specs.Plans.{Plan, heap_pages}
-use Rattle.sh_core.specs.SlotRef.{SlotRef}
-use Rattle.sh_core.specs.Slots.{same_slot, slot_refs}
+use Rattle.sh_step.specs.Plans.{Plan, heap_pages}
+use Rattle.sh_slots.specs.declared.hand.SlotRef.{SlotRef}
+use Rattle.sh_slots.specs.Slots.{same_slot, slot_refs}
 use Rattle.sh_core.specs.Worlds.{World}
 use Rattle.sh_core.proofs.Sums.Tests.{if1_few}
 use Rattle.sh_core.proofs.Sums.Totals.{total_le, total_plus}

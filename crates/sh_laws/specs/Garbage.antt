@@ -1,11 +1,11 @@
 -- How many slots are out of their owners' reach: bounds that hold whoever stalls.
 use Rattle.std.specs.Prelude.{ℕ, zero, suc, ◌+◌, ◌*◌, ◌<◌, ◌≤◌, ◌==◌, cond, not, List, [], ◌∷◌, length}
-use Rattle.sh_core.specs.Body.{Body}
-use Rattle.sh_core.specs.Collections.{total, if1}
-use Rattle.sh_core.specs.Hand.TheVariants.{Tying, RingTying}
+use Rattle.sh_step.specs.declared.body.Body.{Body}
+use Rattle.sh_step.specs.Collections.{total, if1}
+use Rattle.sh_slots.specs.declared.hand.Hand.TheVariants.{Tying, RingTying}
 use Rattle.sh_core.specs.Lists.{PutLists, accounts, slots_under}
-use Rattle.sh_core.specs.Plans.{Plan, heap_pages, shard_of}
-use Rattle.sh_core.specs.Rows.{idle}
+use Rattle.sh_step.specs.Plans.{Plan, heap_pages, shard_of}
+use Rattle.sh_step.specs.Rows.{idle}
 use Rattle.sh_core.specs.Worlds.{World}
 
 -- f of each number below n, added up

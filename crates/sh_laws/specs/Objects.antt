@@ -2,18 +2,18 @@
 use Rattle.std.specs.Prelude.{ℕ, ◌+◌, ◌-◌, ◌≡◌, ◌<◌, ◌==◌, Bool, false, ◌&&◌, ◌||◌, List, [], ◌∷◌, ◌++◌, Option}
 use Rattle.std.specs.Prelude.{Some, None, IsSome, slice_get}
 use Rattle.sh_core.specs.AtomicMap.{map_of, made_by}
-use Rattle.sh_core.specs.Collections.{if1}
-use Rattle.sh_core.specs.Entry.{Entry}
-use Rattle.sh_core.specs.Entry.TheVariants.{Insert, Got, Gone, Crowded, Removed, Released, Seen}
-use Rattle.sh_core.specs.Event.{Event}
-use Rattle.sh_core.specs.Layout.{Layout, IsLayout}
+use Rattle.sh_step.specs.Collections.{if1}
+use Rattle.sh_history.specs.declared.entry.Entry.{Entry}
+use Rattle.sh_history.specs.declared.entry.Entry.TheVariants.{Insert, Got, Gone, Crowded, Removed, Released, Seen}
+use Rattle.sh_step.specs.declared.action.Event.{Event}
+use Rattle.sh_key.specs.Layout.{Layout, IsLayout}
 use Rattle.sh_core.specs.Lists.{times}
 use Rattle.sh_core.specs.declared.outcome.Outcome.{Outcome}
 use Rattle.sh_core.specs.declared.outcome.Outcome.TheVariants.{Moved, Replied, Skipped}
 use Rattle.sh_core.specs.Outcomes.{outcome_of}
-use Rattle.sh_core.specs.Plans.{Plan, plan_of}
-use Rattle.sh_core.specs.Shape.{Numbers, IsShape, Fits}
-use Rattle.sh_core.specs.Slots.{live_at, past_at}
+use Rattle.sh_step.specs.Plans.{Plan, plan_of}
+use Rattle.sh_shape.specs.Shape.{Numbers, IsShape, Fits}
+use Rattle.sh_slots.specs.Slots.{live_at, past_at}
 use Rattle.sh_core.specs.Worlds.{World, run, value_at}
 use Rattle.sh_laws.specs.Garbage.{sum_below}
 

@@ -1,17 +1,17 @@
 -- What the laws refuse: wrong tables of actions, and statements that say more.
 use Rattle.std.specs.Prelude.{ℕ, ◌+◌, ◌*◌, ◌≡◌, ◌≤◌, ◌==◌, true, not, List, ◌++◌, Some, None, slice_get}
-use Rattle.sh_core.specs.Action.TheVariants.{Put, Ring}
-use Rattle.sh_core.specs.Entry.{Entry}
-use Rattle.sh_core.specs.Entry.TheVariants.{Crowded}
-use Rattle.sh_core.specs.Event.{Event}
-use Rattle.sh_core.specs.Hand.TheVariants.{Idle, ToPut, Ringing}
+use Rattle.sh_step.specs.declared.action.Action.TheVariants.{Put, Ring}
+use Rattle.sh_history.specs.declared.entry.Entry.{Entry}
+use Rattle.sh_history.specs.declared.entry.Entry.TheVariants.{Crowded}
+use Rattle.sh_step.specs.declared.action.Event.{Event}
+use Rattle.sh_slots.specs.declared.hand.Hand.TheVariants.{Idle, ToPut, Ringing}
 use Rattle.sh_core.specs.Lists.{PutLists}
-use Rattle.sh_core.specs.Moves.{row}
+use Rattle.sh_step.specs.Moves.{row}
 use Rattle.sh_core.specs.Outcomes.{done, outcome_of}
 use Rattle.sh_core.specs.declared.outcome.Outcome.TheVariants.{Replied, Skipped}
 use Rattle.sh_core.specs.declared.outcome.Outcome.{Outcome}
-use Rattle.sh_core.specs.Plans.{Plan, heap_pages}
-use Rattle.sh_core.specs.Rows.{hand, put_at, ring}
+use Rattle.sh_step.specs.Plans.{Plan, heap_pages}
+use Rattle.sh_step.specs.Rows.{hand, put_at, ring}
 use Rattle.sh_core.specs.Variants.{Table, step_by}
 use Rattle.sh_core.specs.Words.{read}
 use Rattle.sh_core.specs.Worlds.{World, entry_of, run, value_at_place}

@@ -1,13 +1,13 @@
 -- The order that is chosen for the replies of a run stays as it is, however the run goes on.
 use Rattle.std.specs.Prelude.{◌≡◌, List, [], ◌∷◌, ◌++◌}
-use Rattle.sh_core.specs.Entry.{Entry}
-use Rattle.sh_core.specs.Event.{Event}
-use Rattle.sh_core.specs.Layout.{Layout, IsLayout}
+use Rattle.sh_history.specs.declared.entry.Entry.{Entry}
+use Rattle.sh_step.specs.declared.action.Event.{Event}
+use Rattle.sh_key.specs.Layout.{Layout, IsLayout}
 use Rattle.sh_core.specs.declared.outcome.Outcome.{Outcome}
 use Rattle.sh_core.specs.declared.outcome.Outcome.TheVariants.{Replied}
 use Rattle.sh_core.specs.Outcomes.{outcomes}
-use Rattle.sh_core.specs.Plans.{Plan, plan_of}
-use Rattle.sh_core.specs.Shape.{Numbers, IsShape, Fits}
+use Rattle.sh_step.specs.Plans.{Plan, plan_of}
+use Rattle.sh_shape.specs.Shape.{Numbers, IsShape, Fits}
 use Rattle.sh_history.specs.History.{Legal}
 
 -- the replies among these outcomes, in order

@@ -1,20 +1,20 @@
 -- A key that steps of a pass missed is not in the map at a moment of the run.
 use Rattle.std.specs.Prelude.{◌≡◌, ◌≢◌, ℕ, ◌≤◌, true, List, ◌++◌, length, Some, None, IsSome}
-use Rattle.sh_core.specs.Action.TheVariants as action
+use Rattle.sh_step.specs.declared.action.Action.TheVariants as action
 use Rattle.sh_core.specs.AtomicMap.{map_of}
-use Rattle.sh_core.specs.Event.{Event}
-use Rattle.sh_core.specs.Footstep.{Footstep}
-use Rattle.sh_core.specs.KeyRef.{KeyRef}
-use Rattle.sh_core.specs.Layout.{Layout, IsLayout}
-use Rattle.sh_core.specs.Moves.{place_named}
-use Rattle.sh_core.specs.Plans.{Plan, plan_of}
-use Rattle.sh_core.specs.Shape.{Numbers, IsShape, Fits}
+use Rattle.sh_step.specs.declared.action.Event.{Event}
+use Rattle.sh_step.specs.declared.footstep.Footstep.{Footstep}
+use Rattle.sh_slots.specs.declared.hand.KeyRef.{KeyRef}
+use Rattle.sh_key.specs.Layout.{Layout, IsLayout}
+use Rattle.sh_step.specs.Moves.{place_named}
+use Rattle.sh_step.specs.Plans.{Plan, plan_of}
+use Rattle.sh_shape.specs.Shape.{Numbers, IsShape, Fits}
 use Rattle.sh_core.specs.Trails.{trail_of}
 use Rattle.sh_core.specs.Worlds.{run}
-use Rattle.sh_pass.specs.History.{is_removed}
+use Rattle.sh_history.specs.History.{is_removed}
 use Rattle.sh_pass.specs.Missing.{StepMisses}
-use Rattle.sh_pass.specs.View.{View}
-use Rattle.sh_pass.specs.Views.{HeardOfInsert}
+use Rattle.sh_table.specs.declared.view.View.{View}
+use Rattle.sh_table.specs.Views.{HeardOfInsert}
 
 -- a moment of the run at which pass a has done at least these first steps, and the key is not in the map
 pub record IsAbsentOnce (plan : Plan) (es : List Event) (a : ℕ) (before : List Footstep) (k : ℕ) : Type 0 where

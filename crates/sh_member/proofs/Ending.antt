@@ -3,19 +3,19 @@ use Rattle.std.proofs.Common.{◌≡◌, ℕ, ◌+◌, true, List, [], ◌∷◌
 use Rattle.std.proofs.Common.{subst, arith, append_assoc, ◌⊎◌, inl, inr, Option, None, IsSome}
 use Rattle.std.specs.Prelude.{◌==◌, Ok, Err, false}
 use Rattle.std.proofs.lemmas.List.{map-append}
-use Rattle.sh_table.specs.Entry.TheVariants as entry
-use Rattle.sh_table.specs.Entry.{Entry}
-use Rattle.sh_table.specs.LogEntry.{LogEntry}
+use Rattle.sh_history.specs.declared.entry.Entry.TheVariants as entry
+use Rattle.sh_history.specs.declared.entry.Entry.{Entry}
+use Rattle.sh_history.specs.declared.log.LogEntry.{LogEntry}
 use Rattle.sh_key.specs.Layout.{Layout}
-use Rattle.sh_table.specs.Moves.{place_named}
-use Rattle.sh_table.specs.Plans.{plan_of}
+use Rattle.sh_step.specs.Moves.{place_named}
+use Rattle.sh_step.specs.Plans.{plan_of}
 use Rattle.sh_value.specs.declared.hold.Hold.{Hold}
 use Rattle.sh_value.specs.declared.refusal.Refusal.{Refusal}
 use Rattle.sh_value.specs.declared.refusal.Refusal.TheVariants as refusal
-use Rattle.sh_table.specs.LogEntry.TheVariants.{Known, Unread}
-use Rattle.sh_table.specs.Log.{filled, AllHaveValue}
-use Rattle.sh_table.specs.Footstep.{Footstep}
-use Rattle.sh_table.specs.Collections.{without}
+use Rattle.sh_history.specs.declared.log.LogEntry.TheVariants.{Known, Unread}
+use Rattle.sh_history.specs.Log.{filled, AllHaveValue}
+use Rattle.sh_step.specs.declared.footstep.Footstep.{Footstep}
+use Rattle.sh_step.specs.Collections.{without}
 use Rattle.sh_pass.proofs.SameTales.{later_same}
 use Rattle.sh_pass.specs.Deciding.{InOneStep, DropsHold, RemovalDecided}
 use Rattle.sh_pass.specs.Passes.{Caller, holds, CallAdds, CallReads, GetDoes, ReadDoes, ReleaseDoes, RemoveDoes}

@@ -2,7 +2,7 @@
 use Rattle.std.proofs.Common.{◌≡◌, ℕ, ◌+◌, Bool, List, [], ◌∷◌, ◌++◌, Option, Some, None, Result, Ok, Err}
 use Rattle.std.proofs.Common.{refl, sym, subst, arith}
 use Rattle.sh_key.specs.Layout.{Layout}
-use Rattle.sh_pass.specs.Collections.{if1}
+use Rattle.sh_step.specs.Collections.{if1}
 use Rattle.sh_pass.specs.Growing.{SameTale}
 use Rattle.sh_pass.specs.Passes.{Caller, RemoveDoes}
 use Rattle.sh_value.specs.declared.refusal.Refusal.{Refusal}

@@ -2,12 +2,12 @@
 use Rattle.std.proofs.Common.{◌≡◌, ◌≢◌, ℕ, ◌+◌, ◌-◌, ◌*◌, ◌≤◌, List, [], ◌∷◌, ◌++◌, length}
 use Rattle.std.proofs.Common.{refl, sym, ◌∙◌, ap, subst, arith, Some, None, Result, Ok, Err}
 use Rattle.sh_key.specs.Layout.{Layout}
-use Rattle.sh_pass.specs.Footstep.{Footstep}
-use Rattle.sh_pass.specs.Moves.{place_named}
-use Rattle.sh_pass.specs.Plans.{Plan}
-use Rattle.sh_table.specs.Entry.TheVariants as entry
-use Rattle.sh_table.specs.LogEntry.{LogEntry}
-use Rattle.sh_table.specs.LogEntry.TheVariants.{Known, Unread}
+use Rattle.sh_step.specs.declared.footstep.Footstep.{Footstep}
+use Rattle.sh_step.specs.Moves.{place_named}
+use Rattle.sh_step.specs.Plans.{Plan}
+use Rattle.sh_history.specs.declared.entry.Entry.TheVariants as entry
+use Rattle.sh_history.specs.declared.log.LogEntry.{LogEntry}
+use Rattle.sh_history.specs.declared.log.LogEntry.TheVariants.{Known, Unread}
 use Rattle.sh_table.specs.Views.{Each}
 use Rattle.sh_value.specs.declared.hold.Hold.{Hold}
 use Rattle.sh_value.specs.declared.refusal.Refusal.{Refusal}

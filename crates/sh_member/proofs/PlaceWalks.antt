@@ -6,12 +6,12 @@ use Rattle.std.proofs.Math.Nat.{min-eq_left, min-eq_right, min-le_left, mul-add}
 use Rattle.std.proofs.lemmas.List.{map-append}
 use Rattle.std.proofs.lemmas.Nat.{mul-le}
 use Rattle.sh_key.specs.Layout.{Layout}
-use Rattle.sh_pass.specs.Places.{all_pages}
-use Rattle.sh_pass.specs.Footstep.{Footstep}
-use Rattle.sh_pass.specs.Plans.{Plan, plan_of}
-use Rattle.sh_table.specs.Entry.TheVariants as entry
-use Rattle.sh_table.specs.LogEntry.{LogEntry}
-use Rattle.sh_table.specs.LogEntry.TheVariants.{Known}
+use Rattle.sh_shape.specs.Places.{all_pages}
+use Rattle.sh_step.specs.declared.footstep.Footstep.{Footstep}
+use Rattle.sh_step.specs.Plans.{Plan, plan_of}
+use Rattle.sh_history.specs.declared.entry.Entry.TheVariants as entry
+use Rattle.sh_history.specs.declared.log.LogEntry.{LogEntry}
+use Rattle.sh_history.specs.declared.log.LogEntry.TheVariants.{Known}
 use Rattle.sh_table.specs.Views.{Each}
 use Rattle.sh_value.specs.declared.refusal.Refusal.{Refusal}
 use Rattle.sh_value.specs.declared.refusal.Refusal.TheVariants as refusal
@@ -21,7 +21,7 @@ use Rattle.sh_pass.specs.Missing.{MissesKeysOf}
 use Rattle.sh_pass.specs.Peeks.{slot_at}
 use Rattle.sh_pass.proofs.DecidedLaws.{stepped_then}
 use Rattle.sh_pass.proofs.SameTales.{later_same, same_now}
-use Rattle.sh_pass.proofs.Zips.{each_append}
+use Rattle.sh_table.proofs.Zips.{each_append}
 use Rattle.sh_pass.specs.declared.next_key.NextKey.{NextKey}
 use Rattle.sh_member.specs.declared.walking.NextHeld.{NextHeld}
 use Rattle.sh_member.specs.declared.walking.NextLive.{NextLive}

@@ -5,9 +5,3 @@ pub mod SideBounds
 pub mod Sides
 pub mod ToldKeys
 pub mod Walks
-pub use Rattle.sh_shard.specs.Bounds
-pub use Rattle.sh_shard.specs.Leaving
-pub use Rattle.sh_shard.specs.Pages
-pub use Rattle.sh_shard.specs.RemoteFrees
-pub use Rattle.sh_shard.specs.Shards
-pub use Rattle.sh_shard.specs.Steps

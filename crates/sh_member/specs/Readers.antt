@@ -1,7 +1,7 @@
 -- What the calls do that end what they begin.
 use Rattle.std.specs.Prelude.{ℕ, ◌+◌, ◌<◌, ◌≤◌, ◌⊎◌, List, [], ◌∷◌, length, Result, Ok, Err}
-use Rattle.sh_table.specs.Entry.TheVariants as entry
-use Rattle.sh_table.specs.LogEntry.TheVariants.{Known}
+use Rattle.sh_history.specs.declared.entry.Entry.TheVariants as entry
+use Rattle.sh_history.specs.declared.log.LogEntry.TheVariants.{Known}
 use Rattle.sh_key.specs.Layout.{Layout}
 use Rattle.sh_value.specs.declared.refusal.Refusal.{Refusal}
 use Rattle.sh_value.specs.declared.refusal.Refusal.TheVariants as refusal

@@ -4,7 +4,7 @@ use Rattle.std.specs.Prelude.{Option, Some, None, Result, is_ok}
 use Rattle.std.specs.Fn.{FnReturns, Shared}
 use Rattle.std.specs.Borrow.{Bor}
 use Rattle.sh_value.specs.declared.refusal.Refusal.{Refusal}
-use Rattle.sh_pass.specs.Collections.{if1}
+use Rattle.sh_step.specs.Collections.{if1}
 use Rattle.sh_member.specs.declared.walking.NextLive.{NextLive}
 
 -- the predicate returned this for the key and its value

@@ -1,10 +1,10 @@
 -- Keys that go from one thread to another with a receipt of their insert.
 use Rattle.std.specs.Prelude.{◌≡◌, ℕ, List, Result, Ok, Err}
 use Rattle.std.specs.List.{Contains}
-use Rattle.sh_table.specs.Entry.{Entry}
-use Rattle.sh_table.specs.Entry.TheVariants.{Insert, Gone}
-use Rattle.sh_table.specs.LogEntry.TheVariants.{Known}
-use Rattle.sh_table.specs.HistoryLaws.{HasRemoval}
+use Rattle.sh_history.specs.declared.entry.Entry.{Entry}
+use Rattle.sh_history.specs.declared.entry.Entry.TheVariants.{Insert, Gone}
+use Rattle.sh_history.specs.declared.log.LogEntry.TheVariants.{Known}
+use Rattle.sh_history.specs.Laws.{HasRemoval}
 use Rattle.sh_key.specs.Layout.{Layout}
 use Rattle.sh_value.specs.declared.refusal.Refusal.{Refusal}
 use Rattle.sh_value.specs.declared.refusal.Refusal.TheVariants as refusal

@@ -2,18 +2,18 @@
 use Rattle.std.specs.Prelude.{◌≡◌, ℕ, ◌+◌, ◌-◌, ◌*◌, ◌<◌, ◌≤◌, List, [], ◌∷◌, ◌++◌, map, length}
 use Rattle.std.specs.Prelude.{Option, Some, None, Result, Ok, Err}
 use Rattle.sh_key.specs.Layout.{Layout}
-use Rattle.sh_pass.specs.Footstep.{Footstep}
+use Rattle.sh_step.specs.declared.footstep.Footstep.{Footstep}
 use Rattle.sh_pass.specs.Missing.{MissesKeysOf}
 use Rattle.sh_pass.specs.Owners.{IsKeyOfSlot}
 use Rattle.sh_pass.specs.Passes.{Caller, CallAdds, holds, plan_for}
 use Rattle.sh_pass.specs.Peeks.{slot_at}
-use Rattle.sh_pass.specs.Plans.{Plan}
-use Rattle.sh_pass.specs.View.{View}
-use Rattle.sh_pass.specs.Views.{Each}
+use Rattle.sh_step.specs.Plans.{Plan}
+use Rattle.sh_table.specs.declared.view.View.{View}
+use Rattle.sh_table.specs.Views.{Each}
 use Rattle.sh_pass.specs.declared.next_key.NextKey.{NextKey}
-use Rattle.sh_table.specs.Entry.TheVariants as entry
-use Rattle.sh_table.specs.LogEntry.{LogEntry}
-use Rattle.sh_table.specs.LogEntry.TheVariants.{Known, Unread}
+use Rattle.sh_history.specs.declared.entry.Entry.TheVariants as entry
+use Rattle.sh_history.specs.declared.log.LogEntry.{LogEntry}
+use Rattle.sh_history.specs.declared.log.LogEntry.TheVariants.{Known, Unread}
 use Rattle.sh_shard.specs.Pages.{Paged}
 use Rattle.sh_shard.specs.Places.{first_place, place_count}
 use Rattle.sh_value.specs.declared.hold.Hold.{Hold}

@@ -5,7 +5,7 @@ ghost use Rattle.sh_pass.specs.Fetching.{FetchDoes};
 ghost use Rattle.sh_pass.specs.Rooms.{FillsRoom, becomes};
 ghost use Rattle.sh_pass.specs.Passes.{Caller, GetDoes, GlanceDoes, ReadDoes, ReadIntoDoes, RemoveDoes, ReleaseDoes};
 ghost use Rattle.sh_pass.specs.Peeks.{PeekDoes};
-ghost use Rattle.sh_pass.specs.Places.{all_pages, slot_places};
+ghost use Rattle.sh_shape.specs.Places.{all_pages, slot_places};
 ghost use Rattle.sh_pass.specs.Receipts.{heeded, receipt_by};
 ghost use Rattle.sh_member.specs.Batches.{GetsEach, FetchesEach, RemainsAfter};
 ghost use Rattle.sh_pass.specs.Remaining.{Remains};

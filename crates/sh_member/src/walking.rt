@@ -1,6 +1,6 @@
 //! Walks over the live keys of a heap, by any reader, while others insert and remove.
 ghost use Rattle.std.specs.Prelude.{◌+◌, ◌*◌, ◌<◌};
-ghost use Rattle.sh_pass.specs.Places.{all_pages, slot_places};
+ghost use Rattle.sh_shape.specs.Places.{all_pages, slot_places};
 ghost use Rattle.sh_pass.specs.Remaining.{Remains};
 ghost use Rattle.sh_member.specs.Walks.{NextHeldDoes, NextLiveDoes, PutsLive};
 

@@ -2,10 +2,10 @@
 use Rattle.std.proofs.Common.{◌≡◌, ℕ, ◌<◌, ◌==◌, ◌∙◌, ◌∷◌, ◌++◌, [], true, false, List, map, refl, ap, sym, subst, arith}
 use Rattle.std.proofs.Common.{eq-eqb, append-nil, inl, inr}
 use Rattle.std.specs.Prelude.{Result, Ok, Err}
-use Rattle.sh_table.specs.Entry.TheVariants as entry
-use Rattle.sh_table.specs.LogEntry.{LogEntry}
-use Rattle.sh_table.specs.LogEntry.TheVariants.{Known, Unread}
-use Rattle.sh_table.specs.Log.{filled, logged_holds_by}
+use Rattle.sh_history.specs.declared.entry.Entry.TheVariants as entry
+use Rattle.sh_history.specs.declared.log.LogEntry.{LogEntry}
+use Rattle.sh_history.specs.declared.log.LogEntry.TheVariants.{Known, Unread}
+use Rattle.sh_history.specs.Log.{filled, logged_holds_by}
 use Rattle.sh_key.specs.Layout.{Layout}
 use Rattle.sh_plain.specs.Store.{GetLeaves, ReadLeaves, LookLeaves, RemoveLeaves, ReleaseLeaves}
 use Rattle.sh_value.specs.declared.hold.Hold.{Hold}

@@ -3,7 +3,7 @@ use Rattle.std.proofs.Common.{◌≡◌, ℕ, Bool, true, false, List, [], ◌�
 use Rattle.std.proofs.Common.{append_assoc, ◌+◌, suc, length, arith, Option, Some}
 use Rattle.std.proofs.lemmas.List.{length-append}
 use Rattle.atomic_table.specs.declared.shared.Seat.{Seat}
-use Rattle.sh_table.specs.LogEntry.{LogEntry}
+use Rattle.sh_history.specs.declared.log.LogEntry.{LogEntry}
 use Rattle.sh_key.specs.Layout.{Layout}
 use Rattle.sh_shape.specs.Shape.{Numbers}
 use Rattle.sh_slots.specs.declared.enter.GetAnswer.{GetAnswer}

@@ -4,10 +4,10 @@ use Rattle.std.proofs.Common.{◌≡◌, ℕ, ◌+◌, true, cond, List, [], ◌
 use Rattle.std.proofs.Common.{subst, arith, eq-eqb, append_assoc, inl, inr}
 use Rattle.std.specs.Prelude.{◌==◌, Ok, Err, Result}
 use Rattle.std.proofs.lemmas.List.{map-append}
-use Rattle.sh_table.specs.Entry.TheVariants as entry
-use Rattle.sh_table.specs.LogEntry.{LogEntry}
-use Rattle.sh_table.specs.LogEntry.TheVariants.{Known, Unread}
-use Rattle.sh_table.specs.Log.{filled, AllHaveValue}
+use Rattle.sh_history.specs.declared.entry.Entry.TheVariants as entry
+use Rattle.sh_history.specs.declared.log.LogEntry.{LogEntry}
+use Rattle.sh_history.specs.declared.log.LogEntry.TheVariants.{Known, Unread}
+use Rattle.sh_history.specs.Log.{filled, AllHaveValue}
 use Rattle.sh_key.specs.Layout.{Layout}
 use Rattle.sh_value.specs.declared.hold.Hold.{Hold}
 use Rattle.sh_value.specs.declared.refusal.Refusal.{Refusal}

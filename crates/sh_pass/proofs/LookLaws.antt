@@ -6,8 +6,8 @@ use Rattle.std.proofs.Common.{append_assoc, ◌&&◌}
 use Rattle.std.proofs.lemmas.Bool.Decides.{nat_tests}
 use Rattle.std.specs.Prelude.{nat_lt, not}
 use Rattle.atomic_table.specs.declared.shared.Seat.{Seat}
-use Rattle.sh_table.specs.Entry.TheVariants as entry
-use Rattle.sh_table.specs.LogEntry.TheVariants.{Known}
+use Rattle.sh_history.specs.declared.entry.Entry.TheVariants as entry
+use Rattle.sh_history.specs.declared.log.LogEntry.TheVariants.{Known}
 use Rattle.sh_key.specs.Layout.{Layout}
 use Rattle.sh_slots.specs.declared.hand.Hand.TheVariants.{Idle, Looking}
 use Rattle.sh_slots.specs.declared.hand.KeyRef.{KeyRef}

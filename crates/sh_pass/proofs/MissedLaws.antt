@@ -22,9 +22,9 @@ use Rattle.sh_step.specs.Plans.{Plan, plan_of}
 use Rattle.sh_key.specs.Layout.{Layout}
 use Rattle.sh_shape.specs.Shape.{Numbers}
 use Rattle.sh_pass.proofs.PeekLaws.{one_key}
-use Rattle.sh_table.specs.LogEntry.{LogEntry}
-use Rattle.sh_table.specs.LogEntry.TheVariants.{Known}
-use Rattle.sh_table.specs.Entry.TheVariants as entry
+use Rattle.sh_history.specs.declared.log.LogEntry.{LogEntry}
+use Rattle.sh_history.specs.declared.log.LogEntry.TheVariants.{Known}
+use Rattle.sh_history.specs.declared.entry.Entry.TheVariants as entry
 use Rattle.sh_table.specs.declared.view.Heard.{Heard}
 use Rattle.sh_table.specs.declared.view.Order.{Order}
 use Rattle.sh_table.specs.declared.view.Told.{Told}

@@ -22,7 +22,7 @@ use Rattle.sh_pass.specs.Owners.{OwnerDid, OwnerActs, OnPage, SamePages, NonePut
 use Rattle.sh_pass.specs.Owners.{seen_bell, heap_page, page_rung, bell_taken, bell_followed, page_on_bell}
 use Rattle.sh_pass.proofs.OwnNotes.{disarmed_else}
 use Rattle.sh_pass.proofs.OwnSteps.{still, more, acts, bell_after, page_after, pages_same}
-use Rattle.sh_table.proofs.Standing.{eqb_self}
+use Rattle.sh_history.proofs.Standing.{eqb_self}
 
 -- the item that a word of a bell names, over the heap and in its shard
 item_named : (plan : Plan) (n k word : ℕ) → cond (nat_lt (over_heap plan n k word) k) None

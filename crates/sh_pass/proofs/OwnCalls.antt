@@ -2,7 +2,7 @@
 use Rattle.std.proofs.Common.{◌≡◌, ℕ, ◌+◌, ◌*◌, ◌/◌, ◌%◌, ◌<◌, ◌==◌, ◌&&◌, Bool, true, false, Option, Some}
 use Rattle.std.proofs.Common.{None, List, ◌∷◌, refl, ap, ◌∙◌, sym, subst, arith, mod-lt}
 use Rattle.std.proofs.lemmas.Bool.{false≢true}
-use Rattle.sh_table.specs.LogEntry.{LogEntry}
+use Rattle.sh_history.specs.declared.log.LogEntry.{LogEntry}
 use Rattle.sh_key.specs.Layout.{Layout}
 use Rattle.sh_shape.specs.Places.{pages_of, page_number}
 use Rattle.sh_shape.specs.Shape.{Numbers}
@@ -29,7 +29,7 @@ use Rattle.sh_pass.specs.Owners.{CallLeaves, SlotCame, SameBells, SamePages, See
 use Rattle.sh_pass.specs.Owners.{page_with}
 use Rattle.sh_pass.proofs.OwnNotes.{one_more, one_more_else}
 use Rattle.sh_pass.proofs.SameTales.{later_same}
-use Rattle.sh_table.proofs.Standing.{eqb_self}
+use Rattle.sh_history.proofs.Standing.{eqb_self}
 
 -- ---- no step of a call takes from a page or from a bell, follows or arms
 

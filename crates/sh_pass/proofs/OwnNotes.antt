@@ -11,7 +11,7 @@ use Rattle.sh_slots.specs.Slots.{same_slot, slot_refs}
 use Rattle.sh_step.specs.Collections.{has, noted, without, off}
 use Rattle.sh_step.specs.Rows.{point, unpoint}
 use Rattle.sh_step.proofs.ListLaws.{has_in_both}
-use Rattle.sh_table.proofs.Standing.{eqb_self}
+use Rattle.sh_history.proofs.Standing.{eqb_self}
 
 pub noted_point : (k q n : ℕ) (xs : List (ℕ × ℕ)) → noted q xs ≡ None → noted q (point k q n xs)
     ≡ cond (nat_lt n k) None (Some (n - k))

@@ -4,8 +4,8 @@ use Rattle.std.proofs.Common.{◌≡◌, ℕ, zero, suc, ◌+◌, ◌≤◌, app
 use Rattle.std.proofs.Common.{◌∷◌, length, refl, ap, ◌∙◌, arith, ne_eqb}
 use Rattle.std.proofs.lemmas.List.{length-append}
 use Rattle.std.proofs.lemmas.Bool.{and_from}
-use Rattle.sh_table.specs.Entry.TheVariants as entry
-use Rattle.sh_table.specs.LogEntry.TheVariants.{Known}
+use Rattle.sh_history.specs.declared.entry.Entry.TheVariants as entry
+use Rattle.sh_history.specs.declared.log.LogEntry.TheVariants.{Known}
 use Rattle.sh_key.specs.Layout.{Layout}
 use Rattle.sh_slots.specs.declared.hand.Hand.TheVariants.{Idle, Filling, Ringing}
 use Rattle.sh_slots.specs.declared.hand.SlotRef.{SlotRef}
@@ -23,7 +23,7 @@ use Rattle.sh_pass.specs.Passes.{Caller}
 use Rattle.sh_pass.specs.Owners.{OwnerDid, OwnerActs, SamePages, SameBells, NonePut, NoneArmed, OwnerTries, OwnerAdopts}
 use Rattle.sh_pass.specs.Owners.{Left, own_body, seen_page, published}
 use Rattle.sh_pass.proofs.OwnSteps.{body_is, still, more, same_tale, log_is, acts, bells_same, page_after, pages_same}
-use Rattle.sh_table.proofs.Standing.{eqb_self}
+use Rattle.sh_history.proofs.Standing.{eqb_self}
 
 module _ (layout : Layout) (v w : Caller) where
   pub fill_does : (x : SlotRef) (value : List ℕ) (i class_word : ℕ) → OwnerDid layout action.Fill

@@ -30,7 +30,7 @@ use Rattle.sh_pass.proofs.OwnNotes.{noted_point, noted_point_else, noted_unpoint
 use Rattle.sh_pass.proofs.OwnNotes.{armed_else, one_more, one_more_else, one_less, one_less_else, all_given, given_else}
 use Rattle.sh_pass.proofs.OwnNotes.{noted_else}
 use Rattle.sh_pass.proofs.OwnSteps.{still, more, acts, bells_same, page_after}
-use Rattle.sh_table.proofs.Standing.{eqb_self}
+use Rattle.sh_history.proofs.Standing.{eqb_self}
 
 module _ (layout : Layout) (v w : Caller) (x : PageName) (own : OwnerIsValid (plan_of layout v.view.shape) (own_body v))
   where

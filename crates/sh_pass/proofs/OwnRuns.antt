@@ -2,7 +2,7 @@
 use Rattle.std.proofs.Common.{◌≡◌, ℕ, ◌+◌, ◌&&◌, true, cond, Option, Some, None, List, ◌++◌, append_assoc}
 use Rattle.std.proofs.Common.{refl, ap, ◌∙◌, sym, subst, arith}
 use Rattle.std.specs.Prelude.{nat_lt}
-use Rattle.sh_table.specs.LogEntry.{LogEntry}
+use Rattle.sh_history.specs.declared.log.LogEntry.{LogEntry}
 use Rattle.sh_key.specs.Layout.{Layout}
 use Rattle.sh_shape.specs.Shape.{Numbers}
 use Rattle.sh_shape.specs.Places.{IsPlace}

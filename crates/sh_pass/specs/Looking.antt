@@ -1,7 +1,7 @@
 -- How a pass looks at a key.
 use Rattle.std.specs.Prelude.{ℕ, ◌≢◌, ◌+◌, [], ◌∷◌, length, List}
-use Rattle.sh_table.specs.Entry.TheVariants as entry
-use Rattle.sh_table.specs.LogEntry.TheVariants.{Known}
+use Rattle.sh_history.specs.declared.entry.Entry.TheVariants as entry
+use Rattle.sh_history.specs.declared.log.LogEntry.TheVariants.{Known}
 use Rattle.sh_slots.specs.declared.hand.Hand.TheVariants.{Idle, Looking}
 use Rattle.sh_slots.specs.declared.hand.KeyRef.{KeyRef}
 use Rattle.sh_slots.specs.declared.hand.Sight.{Sight}

@@ -1,6 +1,6 @@
 -- A pass that looks keys up: its book is its log.
 use Rattle.std.specs.Prelude.{◌==◌, List}
-use Rattle.sh_table.specs.LogEntry.{LogEntry}
+use Rattle.sh_history.specs.declared.log.LogEntry.{LogEntry}
 use Rattle.sh_key.specs.Layout.{Layout}
 use Rattle.sh_plain.specs.Store.{Setting}
 use Rattle.sh_pass.specs.Passes.{Caller}

@@ -1,7 +1,7 @@
 //! Steps of an owner on slots: how it stores values, and how it puts slots.
 ghost use Rattle.std.specs.Prelude.{◌≡◌, cond, ◌<◌, ◌≤◌, ◌+◌, ◌-◌, [], ◌∷◌, true, false, length, Some};
-ghost use Rattle.sh_table.specs.Entry.TheVariants as entry;
-ghost use Rattle.sh_table.specs.LogEntry.TheVariants.{Known};
+ghost use Rattle.sh_history.specs.declared.entry.Entry.TheVariants as entry;
+ghost use Rattle.sh_history.specs.declared.log.LogEntry.TheVariants.{Known};
 ghost use Rattle.sh_slots.specs.declared.hand.Hand.TheVariants.{Idle, Filling, Tying, Ringing};
 ghost use Rattle.sh_shape.specs.Classes.{width};
 ghost use Rattle.sh_shape.specs.Places.{page_number, pages_of, slot_places};

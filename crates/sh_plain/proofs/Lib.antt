@@ -7,5 +7,3 @@ pub mod Held
 pub mod Following
 pub mod Leaves
 pub mod NewKey
-pub use Rattle.sh_history.proofs.LogLaws
-pub use Rattle.sh_history.proofs.Standing

@@ -1,8 +1,8 @@
 -- Which pass each pool slot is for.
 use Rattle.std.proofs.Common.{◌≡◌, ℕ, zero, suc, ◌<◌, List, [], ◌∷◌, ◌++◌, length, get_or, refl, arith}
 use Rattle.std.proofs.Common.{length-append, ◌∙◌}
-use Rattle.sh_pass.specs.Seats.{Heap}
-use Rattle.sh_pass.specs.Views.{newly}
+use Rattle.sh_table.specs.Seats.{Heap}
+use Rattle.sh_table.specs.Views.{newly}
 use Rattle.sh_pass.specs.Passes.{Caller, newcomers}
 use Rattle.sh_pool.specs.PoolSlots.{AreLast, ArePoolSlots, Home}
 

@@ -1,7 +1,7 @@
 -- How many passes a newly opened heap has.
 use Rattle.std.proofs.Common.{◌≡◌, ℕ, ◌+◌, zero, suc, length, refl, ap, ◌∙◌, arith}
 use Rattle.std.proofs.lemmas.List.{length-append}
-use Rattle.sh_pass.specs.Seats.{Heap}
+use Rattle.sh_table.specs.Seats.{Heap}
 use Rattle.sh_pass.specs.Passes.{newcomers}
 
 pub newcomers_count : (heap : Heap) (n : ℕ) → length (newcomers heap n) ≡ n

@@ -22,7 +22,7 @@ pub struct Pool<L: KeyLayout> {
 }
 
 impl<L: KeyLayout> Model for Pool<L> {
-    ghost use Rattle.sh_pass.specs.Seats.{Heap};
+    ghost use Rattle.sh_table.specs.Seats.{Heap};
     ghost use Rattle.sh_pool.specs.PoolSlots.{ArePoolSlots};
 
     ghost Value = { Heap };

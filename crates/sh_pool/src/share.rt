@@ -22,7 +22,7 @@ pub struct Share<L: KeyLayout> {
 }
 
 impl<L: KeyLayout> Model for Share<L> {
-    ghost use Rattle.sh_pass.specs.Seats.{Heap};
+    ghost use Rattle.sh_table.specs.Seats.{Heap};
 
     ghost Value = { Heap };
 

@@ -24,4 +24,3 @@ pub mod PutBack
 pub mod ClassQueues
 pub mod StandOnce
 pub mod PagePlaces
-pub use Rattle.sh_lists.proofs.Distincts

@@ -5,29 +5,29 @@ use Rattle.std.proofs.Common.{cond, List, [], ◌∷◌, ◌++◌, refl, ap, sym
 use Rattle.std.proofs.Common.{slice_get, eq-eqb, eqb-true, ne_eqb}
 use Rattle.std.specs.Prelude.{count_by, slice_set, drop}
 use Rattle.std.proofs.lemmas.Bool.{cases_eq, false≢true}
-use Rattle.sh_core.specs.Hand.{Hand}
-use Rattle.sh_core.specs.Hand.TheVariants.{Idle, Removing, Leaving, Finishing, ToPut, Tying, Ringing}
-use Rattle.sh_core.specs.Hand.TheVariants.{RingTying, Looking}
-use Rattle.sh_core.specs.Sight.{Sight}
-use Rattle.sh_core.specs.Sight.TheVariants.{Bare, Classed, Measured}
-use Rattle.sh_core.specs.SlotRef.{SlotRef}
-use Rattle.sh_core.specs.Slots.{same_slot, slot_ref_of, live_at, has_room, after_drop, is_reusable_after}
-use Rattle.sh_core.specs.Fields.{fields_of}
-use Rattle.sh_core.specs.Body.{Body}
-use Rattle.sh_core.specs.Footstep.{Footstep}
-use Rattle.sh_core.specs.Move.{Move}
-use Rattle.sh_core.specs.Move.TheVariants as move
-use Rattle.sh_core.specs.Collections.{total, if1}
-use Rattle.sh_core.specs.Conditions.{May, action_of}
-use Rattle.sh_core.specs.Footsteps.{footstep_of, takes, bell_takes, met, bell_met, takes_page, takes_bell}
-use Rattle.sh_core.specs.Footsteps.{meets_page, meets_bell, puts_slot, arms, arms_page}
-use Rattle.sh_core.specs.Moves.{row_of}
-use Rattle.sh_core.specs.Operations.{operate}
-use Rattle.sh_core.specs.Plans.{Plan, shard_of, over_heap}
-use Rattle.sh_core.specs.Rows.{own, hand, look_place}
-use Rattle.sh_core.specs.KeyRef.{KeyRef}
-use Rattle.sh_core.proofs.FootstepLaws.{counts_grow}
-use Rattle.sh_core.proofs.PartTests.{owns_is}
+use Rattle.sh_slots.specs.declared.hand.Hand.{Hand}
+use Rattle.sh_slots.specs.declared.hand.Hand.TheVariants.{Idle, Removing, Leaving, Finishing, ToPut, Tying, Ringing}
+use Rattle.sh_slots.specs.declared.hand.Hand.TheVariants.{RingTying, Looking}
+use Rattle.sh_slots.specs.declared.hand.Sight.{Sight}
+use Rattle.sh_slots.specs.declared.hand.Sight.TheVariants.{Bare, Classed, Measured}
+use Rattle.sh_slots.specs.declared.hand.SlotRef.{SlotRef}
+use Rattle.sh_slots.specs.Slots.{same_slot, slot_ref_of, live_at, has_room, after_drop, is_reusable_after}
+use Rattle.sh_word.specs.Fields.{fields_of}
+use Rattle.sh_step.specs.declared.body.Body.{Body}
+use Rattle.sh_step.specs.declared.footstep.Footstep.{Footstep}
+use Rattle.sh_step.specs.declared.moves.Move.{Move}
+use Rattle.sh_step.specs.declared.moves.Move.TheVariants as move
+use Rattle.sh_step.specs.Collections.{total, if1}
+use Rattle.sh_step.specs.Conditions.{May, action_of}
+use Rattle.sh_step.specs.Footsteps.{footstep_of, takes, bell_takes, met, bell_met, takes_page, takes_bell}
+use Rattle.sh_step.specs.Footsteps.{meets_page, meets_bell, puts_slot, arms, arms_page}
+use Rattle.sh_step.specs.Moves.{row_of}
+use Rattle.sh_step.specs.Operations.{operate}
+use Rattle.sh_step.specs.Plans.{Plan, shard_of, over_heap}
+use Rattle.sh_step.specs.Rows.{own, hand, look_place}
+use Rattle.sh_slots.specs.declared.hand.KeyRef.{KeyRef}
+use Rattle.sh_step.proofs.FootstepLaws.{counts_grow}
+use Rattle.sh_step.proofs.PartTests.{owns_is}
 use Rattle.sh_core.specs.Follows.{LinksOn}
 use Rattle.sh_core.specs.Lists.{PutLists}
 use Rattle.sh_core.specs.Lists.{chain_followed}

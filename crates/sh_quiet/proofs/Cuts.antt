@@ -5,15 +5,15 @@ use Rattle.std.proofs.lemmas.List.{length-append}
 use Rattle.std.specs.List.{Contains}
 use mathlib.Core.Logic.{dite}
 use native.Mathlib.Decide.{ℕ_discrete}
-use Rattle.sh_core.specs.Event.{Event}
-use Rattle.sh_core.specs.Footstep.{Footstep}
-use Rattle.sh_core.specs.Plans.{Plan}
+use Rattle.sh_step.specs.declared.action.Event.{Event}
+use Rattle.sh_step.specs.declared.footstep.Footstep.{Footstep}
+use Rattle.sh_step.specs.Plans.{Plan}
 use Rattle.sh_core.specs.Trails.{trail_from, trail_of}
 use Rattle.sh_core.proofs.Words.Trails.{trails_lengthen}
-use Rattle.sh_pass.specs.Order.{Order}
-use Rattle.sh_pass.specs.Reached.{StepsBefore}
-use Rattle.sh_pass.specs.Views.{Each}
-use Rattle.sh_pass.proofs.OrderLaws.{each_in}
+use Rattle.sh_table.specs.declared.view.Order.{Order}
+use Rattle.sh_table.specs.Reached.{StepsBefore}
+use Rattle.sh_table.specs.Views.{Each}
+use Rattle.sh_table.proofs.OrderLaws.{each_in}
 use Rattle.sh_quiet.proofs.GoesOn.{grows}
 
 -- one of two cuts comes first

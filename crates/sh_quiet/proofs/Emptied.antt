@@ -1,14 +1,14 @@
 -- What is left on a page and on a bell of an owner, if no pass has begun anything.
 use Rattle.std.proofs.Common.{◌≡◌, ℕ, zero, suc, ◌+◌, ◌<◌, ◌==◌, Bool, true, false, cond, [], refl, ap, sym, ◌∙◌, subst}
 use Rattle.std.proofs.Common.{arith, Option, Some, None, slice_get, eqb-true}
-use Rattle.sh_core.specs.Classes.{slots}
-use Rattle.sh_core.specs.SlotRef.{SlotRef}
-use Rattle.sh_core.specs.Slots.{same_slot}
-use Rattle.sh_core.specs.Body.{Body}
-use Rattle.sh_core.specs.Collections.{total, has, noted}
-use Rattle.sh_core.specs.Plans.{Plan, shard_of}
-use Rattle.sh_core.specs.Rows.{own}
-use Rattle.sh_core.proofs.PartTests.{owns_is}
+use Rattle.sh_shape.specs.Classes.{slots}
+use Rattle.sh_slots.specs.declared.hand.SlotRef.{SlotRef}
+use Rattle.sh_slots.specs.Slots.{same_slot}
+use Rattle.sh_step.specs.declared.body.Body.{Body}
+use Rattle.sh_step.specs.Collections.{total, has, noted}
+use Rattle.sh_step.specs.Plans.{Plan, shard_of}
+use Rattle.sh_step.specs.Rows.{own}
+use Rattle.sh_step.proofs.PartTests.{owns_is}
 use Rattle.sh_core.specs.Bells.{rings, armed_at}
 use Rattle.sh_core.specs.Lists.{PutLists, mine_at, in_hand, state_of, times}
 use Rattle.sh_core.specs.Quiet.{Quiet}

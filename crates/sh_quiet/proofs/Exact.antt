@@ -8,19 +8,19 @@ use Rattle.std.proofs.lemmas.List.{length-append}
 use Rattle.std.proofs.lemmas.List.Elements.{Contains-append_left, Contains-append_right, Contains-append_cases}
 use Rattle.std.proofs.lemmas.List.Elements.{Contains-push}
 use Rattle.std.proofs.lemmas.Option.{same_Some, slice_get_within}
-use Rattle.sh_core.specs.Layout.{Layout, IsLayout}
-use Rattle.sh_core.specs.Shape.{Numbers, IsShape, Fits}
-use Rattle.sh_core.specs.Hand.TheVariants.{Idle}
-use Rattle.sh_core.specs.SlotRef.{SlotRef}
-use Rattle.sh_core.specs.Slots.{slot_refs}
-use Rattle.sh_core.specs.Event.{Event}
-use Rattle.sh_core.specs.Body.{Body}
-use Rattle.sh_core.specs.Footstep.{Footstep}
-use Rattle.sh_core.specs.Collections.{total, has}
-use Rattle.sh_core.specs.Footsteps.{takes, bell_takes, met, bell_met, puts, arms}
-use Rattle.sh_core.specs.Parts.{newcomer}
-use Rattle.sh_core.specs.Plans.{Plan, plan_of}
-use Rattle.sh_core.specs.Rows.{own}
+use Rattle.sh_key.specs.Layout.{Layout, IsLayout}
+use Rattle.sh_shape.specs.Shape.{Numbers, IsShape, Fits}
+use Rattle.sh_slots.specs.declared.hand.Hand.TheVariants.{Idle}
+use Rattle.sh_slots.specs.declared.hand.SlotRef.{SlotRef}
+use Rattle.sh_slots.specs.Slots.{slot_refs}
+use Rattle.sh_step.specs.declared.action.Event.{Event}
+use Rattle.sh_step.specs.declared.body.Body.{Body}
+use Rattle.sh_step.specs.declared.footstep.Footstep.{Footstep}
+use Rattle.sh_step.specs.Collections.{total, has}
+use Rattle.sh_step.specs.Footsteps.{takes, bell_takes, met, bell_met, puts, arms}
+use Rattle.sh_step.specs.Parts.{newcomer}
+use Rattle.sh_step.specs.Plans.{Plan, plan_of}
+use Rattle.sh_step.specs.Rows.{own}
 use Rattle.sh_core.specs.Lists.{PutLists, lists_of, accounts, times, slots_under}
 use Rattle.sh_core.specs.Quiet.{Quiet, NothingQueued}
 use Rattle.sh_core.specs.Refines.{Refines}
@@ -30,20 +30,20 @@ use Rattle.sh_core.proofs.Clauses.RunTheorem.{theorem}
 use Rattle.sh_core.proofs.Quiet.{quiet_loses_nothing}
 use Rattle.sh_core.proofs.Replays.{steps_make_parts}
 use Rattle.sh_core.proofs.Words.Trails.{trail_goes_on}
-use Rattle.sh_pass.specs.Heard.{Heard}
-use Rattle.sh_pass.specs.Order.{Order}
-use Rattle.sh_pass.specs.Tales.{ViewIsValid}
-use Rattle.sh_pass.specs.Together.{LeadsTogether}
-use Rattle.sh_pass.proofs.OrderLaws.{each_in}
-use Rattle.sh_pass.proofs.Standing.{contains_map}
-use Rattle.sh_shard.specs.Own.{Own}
-use Rattle.sh_shard.specs.Told.{Told}
-use Rattle.sh_shard.specs.View.{View}
-use Rattle.sh_shard.specs.Reached.{HasOwn, StepsBefore}
-use Rattle.sh_shard.specs.Views.{Each, bundled_view, done_by, empty_bundle, heard_in, joined_view, names_told, order_of}
-use Rattle.sh_shard.specs.Views.{told_of}
-use Rattle.sh_shard.specs.Growing.{SameTale}
-use Rattle.sh_shard.specs.Owners.{own_body}
+use Rattle.sh_table.specs.declared.view.Heard.{Heard}
+use Rattle.sh_table.specs.declared.view.Order.{Order}
+use Rattle.sh_table.specs.Tales.{ViewIsValid}
+use Rattle.sh_table.specs.Together.{LeadsTogether}
+use Rattle.sh_table.proofs.OrderLaws.{each_in}
+use Rattle.sh_history.proofs.Standing.{contains_map}
+use Rattle.sh_table.specs.declared.view.Own.{Own}
+use Rattle.sh_table.specs.declared.view.Told.{Told}
+use Rattle.sh_table.specs.declared.view.View.{View}
+use Rattle.sh_table.specs.Reached.{HasOwn, StepsBefore}
+use Rattle.sh_table.specs.Views.{Each, bundled_view, done_by, empty_bundle, heard_in, joined_view, names_told, order_of}
+use Rattle.sh_table.specs.Views.{told_of}
+use Rattle.sh_pass.specs.Growing.{SameTale}
+use Rattle.sh_pass.specs.Owners.{own_body}
 use Rattle.sh_quiet.specs.Quiescence.{CollectedIsEmpty, HeardAll, IsLastOne, JoinsAreHeard, LastOnesAreQuiet}
 use Rattle.sh_quiet.proofs.Alone.{Alone}
 use Rattle.sh_quiet.proofs.Cuts.{CutBefore, done, done_more, heard_cut, same_front}

@@ -6,22 +6,22 @@ use Rattle.std.specs.Prelude.{length}
 use Rattle.std.proofs.lemmas.Bool.{cases_eq}
 use Rattle.std.proofs.lemmas.List.{length-append}
 use Rattle.std.proofs.lemmas.Option.{slice_get_within}
-use Rattle.sh_core.specs.Layout.{Layout, IsLayout}
-use Rattle.sh_core.specs.Shape.{Numbers, IsShape, Fits}
-use Rattle.sh_core.specs.Action.{Action}
-use Rattle.sh_core.specs.Event.{Event}
-use Rattle.sh_core.specs.Body.{Body}
-use Rattle.sh_core.specs.Footstep.{Footstep}
-use Rattle.sh_core.specs.Move.{Move}
-use Rattle.sh_core.specs.Collections.{if1}
-use Rattle.sh_core.specs.Conditions.{May, action_of}
-use Rattle.sh_core.specs.Footsteps.{footstep_of, puts}
-use Rattle.sh_core.specs.Footsteps.{puts_slot}
-use Rattle.sh_core.specs.Moves.{row, row_of}
-use Rattle.sh_core.specs.Plans.{Plan, plan_of}
-use Rattle.sh_core.specs.Rows.{Row, own}
-use Rattle.sh_core.proofs.ConditionLaws.{move_of_row}
-use Rattle.sh_core.proofs.FootstepLaws.{counts_grow}
+use Rattle.sh_key.specs.Layout.{Layout, IsLayout}
+use Rattle.sh_shape.specs.Shape.{Numbers, IsShape, Fits}
+use Rattle.sh_step.specs.declared.action.Action.{Action}
+use Rattle.sh_step.specs.declared.action.Event.{Event}
+use Rattle.sh_step.specs.declared.body.Body.{Body}
+use Rattle.sh_step.specs.declared.footstep.Footstep.{Footstep}
+use Rattle.sh_step.specs.declared.moves.Move.{Move}
+use Rattle.sh_step.specs.Collections.{if1}
+use Rattle.sh_step.specs.Conditions.{May, action_of}
+use Rattle.sh_step.specs.Footsteps.{footstep_of, puts}
+use Rattle.sh_step.specs.Footsteps.{puts_slot}
+use Rattle.sh_step.specs.Moves.{row, row_of}
+use Rattle.sh_step.specs.Plans.{Plan, plan_of}
+use Rattle.sh_step.specs.Rows.{Row, own}
+use Rattle.sh_step.proofs.ConditionLaws.{move_of_row}
+use Rattle.sh_step.proofs.FootstepLaws.{counts_grow}
 use Rattle.sh_core.specs.Lists.{PutLists, list_step, lists_of, no_lists, listed}
 use Rattle.sh_core.specs.Outcomes.{row_of_event}
 use Rattle.sh_core.specs.Quiet.{Quiet}
@@ -205,7 +205,7 @@ module _ (layout : Layout) (shape : Numbers) (is_layout : IsLayout layout) (is_s
             | None ↦ lists_of plan es
           ]) is) (skips_leave_trails plan es (by x) a (row_of_at plan (run plan es) (by x) p at ∙ is))
       by_row (Some r) is = done (move_of_row plan p x r is) where
-        done : (m : Move) × (Rattle.sh_core.specs.Moves.move_of plan p x ≡ Some m) × May plan p m
+        done : (m : Move) × (Rattle.sh_step.specs.Moves.move_of plan p x ≡ Some m) × May plan p m
             × (action_of plan m ≡ x) × (r ≡ row_of plan p m)
             → Kept (run plan (es ++ by x ∷ [])) (lists_of plan (es ++ by x ∷ [])) (trail_of plan (es ++ by x ∷ []) a)
         done (m, _, may, act, same) =

@@ -1,17 +1,17 @@
 -- An owner that goes on alone in a quiet heap is never told to wait when it leaves its shard.
 use Rattle.std.proofs.Common.{◌≡◌, ℕ, ◌<◌, ◌==◌, ◌⊎◌, inl, inr, true, List, [], ◌++◌, ap, sym, ◌∙◌, subst, Some, None}
-use Rattle.sh_core.specs.Layout.{Layout, IsLayout}
-use Rattle.sh_core.specs.Shape.{Numbers, IsShape, Fits}
-use Rattle.sh_core.specs.Hand.TheVariants.{Idle}
-use Rattle.sh_core.specs.Event.{Event}
-use Rattle.sh_core.specs.Body.{Body}
-use Rattle.sh_core.specs.Footsteps.{takes, met, bell_met}
-use Rattle.sh_core.specs.Plans.{Plan, plan_of, shard_of}
-use Rattle.sh_core.specs.Rows.{own}
+use Rattle.sh_key.specs.Layout.{Layout, IsLayout}
+use Rattle.sh_shape.specs.Shape.{Numbers, IsShape, Fits}
+use Rattle.sh_slots.specs.declared.hand.Hand.TheVariants.{Idle}
+use Rattle.sh_step.specs.declared.action.Event.{Event}
+use Rattle.sh_step.specs.declared.body.Body.{Body}
+use Rattle.sh_step.specs.Footsteps.{takes, met, bell_met}
+use Rattle.sh_step.specs.Plans.{Plan, plan_of, shard_of}
+use Rattle.sh_step.specs.Rows.{own}
 use Rattle.sh_core.specs.Lists.{PutLists, lists_of}
 use Rattle.sh_core.specs.Worlds.{World, run}
 use Rattle.sh_core.proofs.Sums.ListCounts.{has_some}
-use Rattle.sh_shard.specs.Owners.{SeenBell, heap_page, own_body}
+use Rattle.sh_pass.specs.Owners.{SeenBell, heap_page, own_body}
 use Rattle.sh_shard.specs.Leaving.{Waiting, RestsNot}
 use Rattle.sh_shard.specs.Pages.{Paged, HasCursor, page_at, shard_page}
 use Rattle.sh_quiet.specs.Quiescence.{LeavesNeverWait}

@@ -1,20 +1,20 @@
 -- What an owner finds that goes on alone in a quiet heap and puts nothing: each link is written.
 use Rattle.std.proofs.Common.{◌≡◌, ℕ, ◌<◌, true, List, [], ◌++◌, ap, sym, ◌∙◌, subst, Some, None}
-use Rattle.sh_core.specs.Layout.{Layout, IsLayout}
-use Rattle.sh_core.specs.Places.{page_number}
-use Rattle.sh_core.specs.Shape.{Numbers, IsShape, Fits}
-use Rattle.sh_core.specs.Hand.TheVariants.{Idle}
-use Rattle.sh_core.specs.Event.{Event}
-use Rattle.sh_core.specs.Footsteps.{bell_takes, met, bell_met}
-use Rattle.sh_core.specs.Plans.{Plan, plan_of, shard_of}
-use Rattle.sh_core.specs.Rows.{own}
-use Rattle.sh_core.proofs.PartTests.{owns_is}
+use Rattle.sh_key.specs.Layout.{Layout, IsLayout}
+use Rattle.sh_shape.specs.Places.{page_number}
+use Rattle.sh_shape.specs.Shape.{Numbers, IsShape, Fits}
+use Rattle.sh_slots.specs.declared.hand.Hand.TheVariants.{Idle}
+use Rattle.sh_step.specs.declared.action.Event.{Event}
+use Rattle.sh_step.specs.Footsteps.{bell_takes, met, bell_met}
+use Rattle.sh_step.specs.Plans.{Plan, plan_of, shard_of}
+use Rattle.sh_step.specs.Rows.{own}
+use Rattle.sh_step.proofs.PartTests.{owns_is}
 use Rattle.sh_core.specs.Lists.{PutLists, lists_of}
 use Rattle.sh_core.specs.Quiet.{Quiet}
 use Rattle.sh_core.specs.Refines.{Refines}
 use Rattle.sh_core.specs.Worlds.{World, run}
 use Rattle.sh_core.proofs.Clauses.RunTheorem.{theorem}
-use Rattle.sh_shard.specs.Owners.{heap_page, own_body}
+use Rattle.sh_pass.specs.Owners.{heap_page, own_body}
 use Rattle.sh_shard.specs.Pages.{Paged, page_at, shard_page}
 use Rattle.sh_shard.specs.Works.{WorksThroughout}
 use Rattle.sh_quiet.proofs.Emptied.{bell_chain_ends}

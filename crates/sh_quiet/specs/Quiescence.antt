@@ -1,24 +1,24 @@
 -- What an owner finds if no pass has begun anything, and it alone goes on.
 use Rattle.std.specs.Prelude.{◌≡◌, ℕ, ◌+◌, ◌<◌, ◌≤◌, true, length, [], Some, None}
 use Rattle.std.specs.List.{Contains}
-use Rattle.sh_core.specs.Layout.{Layout}
-use Rattle.sh_core.specs.Classes.{slots}
-use Rattle.sh_core.specs.Hand.TheVariants.{Idle}
-use Rattle.sh_core.specs.SlotRef.{SlotRef}
-use Rattle.sh_core.specs.Plans.{plan_of}
-use Rattle.sh_core.specs.Rows.{own}
+use Rattle.sh_key.specs.Layout.{Layout}
+use Rattle.sh_shape.specs.Classes.{slots}
+use Rattle.sh_slots.specs.declared.hand.Hand.TheVariants.{Idle}
+use Rattle.sh_slots.specs.declared.hand.SlotRef.{SlotRef}
+use Rattle.sh_step.specs.Plans.{plan_of}
+use Rattle.sh_step.specs.Rows.{own}
 use Rattle.sh_core.specs.Lists.{PutLists, lists_of, state_of}
 use Rattle.sh_core.specs.Quiet.{Quiet, NothingQueued}
 use Rattle.sh_core.specs.Refines.{live, marked, retired}
 use Rattle.sh_core.specs.Stacks.{slot_ref}
 use Rattle.sh_core.specs.Worlds.{World, run}
-use Rattle.sh_pass.specs.Order.{Order}
-use Rattle.sh_pass.specs.Tales.{ViewIsValid}
-use Rattle.sh_pass.specs.Together.{LeadsTogether}
-use Rattle.sh_pass.specs.Told.{Told}
-use Rattle.sh_pass.specs.View.{View}
-use Rattle.sh_pass.specs.Views.{Each, bundled_view, empty_bundle, joined_view}
-use Rattle.sh_pass.specs.Whole.{IsWhole}
+use Rattle.sh_table.specs.declared.view.Order.{Order}
+use Rattle.sh_table.specs.Tales.{ViewIsValid}
+use Rattle.sh_table.specs.Together.{LeadsTogether}
+use Rattle.sh_table.specs.declared.view.Told.{Told}
+use Rattle.sh_table.specs.declared.view.View.{View}
+use Rattle.sh_table.specs.Views.{Each, bundled_view, empty_bundle, joined_view}
+use Rattle.sh_table.specs.Whole.{IsWhole}
 use Rattle.sh_pass.specs.Growing.{SameTale}
 use Rattle.sh_pass.specs.Owners.{NonePut, heap_page, own_body, seen_page}
 use Rattle.sh_pass.specs.Passes.{Caller}

@@ -7,7 +7,7 @@ use Rattle.std.proofs.Math.Numerals.{lt_of_le_of_ne}
 use Rattle.sh_key.specs.Layout.{Layout}
 use Rattle.sh_shape.specs.Places.{pages_of}
 use Rattle.sh_slots.specs.declared.hand.Hand.TheVariants.{Idle}
-use Rattle.sh_pass.specs.Tales.{ViewIsValid}
+use Rattle.sh_table.specs.Tales.{ViewIsValid}
 use Rattle.sh_pass.specs.Passes.{Caller}
 use Rattle.sh_pass.specs.Owners.{SeenPage, SeenBell, Aside, OwnerActs, OnPage, SameBells, HasNothing, heap_page}
 use Rattle.sh_pass.specs.Owners.{own_body, seen_page, page_noted}

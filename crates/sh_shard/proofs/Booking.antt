@@ -6,8 +6,8 @@ use Rattle.sh_plain.specs.Store.{IsBook, InsertLeaves}
 use Rattle.sh_queue.specs.Queues.{PageQueues}
 use Rattle.sh_value.specs.declared.refusal.Refusal.{Refusal}
 use Rattle.sh_value.specs.declared.refusal.Refusal.TheVariants as refusal
-use Rattle.sh_pass.specs.Seats.{Heap}
-use Rattle.sh_pass.specs.Tales.{ViewIsValid}
+use Rattle.sh_table.specs.Seats.{Heap}
+use Rattle.sh_table.specs.Tales.{ViewIsValid}
 use Rattle.sh_pass.specs.Growing.{SameTale}
 use Rattle.sh_pass.specs.Owners.{Aside, own_body}
 use Rattle.sh_pass.specs.Passes.{Caller}

@@ -9,7 +9,7 @@ use Rattle.sh_key.specs.Layout.{Layout}
 use Rattle.sh_shape.specs.Places.{pages_of}
 use Rattle.sh_slots.specs.declared.hand.SlotRef.{SlotRef}
 use Rattle.sh_step.specs.declared.action.PageName.{PageName}
-use Rattle.sh_pass.specs.Tales.{ViewIsValid}
+use Rattle.sh_table.specs.Tales.{ViewIsValid}
 use Rattle.sh_pass.specs.Passes.{Caller}
 use Rattle.sh_pass.specs.Owners.{SeenBell, CallLeaves, SlotCame, MayTouch, OnPage, heap_page, seen_page, page_with}
 use Rattle.sh_states.specs.declared.states.PageState.{PageState}

@@ -7,10 +7,10 @@ use Rattle.std.proofs.lemmas.List.{get_or-set_same, get_or-set_other, length-set
 use Rattle.std.proofs.lemmas.Bool.{cases_eq}
 use Rattle.std.proofs.lemmas.Bool.Decides.{nat_tests}
 use Rattle.std.proofs.Math.Nat.{lt-div-mul-add, div-mul-le_self}
-use Rattle.sh_pass.specs.LogEntry.{LogEntry}
+use Rattle.sh_history.specs.declared.log.LogEntry.{LogEntry}
 use Rattle.sh_key.specs.Layout.{Layout}
-use Rattle.sh_queue.specs.ListNumbers.{Misses}
-use Rattle.sh_pass.specs.Lists.{slots_under}
+use Rattle.sh_lists.specs.Numbers.{Misses}
+use Rattle.sh_core.specs.Lists.{slots_under}
 use Rattle.sh_shape.specs.Classes.{slots}
 use Rattle.sh_shape.specs.Shape.{Numbers}
 use Rattle.sh_shape.specs.Places.{pages_of}
@@ -19,7 +19,7 @@ use Rattle.sh_slots.specs.declared.hand.Hand.TheVariants.{Idle}
 use Rattle.sh_step.specs.Plans.{Plan, plan_of, shard_of}
 use Rattle.sh_step.specs.Rows.{owned_by, own}
 use Rattle.sh_stack.specs.Stack.{link_item}
-use Rattle.sh_pass.specs.Tales.{ViewIsValid}
+use Rattle.sh_table.specs.Tales.{ViewIsValid}
 use Rattle.sh_pass.specs.Passes.{Caller}
 use Rattle.sh_pass.specs.Owners.{HasNothing, SeenPage, SeenBell, Aside, OwnerActs, OnPage, SamePages, SameBells}
 use Rattle.sh_pass.specs.Owners.{MayTouch, heap_page, own_body, seen_page, seen_bell, page_on_bell, bell_followed}

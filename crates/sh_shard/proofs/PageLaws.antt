@@ -6,8 +6,8 @@ use Rattle.std.proofs.lemmas.Bool.Decides.{nat_tests}
 use Rattle.std.proofs.Math.Bool.{and-true, and-false}
 use Rattle.std.proofs.lemmas.Bool.{cond_both}
 use Rattle.sh_bell.specs.Bell.{is_armed, top_of}
-use Rattle.sh_queue.specs.Lists.{Lists, refilled}
-use Rattle.sh_queue.specs.ListNumbers.{Misses, upward}
+use Rattle.sh_lists.specs.Lists.{Lists, refilled}
+use Rattle.sh_lists.specs.Numbers.{Misses, upward}
 use Rattle.sh_queue.specs.Numbers.{has_number}
 use Rattle.sh_queue.proofs.Numbers.{has_number-append, has_number-from_Misses}
 use Rattle.sh_shape.specs.Classes.{slots}
@@ -18,7 +18,7 @@ use Rattle.sh_states.specs.declared.states.PageState.{PageState}
 use Rattle.sh_shard.specs.Pages.{seen_class}
 use Rattle.sh_shard.specs.Kept.{KeepsPage}
 use Rattle.sh_shard.proofs.ClassWords.{word_of}
-use Rattle.sh_pass.proofs.Sums.Tests.{eqb-comm}
+use Rattle.sh_core.proofs.Sums.Tests.{eqb-comm}
 
 pub class_kept : (st : PageState) (g : SeenPage) → KeepsPage st g → seen_class g ≡ st.class_word
 class_kept st g a = word_of g st.class_word a.class

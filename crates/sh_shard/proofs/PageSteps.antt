@@ -6,11 +6,11 @@ use Rattle.std.proofs.lemmas.Bool.Decides.{nat_tests}
 use Rattle.std.proofs.lemmas.Bool.{cond_both}
 use Rattle.sh_bell.specs.Bell.{is_armed}
 use Rattle.sh_key.specs.Layout.{Layout}
-use Rattle.sh_pass.specs.Entry.TheVariants as entry
-use Rattle.sh_pass.specs.LogEntry.TheVariants.{Known}
+use Rattle.sh_history.specs.declared.entry.Entry.TheVariants as entry
+use Rattle.sh_history.specs.declared.log.LogEntry.TheVariants.{Known}
 use Rattle.sh_slots.specs.declared.hand.Hand.TheVariants.{Idle}
 use Rattle.sh_stack.specs.Stack.{link_item}
-use Rattle.sh_queue.specs.Lists.{Lists, refilled}
+use Rattle.sh_lists.specs.Lists.{Lists, refilled}
 use Rattle.sh_step.specs.Plans.{plan_of}
 use Rattle.sh_states.specs.declared.states.PageState.{PageState}
 use Rattle.sh_states.specs.States.{UsesNext, state_at, with_lists}

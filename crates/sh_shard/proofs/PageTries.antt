@@ -3,7 +3,7 @@ use Rattle.std.proofs.Common.{◌≡◌, ℕ, ◌+◌, Bool, true, false, Option
 use Rattle.std.proofs.Common.{IfSome, inr, ◌∙◌, sym, arith}
 use Rattle.std.proofs.lemmas.Bool.{false≢true}
 use Rattle.sh_key.specs.Layout.{Layout}
-use Rattle.sh_queue.specs.Lists.{Lists}
+use Rattle.sh_lists.specs.Lists.{Lists}
 use Rattle.sh_shard.specs.Pages.{Paged, page_at, NothingMine, WorksOn, CollectsPage, ArmsAndFollows, PageDone}
 use Rattle.sh_shard.specs.Pages.{PageInserts}
 use Rattle.sh_shard.specs.Pages.{TakesSteps, StepsForSlots, UsesFirst, SameLists, lists_at}

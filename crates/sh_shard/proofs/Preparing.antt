@@ -13,7 +13,7 @@ use Rattle.sh_queue.proofs.ClassQueues.{class_queue-at_front_same}
 use Rattle.sh_key.specs.Layout.{Layout}
 use Rattle.sh_pass.specs.Owners.{SeenPage}
 use Rattle.sh_shard.specs.Pages.{Paged, page_at, NothingMine, NamesSlot, PageInserts, GivesClass}
-use Rattle.sh_queue.specs.Lists.{Lists}
+use Rattle.sh_lists.specs.Lists.{Lists}
 use Rattle.sh_shard.specs.Slots.{SameSlots, OwnFirst, AllFree}
 use Rattle.sh_shard.specs.Pages.{UsesFirst, lists_at, TakesSteps}
 use Rattle.sh_shard.specs.Works.{WorksThroughout}

@@ -4,8 +4,8 @@ use Rattle.std.proofs.Common.{[], ◌∷◌, ◌++◌, append_assoc, append-nil,
 use Rattle.std.proofs.Common.{arith}
 use Rattle.std.specs.List.{last_or}
 use Rattle.std.proofs.lemmas.Bool.{cases_eq, false≢true, or_cases}
-use Rattle.sh_queue.specs.ListNumbers.{Distinct}
-use Rattle.sh_queue.proofs.Distincts.{Misses-left}
+use Rattle.sh_lists.specs.Numbers.{Distinct}
+use Rattle.sh_lists.proofs.Distincts.{Misses-left}
 use Rattle.sh_queue.specs.Numbers.{has_number}
 use Rattle.sh_queue.specs.Queues.{PageQueues, EachOnce, class_queue, at_back, among_full}
 use Rattle.sh_queue.proofs.Numbers.{has_number-append, has_number-from_Misses, has_number-first, has_number-last}

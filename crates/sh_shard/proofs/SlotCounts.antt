@@ -2,9 +2,9 @@
 use Rattle.std.proofs.Common.{◌≡◌, ℕ, zero, suc, ◌+◌, ◌-◌, ◌*◌, ◌<◌, ◌≤◌, true, false, List, [], ◌∷◌, ◌++◌, length}
 use Rattle.std.proofs.Common.{refl, sym, ap, ap₂, ◌∙◌, arith}
 use Rattle.std.proofs.lemmas.List.{length-append}
-use Rattle.sh_queue.specs.Lists.{SlotsOnce}
-use Rattle.sh_queue.specs.ListNumbers.{Distinct, AllBelow}
-use Rattle.sh_queue.proofs.Distincts.{length-le_from_Distinct}
+use Rattle.sh_lists.specs.Lists.{SlotsOnce}
+use Rattle.sh_lists.specs.Numbers.{Distinct, AllBelow}
+use Rattle.sh_lists.proofs.Distincts.{length-le_from_Distinct}
 use Rattle.sh_queue.specs.Numbers.{has_number}
 use Rattle.sh_queue.proofs.Numbers.{has_number-here, has_number-else, has_number-from_Misses}
 use Rattle.sh_queue.proofs.PagePlaces.{AllBelow-from_has}

@@ -3,7 +3,7 @@ use Rattle.std.proofs.Common.{◌≡◌, ◌≢◌, ℕ, ◌<◌, ⊎_elim, inl,
 use Rattle.std.proofs.Common.{length, set}
 use Rattle.std.proofs.lemmas.Bool.{cases_eq}
 use Rattle.std.proofs.lemmas.List.{get_or-set_same, get_or-set_other}
-use Rattle.sh_queue.specs.Lists.{Lists}
+use Rattle.sh_lists.specs.Lists.{Lists}
 use Rattle.sh_states.specs.declared.states.PageState.{PageState}
 use Rattle.sh_states.specs.States.{blank_state, state_at}
 use Rattle.sh_shard.specs.Slots.{SameSlots, NoSlots, OwnFirst}

@@ -2,14 +2,14 @@
 use Rattle.std.proofs.Common.{◌≡◌, ℕ, suc, ◌+◌, ◌*◌, ◌<◌, ◌≤◌, ◌⊎◌, inl, true, Some, List, [], ◌∷◌, ◌++◌, length}
 use Rattle.std.proofs.Common.{slice_get, ap, ◌∙◌, sym, subst, arith}
 use Rattle.std.specs.Prelude.{Ok}
-use Rattle.sh_queue.specs.ListNumbers.{Distinct}
+use Rattle.sh_lists.specs.Numbers.{Distinct}
 use Rattle.sh_queue.specs.Numbers.{has_number}
 use Rattle.sh_queue.specs.Queues.{PageQueues, class_queue}
-use Rattle.sh_pass.specs.Entry.TheVariants as entry
-use Rattle.sh_pass.specs.LogEntry.TheVariants.{Known}
+use Rattle.sh_history.specs.declared.entry.Entry.TheVariants as entry
+use Rattle.sh_history.specs.declared.log.LogEntry.TheVariants.{Known}
 use Rattle.sh_key.specs.Layout.{Layout}
 use Rattle.sh_pass.specs.Owners.{SeenPage}
-use Rattle.sh_queue.specs.Lists.{Lists}
+use Rattle.sh_lists.specs.Lists.{Lists}
 use Rattle.sh_shard.specs.Slots.{OwnFirst}
 use Rattle.sh_shard.specs.Pages.{Paged, page_at, lists_at, PageInserts, UsesFirst, GivesClass, NamesSlot}
 use Rattle.sh_shard.specs.Shards.{Sharded, SortedPages, Added, InsertServes, CameByBell}

@@ -8,7 +8,7 @@ use Rattle.sh_queue.specs.Queues.{PageQueues, EachOnce, class_queue}
 use Rattle.sh_pass.specs.Owners.{SeenPage, SeenBell}
 use Rattle.sh_shard.specs.Steps.{StepsAtMost}
 use Rattle.sh_shard.specs.Bounds.{InsertIsBounded}
-use Rattle.sh_queue.specs.Lists.{Lists}
+use Rattle.sh_lists.specs.Lists.{Lists}
 use Rattle.sh_shard.specs.Slots.{OwnFirst}
 use Rattle.sh_shard.specs.Pages.{Paged, SameLists, page_at, lists_at, PageDone, BellTakes, StepsForRings}
 use Rattle.sh_shard.specs.Turning.{come_back_each, any_of_class}

@@ -2,8 +2,8 @@
 use Rattle.std.proofs.Common.{◌≡◌, ◌≢◌, ℕ, ◌⊎◌, inl, inr, ⊎_elim, true, Option, Some, None, List, [], ◌∷◌, ◌++◌}
 use Rattle.std.proofs.Common.{slice_get, refl, ap, ◌∙◌, sym, subst}
 use Rattle.std.proofs.lemmas.Bool.{cases_eq, false≢true}
-use Rattle.sh_queue.specs.ListNumbers.{Distinct}
-use Rattle.sh_queue.proofs.Distincts.{Misses-right}
+use Rattle.sh_lists.specs.Numbers.{Distinct}
+use Rattle.sh_lists.proofs.Distincts.{Misses-right}
 use Rattle.sh_queue.specs.Numbers.{has_number}
 use Rattle.sh_queue.specs.Queues.{PageQueues, at_back, among_full}
 use Rattle.sh_queue.proofs.Numbers.{has_number-here, has_number-there, has_number-rest}

@@ -2,8 +2,8 @@
 use Rattle.std.proofs.Common.{◌≡◌, ◌≢◌, ℕ, zero, suc, ◌+◌, ◌*◌, ◌<◌, ◌≤◌, ◌⊎◌, inr, ⊎_elim, true, Option, Some, None}
 use Rattle.std.proofs.Common.{MatchOption, List}
 use Rattle.std.proofs.Common.{[], ◌∷◌, ◌++◌, refl, ap, ◌∙◌, sym, subst, arith}
-use Rattle.sh_pass.specs.Entry.TheVariants as entry
-use Rattle.sh_pass.specs.LogEntry.TheVariants.{Known}
+use Rattle.sh_history.specs.declared.entry.Entry.TheVariants as entry
+use Rattle.sh_history.specs.declared.log.LogEntry.TheVariants.{Known}
 use Rattle.sh_key.specs.Layout.{Layout}
 use Rattle.sh_queue.specs.Numbers.{has_number}
 use Rattle.sh_shape.specs.Places.{pages_of}
@@ -12,8 +12,8 @@ use Rattle.sh_slots.specs.declared.hand.KeyRef.{KeyRef}
 use Rattle.sh_step.specs.Moves.{place_named}
 use Rattle.sh_step.specs.Plans.{plan_of, shard_of}
 use Rattle.sh_states.specs.declared.states.PageState.{PageState}
-use Rattle.sh_queue.specs.Lists.{Lists, refilled, refilled_by}
-use Rattle.sh_queue.specs.ListNumbers.{upward}
+use Rattle.sh_lists.specs.Lists.{Lists, refilled, refilled_by}
+use Rattle.sh_lists.specs.Numbers.{upward}
 use Rattle.sh_shape.specs.Classes.{slots}
 use Rattle.sh_pass.specs.Owners.{SeenPage, Aside, NoneArmed, IsKeyOfSlot}
 use Rattle.sh_shard.specs.Kept.{KeepsPage}

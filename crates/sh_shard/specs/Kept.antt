@@ -2,12 +2,12 @@
 use Rattle.std.specs.Prelude.{◌≡◌, ℕ, ◌+◌, ◌*◌, ◌<◌, ◌≤◌, false, List, ◌++◌, length, get_or, slice_set, Option}
 use Rattle.std.specs.Prelude.{Some, None}
 use Rattle.sh_key.specs.Layout.{Layout}
-use Rattle.sh_queue.specs.ListNumbers.{Misses}
+use Rattle.sh_lists.specs.Numbers.{Misses}
 use Rattle.sh_queue.specs.Numbers.{has_number}
 use Rattle.sh_shape.specs.Places.{pages_of, slot_places}
 use Rattle.sh_slots.specs.declared.hand.Hand.TheVariants.{Idle}
 use Rattle.sh_slots.specs.declared.hand.SlotRef.{SlotRef}
-use Rattle.sh_pass.specs.Tales.{ViewIsValid}
+use Rattle.sh_table.specs.Tales.{ViewIsValid}
 use Rattle.sh_pass.specs.Passes.{Caller}
 use Rattle.sh_pass.specs.Owners.{SeenPage, heap_page, own_body, seen_page}
 use Rattle.sh_states.specs.States.{blank_state, with_local}

@@ -14,12 +14,3 @@ pub mod Finding
 pub mod Searches
 pub mod Returning
 pub mod Stores
-pub use Rattle.sh_pass.specs.Growing
-pub use Rattle.sh_pass.specs.Own
-pub use Rattle.sh_pass.specs.Owners
-pub use Rattle.sh_pass.specs.Passes
-pub use Rattle.sh_pass.specs.Reached
-pub use Rattle.sh_pass.specs.Told
-pub use Rattle.sh_pass.specs.View
-pub use Rattle.sh_pass.specs.Views
-pub use Rattle.sh_pass.specs.Whole

@@ -1,8 +1,8 @@
 -- What a contract sees of the pages of an owner's shard, and what work on them does.
 use Rattle.std.specs.Prelude.{◌≡◌, ◌≢◌, ℕ, zero, suc, ◌+◌, ◌-◌, ◌<◌, ◌≤◌, ◌==◌, ◌⊎◌, Bool, true, false, List, []}
 use Rattle.std.specs.Prelude.{◌∷◌, ◌++◌, length, Option, Some, None, MatchOption, IfSome, Result, Ok, Err}
-use Rattle.sh_pass.specs.Entry.TheVariants as entry
-use Rattle.sh_pass.specs.LogEntry.TheVariants.{Known}
+use Rattle.sh_history.specs.declared.entry.Entry.TheVariants as entry
+use Rattle.sh_history.specs.declared.log.LogEntry.TheVariants.{Known}
 use Rattle.sh_key.specs.Layout.{Layout}
 use Rattle.sh_shape.specs.Classes.{slots}
 use Rattle.sh_shape.specs.Places.{pages_of, slot_places}
@@ -10,7 +10,7 @@ use Rattle.sh_slots.specs.declared.hand.Hand.TheVariants.{Idle}
 use Rattle.sh_step.specs.Collections.{if1}
 use Rattle.sh_step.specs.Footsteps.{owner_met}
 use Rattle.sh_step.specs.declared.action.PageName.{PageName}
-use Rattle.sh_pass.specs.Tales.{ViewIsValid}
+use Rattle.sh_table.specs.Tales.{ViewIsValid}
 use Rattle.sh_value.specs.declared.refusal.Refusal.{Refusal}
 use Rattle.sh_value.specs.declared.refusal.Refusal.TheVariants as refusal
 use Rattle.sh_pass.specs.Growing.{SameTale}
@@ -19,7 +19,7 @@ use Rattle.sh_pass.specs.Receipts.{heeded}
 use Rattle.sh_pass.specs.Owners.{SeenPage, SeenBell, Aside, NonePut, NoneArmed, HasNothing, heap_page, own_body}
 use Rattle.sh_pass.specs.Owners.{page_given, page_with, seen_bell, seen_page, heap_slot, IsKeyIn, IsKeyOn, IsKeyOfSlot}
 use Rattle.sh_pass.specs.Owners.{FoundFree}
-use Rattle.sh_queue.specs.Lists.{Lists, refilled}
+use Rattle.sh_lists.specs.Lists.{Lists, refilled}
 use Rattle.sh_states.specs.declared.states.PageState.{PageState}
 use Rattle.sh_states.specs.States.{state_at}
 use Rattle.sh_step.specs.Plans.{plan_of}

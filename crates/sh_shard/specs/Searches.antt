@@ -3,7 +3,7 @@ use Rattle.std.specs.Prelude.{◌≡◌, ℕ, ◌+◌, ◌-◌, ◌*◌, ◌<◌
 use Rattle.std.specs.Prelude.{MatchOption}
 use Rattle.std.specs.List.{last_or}
 use Rattle.sh_queue.specs.Numbers.{has_number}
-use Rattle.sh_queue.specs.ListNumbers.{Distinct}
+use Rattle.sh_lists.specs.Numbers.{Distinct}
 use Rattle.sh_queue.specs.Queues.{class_queue, at_back}
 use Rattle.sh_pass.specs.Owners.{Aside, NonePut}
 use Rattle.sh_shard.specs.Steps.{StepsAtMost}

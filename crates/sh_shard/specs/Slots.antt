@@ -1,7 +1,7 @@
 -- The slots of a page that are its owner's, in the order of its two lists, and which of them an insert takes.
 use Rattle.std.specs.Prelude.{◌≡◌, ℕ, [], ◌⊎◌}
-use Rattle.sh_queue.specs.Lists.{Lists}
-use Rattle.sh_queue.specs.ListNumbers.{upward}
+use Rattle.sh_lists.specs.Lists.{Lists}
+use Rattle.sh_lists.specs.Numbers.{upward}
 use Rattle.sh_shape.specs.Classes.{slots}
 
 -- the same slots, in the same lists and the same order

@@ -1,6 +1,6 @@
 -- An owner's shard as a store: its book is the log of its pass, including what came before it owned the shard.
 use Rattle.std.specs.Prelude.{List}
-use Rattle.sh_pass.specs.LogEntry.{LogEntry}
+use Rattle.sh_history.specs.declared.log.LogEntry.{LogEntry}
 use Rattle.sh_key.specs.Layout.{Layout}
 use Rattle.sh_plain.specs.Store.{Setting}
 use Rattle.sh_pass.specs.Lookups.{caller_book, caller_setting}

@@ -19,4 +19,3 @@ pub mod FootstepLaws
 pub mod OperationLaws
 pub mod EndLaws
 pub mod DecidingLaws
-pub use Rattle.sh_word.proofs.Words

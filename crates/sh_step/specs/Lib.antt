@@ -12,9 +12,3 @@ pub mod Conditions
 pub mod Footsteps
 pub mod Ends
 pub mod Deciding
-pub use Rattle.sh_word.specs.Fields
-pub use Rattle.sh_slots.specs.declared.hand.Hand
-pub use Rattle.sh_slots.specs.declared.hand.KeyRef
-pub use Rattle.sh_slots.specs.declared.reply.Reply
-pub use Rattle.sh_stack.specs.Stack
-pub use Rattle.sh_bell.specs.Bell

@@ -6,12 +6,12 @@ use Rattle.std.proofs.lemmas.List.{map-append}
 use Rattle.sh_value.specs.declared.hold.Hold.{Hold}
 use Rattle.sh_value.specs.declared.refusal.Refusal.{Refusal}
 use Rattle.sh_value.specs.declared.refusal.Refusal.TheVariants.{NotHeld}
-use Rattle.sh_plain.specs.Entry.TheVariants.{Insert, Got, Gone, Crowded, Removed, Released, Seen}
-use Rattle.sh_plain.specs.LogEntry.{LogEntry}
-use Rattle.sh_plain.specs.LogEntry.TheVariants.{Known, Unread}
-use Rattle.sh_plain.specs.Log.{IsGotBy, filled, HasValue, AllHaveValue, logged_holds_by, is_logged_got_by}
-use Rattle.sh_plain.specs.Log.{is_logged_release_by}
-use Rattle.sh_plain.proofs.LogLaws.{count_by-cons}
+use Rattle.sh_history.specs.declared.entry.Entry.TheVariants.{Insert, Got, Gone, Crowded, Removed, Released, Seen}
+use Rattle.sh_history.specs.declared.log.LogEntry.{LogEntry}
+use Rattle.sh_history.specs.declared.log.LogEntry.TheVariants.{Known, Unread}
+use Rattle.sh_history.specs.Log.{IsGotBy, filled, HasValue, AllHaveValue, logged_holds_by, is_logged_got_by}
+use Rattle.sh_history.specs.Log.{is_logged_release_by}
+use Rattle.sh_history.proofs.LogLaws.{count_by-cons}
 use Rattle.sh_plain.specs.Store.{Setting, GetLeaves, ReadLeaves}
 use Rattle.sh_typed.specs.Typed.{FetchLeaves, GotValue}
 

@@ -8,14 +8,14 @@ use Rattle.sh_value.specs.declared.hold.Hold.{Hold}
 use Rattle.sh_value.specs.declared.refusal.Refusal.{Refusal}
 use Rattle.sh_value.specs.declared.refusal.Refusal.TheVariants.{BadKey, Gone, Crowded, HoldsFull, NotHeld, Memory}
 use Rattle.sh_value.specs.declared.refusal.Refusal.TheVariants.{WrongKind}
-use Rattle.sh_plain.specs.Entry.{Entry}
-use Rattle.sh_plain.specs.Entry.TheVariants.{Insert, Got, Released, Seen}
-use Rattle.sh_plain.specs.LogEntry.{LogEntry}
-use Rattle.sh_plain.specs.LogEntry.TheVariants.{Known}
-use Rattle.sh_plain.specs.Log.{filled, logged_holds_by}
-use Rattle.sh_plain.proofs.LogLaws.{same_value}
+use Rattle.sh_history.specs.declared.entry.Entry.{Entry}
+use Rattle.sh_history.specs.declared.entry.Entry.TheVariants.{Insert, Got, Released, Seen}
+use Rattle.sh_history.specs.declared.log.LogEntry.{LogEntry}
+use Rattle.sh_history.specs.declared.log.LogEntry.TheVariants.{Known}
+use Rattle.sh_history.specs.Log.{filled, logged_holds_by}
+use Rattle.sh_history.proofs.LogLaws.{same_value}
 use Rattle.sh_plain.proofs.SeenValue.{seen_value}
-use Rattle.sh_plain.proofs.Standing.{splits_at}
+use Rattle.sh_history.proofs.Standing.{splits_at}
 use Rattle.sh_plain.specs.Store.{Setting, IsBook, LookLeaves, ReleaseLeaves}
 use Rattle.sh_typed.specs.Typed.{AsRecord, FetchLeaves, GotValue, GivesBack, RecordLeaves, SeesBack}
 

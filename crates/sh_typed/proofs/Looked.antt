@@ -3,7 +3,7 @@ use Rattle.std.proofs.Common.{◌≡◌, ℕ, List, Err, Option, Some, None, ref
 use Rattle.std.specs.Prelude.{Result, IfNone, IfSome}
 use Rattle.sh_value.specs.declared.refusal.Refusal.{Refusal}
 use Rattle.sh_value.specs.declared.refusal.Refusal.TheVariants.{WrongKind}
-use Rattle.sh_plain.specs.LogEntry.{LogEntry}
+use Rattle.sh_history.specs.declared.log.LogEntry.{LogEntry}
 use Rattle.sh_plain.specs.Store.{Setting, LookLeaves}
 use Rattle.sh_typed.specs.Typed.{AsRecord}
 

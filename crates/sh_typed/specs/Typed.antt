@@ -4,10 +4,10 @@ use Rattle.std.specs.Prelude.{Some, None}
 use Rattle.sh_value.specs.declared.hold.Hold.{Hold}
 use Rattle.sh_value.specs.declared.refusal.Refusal.{Refusal}
 use Rattle.sh_value.specs.declared.refusal.Refusal.TheVariants.{BadKey, Gone, Crowded, HoldsFull, Memory, WrongKind}
-use Rattle.sh_plain.specs.Entry.TheVariants.{Got, Released}
-use Rattle.sh_plain.specs.LogEntry.{LogEntry}
-use Rattle.sh_plain.specs.LogEntry.TheVariants.{Known}
-use Rattle.sh_plain.specs.Log.{filled, logged_holds_by}
+use Rattle.sh_history.specs.declared.entry.Entry.TheVariants.{Got, Released}
+use Rattle.sh_history.specs.declared.log.LogEntry.{LogEntry}
+use Rattle.sh_history.specs.declared.log.LogEntry.TheVariants.{Known}
+use Rattle.sh_history.specs.Log.{filled, logged_holds_by}
 use Rattle.sh_plain.specs.Store.{Setting, GetLeaves}
 
 -- the record that a value is: its first word is the kind, and the others decode

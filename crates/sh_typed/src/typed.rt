@@ -1,8 +1,8 @@
 //! Records of one type in a store.
 ghost use Rattle.std.specs.Prelude.{◌≡◌, ◌∷◌, ℕ, IfSome, List, OnSome};
 ghost use Rattle.std.specs.List.{Contains};
-ghost use Rattle.sh_plain.specs.Entry.TheVariants.{Insert};
-ghost use Rattle.sh_plain.specs.LogEntry.TheVariants.{Known};
+ghost use Rattle.sh_history.specs.declared.entry.Entry.TheVariants.{Insert};
+ghost use Rattle.sh_history.specs.declared.log.LogEntry.TheVariants.{Known};
 ghost use Rattle.sh_plain.specs.Store.{IsBook, InsertLeaves, LookLeaves, RemoveLeaves, ReleaseLeaves};
 ghost use Rattle.sh_typed.specs.Typed.{AsRecord, FetchesRecord, GivesBack, RecordLeaves, SeesBack, record_in};
 

@@ -1,6 +1,6 @@
 -- One pass more of those that were called.
 use Rattle.std.proofs.Common.{◌≡◌, List, [], ◌∷◌, ◌++◌}
-use Rattle.sh_pass.specs.Seats.{Heap}
+use Rattle.sh_table.specs.Seats.{Heap}
 use Rattle.sh_pass.specs.Passes.{AreOf, Caller}
 
 pub are_of_more : (heap : Heap) (ps : List Caller) (p : Caller) → AreOf heap ps → p.heap ≡ heap

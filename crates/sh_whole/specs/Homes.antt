@@ -1,12 +1,12 @@
 -- The passes of a pool that were called together, and what is known by them.
 use Rattle.std.specs.Prelude.{◌≡◌, ◌<◌, ℕ, All, List, length, Option, Result, Ok, Err}
 use Rattle.sh_key.specs.Layout.{Layout}
-use Rattle.sh_gather.specs.Places.{all_pages, page_number}
-use Rattle.sh_pass.specs.Seats.{Heap}
-use Rattle.sh_pass.specs.Whole.{IsWhole}
+use Rattle.sh_shape.specs.Places.{all_pages, page_number}
+use Rattle.sh_table.specs.Seats.{Heap}
+use Rattle.sh_table.specs.Whole.{IsWhole}
 use Rattle.sh_pass.specs.Passes.{AreAll, AreOf, Caller}
-use Rattle.sh_gather.specs.AccountsType.{Accounts}
-use Rattle.sh_gather.specs.Accounts.{ShapeHasPage}
+use Rattle.sh_core.specs.declared.accounts.Accounts.{Accounts}
+use Rattle.sh_accounts.specs.Accounts.{ShapeHasPage}
 use Rattle.sh_gather.specs.Gathering.{AreWholeAccounts, IsGatheredFrom, NotedMore}
 use Rattle.sh_gather.specs.declared.accounts_by_page.PageAccounts.{PageAccounts}
 use Rattle.sh_gather.specs.declared.totals.Totals.{Totals}

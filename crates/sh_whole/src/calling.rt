@@ -1,7 +1,7 @@
 // The passes of a pool, as they are taken together and given back.
 ghost use Rattle.std.specs.Prelude.{◌≡◌, ◌+◌, ◌<◌, ◌≤◌, All, IfSome, MatchResult, length};
 ghost use Rattle.std.specs.Vec.{vec_capacity, vec_len};
-ghost use Rattle.sh_pass.specs.Whole.{IsWhole};
+ghost use Rattle.sh_table.specs.Whole.{IsWhole};
 ghost use Rattle.sh_pass.specs.Passes.{AreAll, AreOf};
 ghost use Rattle.sh_gather.specs.Gathering.{IsGatheredFrom};
 ghost use Rattle.sh_whole.specs.Homes.{AreCalled, IsPoolSlot};

@@ -2,7 +2,7 @@
 use Rattle.std.proofs.Common.{◌≡◌, ◌∙◌, List, [], ◌∷◌, Result, Ok, Err, IfOk}
 use Rattle.gearlongan.specs.Passes.{Heap}
 use Rattle.gearlongan.specs.Tasks.{AllGive}
-use Rattle.gearlongan.specs.Refusal.{Refusal}
+use Rattle.sh_value.specs.declared.refusal.Refusal.{Refusal}
 use Rattle.test_gearlongan.specs.Works.{AllAt, AllBackAt, heap_back, heap_of}
 use Rattle.test_gearlongan.specs.declared.work.Done.{Done}
 use Rattle.test_gearlongan.specs.declared.work.Work.{Work}

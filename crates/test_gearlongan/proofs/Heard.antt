@@ -3,16 +3,16 @@ use Rattle.std.proofs.Common.{ℕ, ◌++◌, ◌∷◌, [], List, Result, Ok, Er
 use Rattle.std.specs.List.{Contains}
 use Rattle.std.proofs.lemmas.List.Elements.{Contains-append_right}
 use Rattle.gearlongan.specs.Receipts.{heeded, TellsOfInsert, GoneIfRemoved, GoneIsRemoved}
-use Rattle.gearlongan.specs.Layout.{Layout}
-use Rattle.gearlongan.specs.Hold.{Hold}
-use Rattle.gearlongan.specs.Refusal.{Refusal}
-use Rattle.gearlongan.specs.Refusal.TheVariants as refusal
-use Rattle.sh_pass.specs.Entry.TheVariants as entry
-use Rattle.sh_pass.specs.LogEntry.TheVariants.{Known}
-use Rattle.sh_pass.specs.Order.{Order}
+use Rattle.sh_key.specs.Layout.{Layout}
+use Rattle.sh_value.specs.declared.hold.Hold.{Hold}
+use Rattle.sh_value.specs.declared.refusal.Refusal.{Refusal}
+use Rattle.sh_value.specs.declared.refusal.Refusal.TheVariants as refusal
+use Rattle.sh_history.specs.declared.entry.Entry.TheVariants as entry
+use Rattle.sh_history.specs.declared.log.LogEntry.TheVariants.{Known}
+use Rattle.sh_table.specs.declared.view.Order.{Order}
 use Rattle.sh_pass.specs.Passes.{Caller, GetDoes}
-use Rattle.sh_pass.specs.Views.{heard_in, order_of}
-use Rattle.sh_pass.proofs.Standing.{contains_map}
+use Rattle.sh_table.specs.Views.{heard_in, order_of}
+use Rattle.sh_history.proofs.Standing.{contains_map}
 
 pub gone_if_heard : GoneIsRemoved → (layout : Layout) (key : ℕ) (r v w : Caller) (result : Result Hold Refusal)
     → GetDoes layout key (heeded v r) result w → TellsOfInsert key r → GoneIfRemoved layout key result w

@@ -1,7 +1,7 @@
 -- Work of several kinds: the heaps of the passes and shards that tasks have, and that their outputs give back.
 use Rattle.std.specs.Prelude.{◌≡◌, List, [], ◌∷◌, Result, IfOk}
 use Rattle.gearlongan.specs.Passes.{Heap}
-use Rattle.gearlongan.specs.Refusal.{Refusal}
+use Rattle.sh_value.specs.declared.refusal.Refusal.{Refusal}
 use Rattle.test_gearlongan.specs.declared.work.Done.{Done}
 use Rattle.test_gearlongan.specs.declared.work.Done.TheVariants.{Stored, Fetched}
 use Rattle.test_gearlongan.specs.declared.work.Work.{Work}

@@ -1,9 +1,9 @@
 -- What an owner's step leaves of the page that a test looks at.
 use Rattle.std.proofs.Common.{◌≡◌, ◌<◌, ℕ, Bool, List, Option, Some, None, cond, ap, sym, subst, ◌∙◌}
-use Rattle.sh_pass.specs.LogEntry.{LogEntry}
+use Rattle.sh_history.specs.declared.log.LogEntry.{LogEntry}
 use Rattle.sh_shape.specs.Shape.{Numbers}
 use Rattle.sh_shape.specs.Places.{pages_of, page_number}
-use Rattle.sh_step.specs.Hand.TheVariants.{Idle}
+use Rattle.sh_slots.specs.declared.hand.Hand.TheVariants.{Idle}
 use Rattle.sh_step.specs.declared.action.PageName.{PageName}
 use Rattle.sh_pass.specs.Passes.{Caller}
 use Rattle.sh_pass.specs.Owners.{SeenPage, MayTouch, OwnerActs, heap_page, own_body, seen_page}

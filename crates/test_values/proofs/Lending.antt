@@ -1,10 +1,10 @@
 -- The books of a store of one key that another pass inserted. This pass knows its own get of the key.
 use Rattle.std.proofs.Common.{◌≡◌, ℕ, List, [], ◌∷◌, ◌++◌, ◌<◌, refl, sym, arith}
 use Rattle.std.specs.Prelude.{◌==◌}
-use Rattle.sh_plain.specs.Entry.TheVariants.{Insert, Got, Released}
-use Rattle.sh_plain.specs.LogEntry.{LogEntry}
-use Rattle.sh_plain.specs.LogEntry.TheVariants.{Known, Unread}
-use Rattle.sh_plain.specs.Log.{IsLegalLog, IsGotBy, logged_holds_by}
+use Rattle.sh_history.specs.declared.entry.Entry.TheVariants.{Insert, Got, Released}
+use Rattle.sh_history.specs.declared.log.LogEntry.{LogEntry}
+use Rattle.sh_history.specs.declared.log.LogEntry.TheVariants.{Known, Unread}
+use Rattle.sh_history.specs.Log.{IsLegalLog, IsGotBy, logged_holds_by}
 
 -- nothing was asked yet
 pub idle_stands : IsLegalLog 2 4 (λ pass. pass == 1) []

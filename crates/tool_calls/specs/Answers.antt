@@ -4,7 +4,7 @@ use Rattle.sh_value.specs.declared.hold.Hold.{Hold}
 use Rattle.sh_value.specs.declared.refusal.Refusal.{Refusal}
 use Rattle.sh_member.specs.Readers.{TakeIntoDoes}
 use Rattle.sh_member.specs.Sides.{SideDoes}
-use Rattle.sh_grown.specs.Chunks.{chunked, key_within}
+use Rattle.sh_chunk.specs.Chunks.{chunked, key_within}
 use Rattle.c_handles.specs.Members.{AnyDoes}
 use Rattle.c_handles.specs.HeldPasses.{FillsByKey, HeldFetches, HeldGets, HeldReads, HeldReleases, HeldRemoves}
 use Rattle.c_handles.specs.declared.held_pass.HeldPass.{HeldPass}

@@ -2,8 +2,8 @@
 use Rattle.std.proofs.Common.{◌≡◌, ℕ, zero, suc, List, [], Option, Some, rules}
 use Rattle.std.specs.List.{All}
 use Rattle.std.proofs.lemmas.List.Elements.{All-push}
-use Rattle.sh_pass.specs.Seats.{Heap}
-use Rattle.sh_pass.specs.Views.{newly}
+use Rattle.sh_table.specs.Seats.{Heap}
+use Rattle.sh_table.specs.Views.{newly}
 use Rattle.sh_pass.specs.Passes.{Caller, newcomers}
 
 pub newcomers_at_home : (home : Option Heap) (heap : Heap) (n : ℕ) → home ≡ Some heap

@@ -12,7 +12,7 @@ use std::marker::{Brand, PhantomData};
 /// parameter is of that heap.
 pub trait Home {
     ghost use Rattle.std.specs.Prelude.{Option};
-    ghost use Rattle.sh_pass.specs.Seats.{Heap};
+    ghost use Rattle.sh_table.specs.Seats.{Heap};
     ghost use Rattle.sh_grown.specs.declared.growing.Growing.{Growing};
 
     ghost heap: { Option Heap };

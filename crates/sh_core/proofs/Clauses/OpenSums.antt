@@ -2,7 +2,7 @@
 use Rattle.std.proofs.Common.{◌≡◌, ℕ, zero, suc, ◌+◌, ◌^◌, ◌≤◌, length, refl, subst, arith, Some, None, slice_get}
 use Rattle.std.proofs.Common.{replicate}
 use Rattle.std.proofs.lemmas.List.{length-replicate}
-use Rattle.sh_step.specs.Fields.{fields_of}
+use Rattle.sh_word.specs.Fields.{fields_of}
 use Rattle.sh_step.specs.Plans.{Plan, Lawful}
 use Rattle.sh_step.specs.Collections.{total}
 use Rattle.sh_step.specs.declared.body.Body.{Body}

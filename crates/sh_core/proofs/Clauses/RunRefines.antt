@@ -4,7 +4,7 @@ use Rattle.std.proofs.Common.{subst, arith, Some, slice_get, eqb-true}
 use Rattle.std.specs.Prelude.{not}
 use Rattle.sh_slots.specs.declared.hand.SlotRef.{SlotRef}
 use Rattle.sh_slots.specs.declared.hand.KeyRef.{KeyRef}
-use Rattle.sh_step.specs.Fields.{Fields, fields_of}
+use Rattle.sh_word.specs.Fields.{Fields, fields_of}
 use Rattle.sh_step.specs.Plans.{Plan, shard_of, Lawful, over_heap}
 use Rattle.sh_slots.specs.Slots.{slot_ref_of}
 use Rattle.sh_step.specs.Collections.{total, if1}

@@ -11,7 +11,7 @@ use Rattle.sh_step.specs.declared.action.PageName.{PageName}
 use Rattle.sh_step.specs.declared.action.SlotName.{SlotName}
 use Rattle.sh_key.specs.Layouts.{tiny}
 use Rattle.sh_core.specs.Words.{Words, put, put2}
-use Rattle.sh_step.specs.Fields.{fields_of, word_of}
+use Rattle.sh_word.specs.Fields.{fields_of, word_of}
 use Rattle.sh_step.specs.Plans.{Plan, keys_of, page_number, local, over_heap, plan_of, shard_of}
 use Rattle.sh_slots.specs.Slots.{slot_refs}
 use Rattle.sh_step.specs.Collections.{total, without, has, noted, off, every}

@@ -2,7 +2,7 @@
 use Rattle.std.proofs.Common.{◌≡◌, ℕ, suc, ◌+◌, ◌<◌, ◌≤◌, ◌==◌, ◌&&◌, ◌⊎◌, inl, inr, ⊎_elim, Bool, true, false, cond}
 use Rattle.std.proofs.Common.{List, ◌∷◌, refl, sym, ap, subst, arith, Some, slice_get, eqb-true, ltb-true}
 use Rattle.std.specs.Prelude.{nat_lt}
-use Rattle.sh_step.specs.Fields.{fields_of}
+use Rattle.sh_word.specs.Fields.{fields_of}
 use Rattle.sh_slots.specs.declared.hand.SlotRef.{SlotRef}
 use Rattle.sh_slots.specs.declared.hand.KeyRef.{KeyRef}
 use Rattle.sh_slots.specs.declared.hand.Hand.TheVariants.{Leaving}

@@ -5,9 +5,9 @@ use Rattle.std.specs.Prelude.{◌^◌, bit_or, All as Each}
 use Rattle.std.proofs.lemmas.List.Elements.{All-append, All-cons, All-nil}
 use Rattle.sh_history.specs.declared.entry.Entry.{Entry}
 use Rattle.sh_history.specs.Log.{pass_of}
-use Rattle.sh_step.specs.Fields.{Fields, fields_of}
-use Rattle.sh_step.proofs.Words.{fields_of-word_of, fields_of-or_mark, fields_of-or_present, fields_of-add}
-use Rattle.sh_step.proofs.Words.{fields_of-sub}
+use Rattle.sh_word.specs.Fields.{Fields, fields_of}
+use Rattle.sh_word.proofs.Words.{fields_of-word_of, fields_of-or_mark, fields_of-or_present, fields_of-add}
+use Rattle.sh_word.proofs.Words.{fields_of-sub}
 use Rattle.sh_shape.specs.declared.places.Place.{Place}
 use Rattle.sh_shape.specs.declared.places.Place.TheVariants.{Class, Head, PageLink, State, Link, Length, Payload, Owner}
 use Rattle.sh_shape.specs.declared.places.Place.TheVariants.{Bell}

@@ -27,7 +27,7 @@ use Rattle.sh_step.specs.declared.moves.Move.TheVariants.{PutSlot, Tie, Adopt, R
 use Rattle.sh_step.specs.declared.moves.Move.TheVariants.{LookAgain}
 use Rattle.sh_step.specs.Collections.{if1, noted}
 use Rattle.sh_step.specs.Conditions.{May, Named}
-use Rattle.sh_step.specs.Fields.{Fields, fields_of}
+use Rattle.sh_word.specs.Fields.{Fields, fields_of}
 use Rattle.sh_step.specs.Moves.{row_of}
 use Rattle.sh_step.specs.Operations.{operate}
 use Rattle.sh_step.specs.Plans.{Plan}

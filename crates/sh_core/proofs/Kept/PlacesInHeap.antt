@@ -5,7 +5,7 @@ use Rattle.std.specs.Prelude.{not, nat_lt}
 use Rattle.std.proofs.lemmas.Bool.Decides.{nat_tests}
 use Rattle.std.proofs.Common.{sym, ap, ◌∙◌, subst, arith, Option, Some, None, slice_get, eqb-true, eq-eqb}
 use Rattle.std.proofs.Math.Nat.{div-lt_iff_lt-mul}
-use Rattle.sh_step.specs.Fields.{fields_of}
+use Rattle.sh_word.specs.Fields.{fields_of}
 use Rattle.sh_shape.specs.Classes.{width}
 use Rattle.sh_shape.proofs.ClassLaws.{slots_few, slot_words_fit_page}
 use Rattle.sh_slots.specs.declared.hand.SlotRef.{SlotRef}

@@ -6,7 +6,7 @@ use Rattle.sh_slots.specs.declared.hand.KeyRef.{KeyRef}
 use Rattle.sh_slots.specs.declared.hand.Hand.{Hand}
 use Rattle.sh_core.specs.Words.{Words, write, put, put2, read}
 use Rattle.sh_shape.specs.declared.places.Place.TheVariants.{Class, State, Length}
-use Rattle.sh_step.specs.Fields.{fields_of}
+use Rattle.sh_word.specs.Fields.{fields_of}
 use Rattle.sh_shape.specs.Classes.{slots}
 use Rattle.sh_slots.specs.Slots.{same_slot, slot_refs, live_at, has_room, slot_ref_of, after_drop, sight_with}
 use Rattle.sh_step.specs.Collections.{if1, has, without, noted, off}

@@ -4,7 +4,7 @@ use Rattle.std.proofs.Common.{◌∙◌, arith, Option, Some, None, slice_get}
 use Rattle.std.proofs.Math.Nat.{mod-le}
 use Rattle.std.proofs.lemmas.Bool.Decides.{nat_tests}
 use Rattle.std.specs.Prelude.{nat_lt}
-use Rattle.sh_step.specs.Fields.{fields_of, word_of}
+use Rattle.sh_word.specs.Fields.{fields_of, word_of}
 use Rattle.sh_shape.specs.declared.places.Place.TheVariants.{State}
 use Rattle.sh_slots.specs.declared.hand.SlotRef.{SlotRef}
 use Rattle.sh_slots.specs.declared.hand.KeyRef.{KeyRef}

@@ -2,7 +2,7 @@
 use Rattle.std.proofs.Common.{◌≡◌, ℕ, ◌+◌, ◌%◌, ◌<◌, ◌≤◌, ◌==◌, ◌&&◌, ⊎_elim, Bool, true, false, cond, [], ◌∷◌, refl}
 use Rattle.std.proofs.Common.{sym, ◌∙◌, subst, arith, Some, None, slice_get, eqb-true}
 use Rattle.std.specs.Prelude.{not, nat_lt}
-use Rattle.sh_step.specs.Fields.{fields_of}
+use Rattle.sh_word.specs.Fields.{fields_of}
 use Rattle.sh_slots.specs.declared.hand.SlotRef.{SlotRef}
 use Rattle.sh_slots.specs.declared.hand.Hand.{Hand}
 use Rattle.sh_slots.specs.Slots.{slot_ref_of, live_at, after_drop, marked_word, sight_with}
@@ -19,8 +19,8 @@ use Rattle.sh_core.proofs.Clauses.OpenSums.{part_new}
 use Rattle.sh_slots.specs.declared.hand.Hand.TheVariants.{Idle, Removing, Leaving, Finishing, ToPut, Tying, Ringing}
 use Rattle.sh_slots.specs.declared.hand.Hand.TheVariants.{RingTying, Filling, Looking}
 use Rattle.sh_slots.specs.declared.hand.Sight.TheVariants.{Bare}
-use Rattle.sh_step.specs.Stack.{link_over}
-use Rattle.sh_step.specs.Bell.{is_armed, top_of}
+use Rattle.sh_stack.specs.Stack.{link_over}
+use Rattle.sh_bell.specs.Bell.{is_armed, top_of}
 use Rattle.sh_step.specs.declared.moves.Move.{Move}
 use Rattle.sh_step.specs.declared.moves.Move.TheVariants.{EnterGet, EnterRemove, Mark, Drop, DropHold, Finish, FillSlot}
 use Rattle.sh_step.specs.declared.moves.Move.TheVariants.{Fill, Publish, Take, Follow, Put, PutSlot, Tie, Adopt, Leave}

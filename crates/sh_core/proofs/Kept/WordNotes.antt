@@ -12,7 +12,7 @@ use Rattle.sh_slots.specs.declared.hand.Hand.TheVariants.{Leaving}
 use Rattle.sh_slots.specs.Slots.{slot_ref_of, live_at}
 use Rattle.sh_step.specs.declared.body.Body.{Body}
 use Rattle.sh_step.specs.Collections.{if1, has, without, off, noted}
-use Rattle.sh_step.specs.Fields.{fields_of}
+use Rattle.sh_word.specs.Fields.{fields_of}
 use Rattle.sh_core.specs.Words.{read}
 use Rattle.sh_core.specs.Worlds.{World, apply, open_world, value_at, words_from, joined, entry_of}
 use Rattle.sh_core.specs.Worlds.{value_at_place as value_there}

@@ -16,7 +16,7 @@ use Rattle.sh_core.specs.Stacks.{is_at}
 use Rattle.sh_core.specs.Stacks.{bell_cursor_at, bell_link, bell_head}
 use Rattle.sh_core.specs.Bells.{rings, armed_at, owns}
 use Rattle.sh_core.specs.Placed.{ListsAgreeOf}
-use Rattle.sh_step.specs.Stack.{top_item, link_item}
+use Rattle.sh_stack.specs.Stack.{top_item, link_item}
 use Rattle.sh_step.specs.Rows.{hand, own}
 use Rattle.sh_core.proofs.Sums.PageNumbers.{over_none, over_some}
 use Rattle.sh_core.proofs.Sums.Totals.{total_same, total_set, total_at}

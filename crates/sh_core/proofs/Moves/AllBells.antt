@@ -10,7 +10,7 @@ use Rattle.sh_step.specs.declared.body.Body.{Body}
 use Rattle.sh_core.specs.Lists.{PutLists, bells_taken}
 use Rattle.sh_core.specs.Stacks.{bell_head}
 use Rattle.sh_core.specs.Placed.{Agreement}
-use Rattle.sh_step.specs.Stack.{top_item, link_item}
+use Rattle.sh_stack.specs.Stack.{top_item, link_item}
 use Rattle.sh_step.specs.Rows.{hand, adopt, leave, ring, ring_tie, take_bell, follow_bell}
 use Rattle.sh_core.specs.Worlds.{World, apply}
 use Rattle.sh_core.proofs.Slots.Slots.{tally_ext}

@@ -14,7 +14,7 @@ use Rattle.sh_slots.specs.declared.hand.Sight.TheVariants.{Bare}
 use Rattle.sh_slots.specs.declared.reply.Reply.TheVariants as reply
 use Rattle.sh_slots.specs.Slots.{live_at, past_at, sight_with, value_seen}
 use Rattle.sh_step.specs.declared.body.Body.{Body}
-use Rattle.sh_step.specs.Fields.{Fields, fields_of}
+use Rattle.sh_word.specs.Fields.{Fields, fields_of}
 use Rattle.sh_step.specs.Plans.{Plan}
 use Rattle.sh_step.specs.Rows.{hand, peek, look, look_on, look_again, look_place, is_read}
 use Rattle.sh_core.specs.Words.{Words, write, read}

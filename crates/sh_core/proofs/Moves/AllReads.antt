@@ -6,7 +6,7 @@ use Rattle.sh_slots.specs.declared.hand.KeyRef.{KeyRef}
 use Rattle.sh_slots.specs.declared.hand.Hand.TheVariants.{Idle}
 use Rattle.sh_core.specs.Words.{Words, write, read}
 use Rattle.sh_shape.specs.declared.places.Place.TheVariants.{Class, Length, Payload}
-use Rattle.sh_step.specs.Fields.{Fields}
+use Rattle.sh_word.specs.Fields.{Fields}
 use Rattle.sh_step.specs.Plans.{Plan, heap_pages}
 use Rattle.sh_shape.specs.Classes.{width}
 use Rattle.sh_step.specs.Collections.{noted}

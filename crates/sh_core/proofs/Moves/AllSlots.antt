@@ -9,7 +9,7 @@ use Rattle.sh_slots.specs.declared.hand.Hand.{Hand}
 use Rattle.sh_slots.specs.declared.hand.Hand.TheVariants.{Idle, Removing, Leaving, Finishing, ToPut, Filling}
 use Rattle.sh_core.specs.Words.{Words, write}
 use Rattle.sh_shape.specs.declared.places.Place.TheVariants.{State}
-use Rattle.sh_step.specs.Fields.{Fields, fields_of, word_of}
+use Rattle.sh_word.specs.Fields.{Fields, fields_of, word_of}
 use Rattle.sh_step.specs.Plans.{Plan, Lawful}
 use Rattle.sh_shape.specs.Classes.{width}
 use Rattle.sh_shape.proofs.ClassLaws.{slots_few}
@@ -27,7 +27,7 @@ use Rattle.sh_core.specs.Worlds.{World, apply}
 use Rattle.sh_core.specs.Tallies.{held, at_slot}
 use Rattle.sh_core.specs.Sums.{Sums}
 use Rattle.sh_core.proofs.Sums.Totals.{total_at, total_without}
-use Rattle.sh_step.proofs.Words.{fields_of-sub, fields_of-or_mark, fields_of-or_present, fields_of-word_of}
+use Rattle.sh_word.proofs.Words.{fields_of-sub, fields_of-or_mark, fields_of-or_present, fields_of-word_of}
 use Rattle.sh_core.proofs.Slots.Slots.{same_slot-refl, same_slot-true, if1_same_slot}
 use Rattle.sh_core.proofs.Slots.SlotSteps.{leaving, reused_fields, fields_of-entered}
 use Rattle.sh_core.proofs.Slots.MarkStep.{sums_mark, is_current}

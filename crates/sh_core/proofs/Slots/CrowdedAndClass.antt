@@ -7,7 +7,7 @@ use Rattle.sh_history.specs.declared.entry.Entry.TheVariants.{Crowded}
 use Rattle.sh_slots.specs.declared.hand.SlotRef.{SlotRef}
 use Rattle.sh_slots.specs.declared.hand.KeyRef.{KeyRef}
 use Rattle.sh_slots.specs.declared.hand.Hand.TheVariants.{Idle}
-use Rattle.sh_step.specs.Fields.{Fields, fields_of}
+use Rattle.sh_word.specs.Fields.{Fields, fields_of}
 use Rattle.sh_step.specs.Plans.{Plan, Lawful}
 use Rattle.sh_shape.specs.Classes.{slots}
 use Rattle.sh_slots.specs.Slots.{same_slot, slot_refs, slot_ref_of, live_at}

@@ -9,7 +9,7 @@ use Rattle.sh_slots.specs.declared.hand.Hand.{Hand}
 use Rattle.sh_slots.specs.declared.hand.Hand.TheVariants.{Idle, Filling}
 use Rattle.sh_core.specs.Words.{Words, write, put, put2}
 use Rattle.sh_shape.specs.declared.places.Place.TheVariants.{Length, Payload}
-use Rattle.sh_step.specs.Fields.{Fields, fields_of}
+use Rattle.sh_word.specs.Fields.{Fields, fields_of}
 use Rattle.sh_step.specs.Plans.{Plan}
 use Rattle.sh_shape.specs.Classes.{width}
 use Rattle.sh_slots.specs.Slots.{same_slot, slot_ref_of}

@@ -9,7 +9,7 @@ use Rattle.sh_slots.specs.declared.hand.KeyRef.{KeyRef}
 use Rattle.sh_slots.specs.declared.hand.Hand.TheVariants.{Idle, Removing, Finishing, ToPut}
 use Rattle.sh_core.specs.Words.{Words, write}
 use Rattle.sh_shape.specs.declared.places.Place.TheVariants.{State}
-use Rattle.sh_step.specs.Fields.{Fields, fields_of, word_of}
+use Rattle.sh_word.specs.Fields.{Fields, fields_of, word_of}
 use Rattle.sh_step.specs.Plans.{Plan, Lawful}
 use Rattle.sh_slots.specs.Slots.{same_slot, slot_ref_of, live_at, after_drop, marked_word}
 use Rattle.sh_step.specs.Collections.{if1, has}
@@ -22,7 +22,7 @@ use Rattle.sh_core.specs.Stories.{values, removals, removed_in, Story, KeysAgree
 use Rattle.sh_core.proofs.Slots.Permits.{Permits}
 use Rattle.sh_core.specs.Sums.{Sums, FillAgrees}
 use Rattle.sh_core.proofs.Sums.Totals.{total_at, total_without}
-use Rattle.sh_step.proofs.Words.{fields_of-sub, fields_of-word_of}
+use Rattle.sh_word.proofs.Words.{fields_of-sub, fields_of-word_of}
 use Rattle.sh_core.proofs.Slots.Slots.{slots_state, same_slot-refl, tally_ext}
 use Rattle.sh_core.proofs.Slots.SlotSteps.{finish_hand, reused_fields, remove_adds_up, remove_due, drop_key_adds_up}
 use Rattle.sh_core.proofs.Slots.SlotSteps.{fields_of-entered}

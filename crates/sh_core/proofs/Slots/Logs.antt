@@ -12,7 +12,7 @@ use Rattle.sh_slots.specs.declared.hand.SlotRef.{SlotRef}
 use Rattle.sh_slots.specs.declared.hand.KeyRef.{KeyRef}
 use Rattle.sh_core.specs.Words.{Words, write}
 use Rattle.sh_shape.specs.declared.places.Place.TheVariants.{State}
-use Rattle.sh_step.specs.Fields.{Fields, fields_of}
+use Rattle.sh_word.specs.Fields.{Fields, fields_of}
 use Rattle.sh_step.specs.Plans.{Plan}
 use Rattle.sh_slots.specs.Slots.{same_slot, slot_ref_of, live_at}
 use Rattle.sh_step.specs.Collections.{total, if1}

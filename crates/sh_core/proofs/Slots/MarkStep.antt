@@ -10,7 +10,7 @@ use Rattle.sh_slots.specs.declared.hand.KeyRef.{KeyRef}
 use Rattle.sh_slots.specs.declared.hand.Hand.TheVariants.{Removing, Leaving}
 use Rattle.sh_core.specs.Words.{Words, write}
 use Rattle.sh_shape.specs.declared.places.Place.TheVariants.{State}
-use Rattle.sh_step.specs.Fields.{Fields, fields_of}
+use Rattle.sh_word.specs.Fields.{Fields, fields_of}
 use Rattle.sh_step.specs.Plans.{Plan, Lawful}
 use Rattle.sh_slots.specs.Slots.{same_slot, slot_ref_of}
 use Rattle.sh_step.specs.Collections.{if1}
@@ -23,7 +23,7 @@ use Rattle.sh_core.specs.Stories.{values, removals, Story, KeysAgree}
 use Rattle.sh_core.proofs.Slots.Permits.{Permits}
 use Rattle.sh_core.specs.Sums.{Sums}
 use Rattle.sh_core.proofs.Sums.Totals.{total_at}
-use Rattle.sh_step.proofs.Words.{fields_of-or_mark}
+use Rattle.sh_word.proofs.Words.{fields_of-or_mark}
 use Rattle.sh_core.proofs.Slots.SumsStep.{sums_at}
 use Rattle.sh_core.proofs.Slots.Slots.{slots_state, same_slot-refl}
 use Rattle.sh_core.proofs.Slots.SlotSteps.{mark_adds_up, mark_due}

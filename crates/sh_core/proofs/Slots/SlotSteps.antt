@@ -7,7 +7,7 @@ use Rattle.sh_slots.specs.declared.hand.KeyRef.{KeyRef}
 use Rattle.sh_slots.specs.declared.hand.Hand.TheVariants.{Idle, Removing, Leaving, Finishing, ToPut, Filling}
 use Rattle.sh_core.specs.Words.{Words, write}
 use Rattle.sh_shape.specs.declared.places.Place.TheVariants.{State}
-use Rattle.sh_step.specs.Fields.{Fields, fields_of}
+use Rattle.sh_word.specs.Fields.{Fields, fields_of}
 use Rattle.sh_step.specs.Plans.{Plan}
 use Rattle.sh_slots.specs.Slots.{same_slot, after_drop, slot_ref_of}
 use Rattle.sh_step.specs.Collections.{total, if1, without, has}
@@ -16,7 +16,7 @@ use Rattle.sh_core.specs.Lists.{PutLists, in_hand}
 use Rattle.sh_step.specs.Rows.{hand, freed}
 use Rattle.sh_core.specs.Tallies.{AddsUp, tally, due, visits, SlotsAddUp, at_slot, current, stale}
 use Rattle.sh_core.proofs.Sums.Totals.{total_at, total_without}
-use Rattle.sh_step.proofs.Words.{fields_of-sub, fields_of-add}
+use Rattle.sh_word.proofs.Words.{fields_of-sub, fields_of-add}
 use Rattle.sh_core.proofs.Slots.Slots.{tally_set, slots_state, same_slot-refl, tally_ext, lost_le, lost_most}
 use Rattle.sh_core.proofs.Slots.Slots.{if1_same_slot}
 use Rattle.sh_core.proofs.Sums.Tests.{if1_neither}

@@ -12,7 +12,7 @@ use Rattle.sh_slots.specs.declared.hand.Hand.{Hand}
 use Rattle.sh_slots.specs.declared.hand.Hand.TheVariants.{Idle, Removing, Leaving, Finishing, Filling}
 use Rattle.sh_core.specs.Words.{Words, write}
 use Rattle.sh_shape.specs.declared.places.Place.TheVariants.{State}
-use Rattle.sh_step.specs.Fields.{Fields, fields_of}
+use Rattle.sh_word.specs.Fields.{Fields, fields_of}
 use Rattle.sh_step.specs.Plans.{Plan, Lawful}
 use Rattle.sh_shape.specs.Classes.{width, slots}
 use Rattle.sh_slots.specs.Slots.{same_slot, slot_ref_of, name_at, live_at, after_drop}
@@ -25,7 +25,7 @@ use Rattle.sh_core.specs.Tallies.{AddsUp, tally, due, held, visits, room, queued
 use Rattle.sh_core.specs.Stories.{values, removals, removed_in, Story, KeysAgree}
 use Rattle.sh_core.specs.Sums.{Sums, FillAgrees}
 use Rattle.sh_core.proofs.Sums.Totals.{total_at, total_few, total_length}
-use Rattle.sh_step.proofs.Words.{fields_of-sub, fields_of-or_present}
+use Rattle.sh_word.proofs.Words.{fields_of-sub, fields_of-or_present}
 use Rattle.sh_core.proofs.Slots.Slots.{slots_state, if1_same_slot}
 use Rattle.sh_core.proofs.Slots.SlotSteps.{drop_slots, leaving, enter_slots, get_adds_up, get_due, holding}
 use Rattle.sh_core.proofs.Slots.SlotSteps.{publish_adds_up, fields_of-entered}

@@ -8,7 +8,7 @@ use Rattle.sh_slots.specs.declared.hand.KeyRef.{KeyRef}
 use Rattle.sh_slots.specs.declared.hand.Hand.TheVariants.{Idle, Leaving, Finishing, Tying}
 use Rattle.sh_core.specs.Words.{Words, write, put}
 use Rattle.sh_shape.specs.declared.places.Place.TheVariants.{State}
-use Rattle.sh_step.specs.Fields.{Fields, fields_of, word_of}
+use Rattle.sh_word.specs.Fields.{Fields, fields_of, word_of}
 use Rattle.sh_step.specs.Plans.{Plan, Lawful}
 use Rattle.sh_slots.specs.Slots.{same_slot, slot_ref_of, live_at, marked_word}
 use Rattle.sh_step.specs.Collections.{total, if1}
@@ -22,7 +22,7 @@ use Rattle.sh_core.specs.Tallies.{AddsUp, Tally, tally, due, held, visits, lost,
 use Rattle.sh_core.specs.Stories.{values, removals, removed_in, Story, KeysAgree}
 use Rattle.sh_core.specs.Sums.{Sums, FillAgrees}
 use Rattle.sh_core.proofs.Sums.Totals.{total_set}
-use Rattle.sh_step.proofs.Words.{fields_of-word_of, word_of-fields_of}
+use Rattle.sh_word.proofs.Words.{fields_of-word_of, word_of-fields_of}
 use Rattle.sh_core.proofs.Slots.Slots.{tally_same, tally_set, tally_ext, slots_state, same_slot-refl, lost_le}
 use Rattle.sh_core.proofs.Slots.SlotSteps.{finish_mine, enter_slots, reused_fields, fields_of-entered}
 use Rattle.sh_core.proofs.Slots.Logs.{keys_state, keys_quiet, story_retire, gone_permitted}

@@ -3,7 +3,7 @@ use Rattle.std.proofs.Common.{◌≡◌, ℕ, ◌-◌, ◌<◌, ◌==◌, Bool, 
 use Rattle.std.proofs.Common.{Option, Some, None, slice_get, ◌≤◌}
 use Rattle.std.specs.Prelude.{not, nat_lt}
 use Rattle.sh_key.specs.Layout.{Layout}
-use Rattle.sh_step.specs.Fields.{fields_of}
+use Rattle.sh_word.specs.Fields.{fields_of}
 use Rattle.sh_shape.specs.declared.places.Place.{Place}
 use Rattle.sh_shape.specs.declared.places.Place.TheVariants.{Class, Head, PageLink, State, Link, Length, Payload, Owner}
 use Rattle.sh_shape.specs.declared.places.Place.TheVariants.{Bell}

@@ -1,6 +1,6 @@
 // How a member ends in a bundle.
 ghost use Rattle.std.specs.Prelude.{◌≡◌};
-ghost use Rattle.sh_pass.specs.Together.{LeadsTogether};
+ghost use Rattle.sh_table.specs.Together.{LeadsTogether};
 ghost use Rattle.sh_member.specs.Sides.{EndsInBundle, IsOfHeap, OpensBundle};
 
 use crate::member::{Member, Side};

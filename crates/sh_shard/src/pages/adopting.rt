@@ -1,7 +1,7 @@
 // Becoming the owner of a shard: the class word of each of its pages is read.
 ghost use Rattle.std.specs.Prelude.{◌≡◌, ℕ, ◌+◌, None, Some, IfOk, MatchResult};
 ghost use Rattle.sh_slots.specs.declared.hand.Hand.TheVariants.{Idle};
-ghost use Rattle.sh_pass.specs.Tales.{ViewIsValid};
+ghost use Rattle.sh_table.specs.Tales.{ViewIsValid};
 ghost use Rattle.sh_pass.specs.Owners.{HasNothing, own_body, seen_page};
 ghost use Rattle.sh_shard.specs.Pages.{AdoptsPages, AdoptsShard, HoldsPages, ShardLeft};
 ghost use Rattle.sh_shard.specs.Steps.{StepsAtMost};

@@ -2,7 +2,7 @@
 ghost use Rattle.std.specs.Prelude.{◌*◌, ◌<◌, None};
 ghost use Rattle.sh_pass.specs.Passes.{GlanceDoes};
 ghost use Rattle.sh_pass.specs.Peeks.{PeekDoes};
-ghost use Rattle.sh_pass.specs.Places.{all_pages, slot_places};
+ghost use Rattle.sh_shape.specs.Places.{all_pages, slot_places};
 ghost use Rattle.sh_pass.specs.Remaining.{Remains};
 ghost use Rattle.sh_pass.specs.Rooms.{becomes};
 ghost use Rattle.sh_shard.specs.Pages.{GainsSlot, HoldsPages};

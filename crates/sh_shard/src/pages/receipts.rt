@@ -3,7 +3,7 @@ ghost use Rattle.std.specs.Prelude.{◌≡◌};
 ghost use Rattle.sh_pass.specs.Bundles.{bundle_by, bundled};
 ghost use Rattle.sh_pass.specs.Receipts.{receipt_by};
 ghost use Rattle.sh_pass.specs.Remaining.{Remains};
-ghost use Rattle.sh_pass.specs.Together.{LeadsTogether};
+ghost use Rattle.sh_table.specs.Together.{LeadsTogether};
 ghost use Rattle.sh_shard.specs.Pages.{HoldsPages, pages_heeded};
 
 use crate::pages::PagesOn;

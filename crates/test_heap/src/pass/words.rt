@@ -2,8 +2,8 @@
 //! value in eight steps, and of a slot whose last generation is over. An owner's steps return the words that they find;
 //! and once all passes met, each word can be loaded.
 ghost use Rattle.std.specs.Prelude.{◌≡◌, ◌<◌, None, Some, true, false, cond};
-ghost use Rattle.sh_step.specs.Bell.{is_armed, top_of};
-ghost use Rattle.sh_step.specs.Stack.{top_item, link_item};
+ghost use Rattle.sh_bell.specs.Bell.{is_armed, top_of};
+ghost use Rattle.sh_stack.specs.Stack.{top_item, link_item};
 ghost use Rattle.sh_pass.specs.Owners.{MayTouch, own_body};
 ghost use Rattle.test_heap.specs.Pages.{IsAt, page_at};
 

@@ -1,8 +1,8 @@
 //! A second store beside the plain one: it knows one pass alone, and a value that it gives is open until it is read.
 ghost use Rattle.std.specs.Prelude.{◌≡◌, ◌==◌, if◌then◌else◌, [], ◌∷◌, Ok, Err, Some};
 ghost use Rattle.sh_value.specs.declared.refusal.Refusal.TheVariants.{Full, Memory, HoldsFull, BadKey, NotHeld};
-ghost use Rattle.sh_plain.specs.Entry.TheVariants.{Got, Released};
-ghost use Rattle.sh_plain.specs.LogEntry.TheVariants.{Known, Unread};
+ghost use Rattle.sh_history.specs.declared.entry.Entry.TheVariants.{Got, Released};
+ghost use Rattle.sh_history.specs.declared.log.LogEntry.TheVariants.{Known, Unread};
 ghost use Rattle.sh_plain.specs.Store.{Setting};
 ghost use Rattle.test_values.specs.declared.typed.lender.Stage.TheVariants.{Idle, Lent, Read, Returned};
 

@@ -2,7 +2,7 @@ use Rattle.std.proofs.Common.{◌≡◌, ◌++◌, ◌<◌, ◌≤◌, ◌∙◌
 use Rattle.std.specs.List.{flat_map, range_with_len}
 use Rattle.sh_shape.specs.Places.{page_number, pages_of}
 use Rattle.sh_shape.specs.Shape.{Numbers, IsShape}
-use Rattle.sh_core.specs.Plans.{plan_of}
+use Rattle.sh_step.specs.Plans.{plan_of}
 use Rattle.script_output.specs.AccountLines.{shard_text, ShardSaid, accounts_after}
 use Rattle.script_output.proofs.Telling.{later_next, told_none, told_more}
 use Rattle.script_output.proofs.account_line.push_accounts.Goals as goal

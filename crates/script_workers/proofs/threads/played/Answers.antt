@@ -5,7 +5,7 @@ use Rattle.script_calls.proofs.InTurn.{all_are, lines_ran}
 use Rattle.script_calls.proofs.ListLemmas.{up_length}
 use Rattle.script_calls.proofs.Newcomers.{length_map, newcomers_length}
 use Rattle.script_workers.proofs.threads.played.Goals as goal
-use Rattle.sh_pass.proofs.Truths.{no_bool}
+use Rattle.sh_step.proofs.Truths.{no_bool}
 
 pub all_ended-requires-clause-space : goal.all_ended-requires-clause-space
 all_ended-requires-clause-space g c =

@@ -1,5 +1,5 @@
 use Rattle.std.proofs.Common.{◌≡◌, ◌++◌, ◌∷◌, [], ap, arith, inl, sym}
-use Rattle.sh_pass.specs.Collections.{if1}
+use Rattle.sh_step.specs.Collections.{if1}
 use Rattle.sh_pass.specs.Passes.{RemoveDoes}
 use Rattle.sh_member.specs.Removing.{SaysOf, is_removed, walk_end}
 use Rattle.sh_member.specs.Walks.{NextLiveDoes, with_value}

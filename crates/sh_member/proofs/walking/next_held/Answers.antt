@@ -1,7 +1,7 @@
 use Rattle.std.proofs.Common.{◌+◌, ◌*◌, ◌≤◌, Ok, Option, ap, arith, inl, inr, refl, subst, ◌∙◌}
 use Rattle.std.specs.Prelude.{min}
 use Rattle.std.proofs.lemmas.Result.{err_from_is_err_and}
-use Rattle.sh_pass.specs.Places.{all_pages}
+use Rattle.sh_shape.specs.Places.{all_pages}
 use Rattle.sh_member.specs.Walks.{NextHeldDoes}
 use Rattle.sh_member.specs.declared.walking.NextHeld.{NextHeld}
 use Rattle.sh_member.proofs.Ending.{remains_along}

@@ -1,6 +1,6 @@
 use Rattle.std.proofs.Common.{◌≡◌, ◌*◌, ◌≤◌, ◌⊎◌, None, Ok}
 use Rattle.std.specs.Prelude.{min}
-use Rattle.sh_pass.specs.Places.{all_pages}
+use Rattle.sh_shape.specs.Places.{all_pages}
 use Rattle.sh_pass.specs.Remaining.{Remains}
 use Rattle.sh_member.specs.Walks.{NextHeldDoes}
 use Rattle.sh_member.proofs.walking.next_held.Given as goal

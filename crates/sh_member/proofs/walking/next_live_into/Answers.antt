@@ -1,8 +1,8 @@
 use Rattle.std.proofs.Common.{◌+◌, ◌*◌, ◌≤◌, ◌∷◌, [], ap, arith, inl, inr, length, refl, subst, ◌∙◌}
 use Rattle.std.specs.Prelude.{min}
-use Rattle.sh_pass.specs.Places.{all_pages}
-use Rattle.sh_table.specs.Entry.TheVariants as entry
-use Rattle.sh_table.specs.LogEntry.TheVariants.{Known}
+use Rattle.sh_shape.specs.Places.{all_pages}
+use Rattle.sh_history.specs.declared.entry.Entry.TheVariants as entry
+use Rattle.sh_history.specs.declared.log.LogEntry.TheVariants.{Known}
 use Rattle.sh_member.proofs.Ending.{remains_along}
 use Rattle.sh_member.proofs.PlaceWalks.{ends, meets_on, reaches, skips_all, skips_none, skips_on, within}
 use Rattle.sh_member.proofs.walking.next_live_into.Goals as goal

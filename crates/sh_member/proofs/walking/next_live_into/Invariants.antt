@@ -1,6 +1,6 @@
 use Rattle.std.proofs.Common.{◌≡◌, ◌*◌, ◌≤◌, ◌⊎◌, None}
 use Rattle.std.specs.Prelude.{min}
-use Rattle.sh_pass.specs.Places.{all_pages}
+use Rattle.sh_shape.specs.Places.{all_pages}
 use Rattle.sh_pass.specs.Remaining.{Remains}
 use Rattle.sh_member.specs.Walks.{NextLiveDoes}
 use Rattle.sh_member.proofs.walking.next_live_into.Given as goal

@@ -1,6 +1,6 @@
 use Rattle.std.proofs.Common.{⊎_elim, List, sym, subst, arith}
 use Rattle.std.specs.Bool.{then_some}
-use Rattle.sh_table.specs.LogEntry.{LogEntry}
+use Rattle.sh_history.specs.declared.log.LogEntry.{LogEntry}
 use Rattle.sh_slots.specs.Slots.{slot_ref_of}
 use Rattle.sh_slots.specs.declared.enter.GetAnswer.{GetAnswer}
 use Rattle.sh_slots.specs.declared.hand.Hand.TheVariants.{Idle, Leaving}

@@ -1,7 +1,7 @@
 use Rattle.std.proofs.Common.{◌≡◌, ◌∙◌, subst}
 use Rattle.sh_pass.specs.Bundles.{bundle_by, bundled}
-use Rattle.sh_pass.specs.Together.{LeadsTogether}
-use Rattle.sh_shard.specs.Passes.{Caller}
+use Rattle.sh_table.specs.Together.{LeadsTogether}
+use Rattle.sh_pass.specs.Passes.{Caller}
 use Rattle.sh_shard.specs.Shards.{Sharded}
 use Rattle.sh_quiet.proofs.leaving.leave_last.Goals as goal
 

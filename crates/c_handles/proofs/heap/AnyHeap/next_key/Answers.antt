@@ -1,6 +1,6 @@
 use Rattle.std.proofs.Common.{sym, subst}
 use Rattle.sh_key.specs.Layouts.{tiny, wide, tagged, deep}
-use Rattle.sh_pass.specs.Seats.{Heap}
+use Rattle.sh_table.specs.Seats.{Heap}
 use Rattle.sh_whole.specs.Homes.{TellsNextKey}
 use Rattle.c_handles.specs.declared.heap.AnyHeap.{AnyHeap}
 use Rattle.c_handles.specs.Heaps.{heap_layout, heap_of}

@@ -2,9 +2,9 @@ use Rattle.std.proofs.Common.{List, ℕ, Result, refl}
 use Rattle.sh_value.specs.declared.refusal.Refusal.{Refusal}
 use Rattle.sh_pass.specs.Fetching.{FetchDoes}
 use Rattle.sh_pass.proofs.Fetched.{fills_as}
-use Rattle.c_handles.specs.Chunks.{chunked, chunk_of, key_within}
-use Rattle.c_handles.specs.Sides.{SideDoes}
-use Rattle.c_handles.specs.Callers.{GrownDoes}
+use Rattle.sh_chunk.specs.Chunks.{chunked, chunk_of, key_within}
+use Rattle.sh_member.specs.Sides.{SideDoes}
+use Rattle.sh_grown.specs.Callers.{GrownDoes}
 use Rattle.c_handles.specs.declared.held_pass.HeldPass.TheVariants as held
 use Rattle.c_handles.specs.HeldPasses.{HeldFetches}
 use Rattle.c_handles.specs.Members.{layout_of}

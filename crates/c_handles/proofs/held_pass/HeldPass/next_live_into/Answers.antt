@@ -1,9 +1,9 @@
 use Rattle.std.proofs.Common.{Ok, Option, Result, refl}
 use Rattle.sh_value.specs.declared.refusal.Refusal.{Refusal}
 use Rattle.c_handles.specs.HeldPasses.{HeldNextLive}
-use Rattle.c_handles.specs.Chunks.{chunk_of}
+use Rattle.sh_chunk.specs.Chunks.{chunk_of}
 use Rattle.c_handles.specs.Members.{layout_of}
-use Rattle.c_handles.specs.Sides.{SideDoes}
+use Rattle.sh_member.specs.Sides.{SideDoes}
 use Rattle.c_handles.specs.declared.held_pass.HeldPass.TheVariants as held
 use Rattle.sh_member.specs.Walks.{NextLiveDoes}
 use Rattle.sh_member.specs.declared.walking.NextLive.{NextLive}

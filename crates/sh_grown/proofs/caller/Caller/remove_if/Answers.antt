@@ -1,7 +1,7 @@
 use Rattle.std.proofs.Common.{◌≡◌, ◌+◌, ◌++◌, ◌∷◌, [], Option, Some, Ok, ap, arith, subst, sym}
 use Rattle.std.proofs.lemmas.Result.{err_from_is_err_and}
 use Rattle.sh_chunk.specs.Chunks.{chunk_of}
-use Rattle.sh_pass.specs.Collections.{if1}
+use Rattle.sh_step.specs.Collections.{if1}
 use Rattle.sh_pass.specs.declared.next_key.NextKey.{NextKey}
 use Rattle.sh_member.specs.Removing.{SaysOf, is_removed, walk_end}
 use Rattle.sh_member.specs.Walks.{PutsLive, with_value}

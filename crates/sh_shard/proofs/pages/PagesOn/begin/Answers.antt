@@ -2,7 +2,7 @@ use Rattle.std.proofs.Common.{length, refl, ap, ◌∙◌, sym, arith}
 use Rattle.std.proofs.lemmas.List.{length-set}
 use Rattle.sh_shape.specs.Places.{pages_of}
 use Rattle.sh_states.specs.States.{state_at}
-use Rattle.sh_pass.specs.Seats.{Heap}
+use Rattle.sh_table.specs.Seats.{Heap}
 use Rattle.sh_shard.proofs.Beginning.{reading_more, state_of}
 use Rattle.sh_shard.proofs.pages.PagesOn.begin.Goals as goal
 

@@ -1,5 +1,5 @@
 use Rattle.std.proofs.Common.{◌<◌, [], length, refl, sym, subst}
-use Rattle.sh_queue.specs.ListNumbers.{upward}
+use Rattle.sh_lists.specs.Numbers.{upward}
 use Rattle.sh_shape.specs.Classes.{slots}
 use Rattle.sh_states.specs.declared.states.PageState.{PageState}
 use Rattle.sh_states.specs.States.{state_at}
