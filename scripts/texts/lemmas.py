@@ -1,4 +1,7 @@
-"""Names and statements of lemmas that a crate, or the tree, has twice, by what specs/ and proofs/ declare.
+"""Names and statements of lemmas, and addresses of modules, that a crate, or the tree, has twice, by what specs/ and
+proofs/ declare.
+
+Lines `pub use` of a Lib.antt for a module of another crate: a definition is imported from the file that declares it.
 
 Names that mean two things in one crate:
 
@@ -20,6 +23,8 @@ from checks import told
 from tree import CRATES
 
 MOST = 20
+# the crate that names what users of the heap cite
+PUBLIC = "gearlongan"
 # the files that answer goals, and the one that lists the others
 SKIPPED = {"Answers.antt", "Invariants.antt", "Proof.antt", "Given.antt", "Lib.antt"}
 # Lemmas whose statement another lemma has too, and why. A row that is not needed is a fault too.
@@ -120,9 +125,6 @@ def declared_at(source):
     module = CRATES.joinpath(*parts[1:-1]).with_suffix(".antt")
     if module.is_file() and parts[-1] in file(module).passed_on:
         return declared_at(file(module).passed_on[parts[-1]])
-    root = CRATES.joinpath(parts[1], parts[2], "Lib.antt")
-    if len(parts) > 4 and root.is_file() and parts[3] in file(root).passed_on:
-        return declared_at(".".join((file(root).passed_on[parts[3]], *parts[4:])))
     return source
 
 
@@ -252,5 +254,15 @@ def same_statements(shows):
     return told("same statements", faults, f"{len(known)} known")
 
 
+def second_addresses():
+    """Whether each module has one address: a Lib.antt passes on no module of another crate. The crate of PUBLIC may."""
+    roots, faults = sorted(CRATES.glob("*/*/Lib.antt")), []
+    for root in roots:
+        crate = root.relative_to(CRATES).parts[0]
+        faults += [f"{root.relative_to(CRATES)}: {source} is another crate's" for source in file(root).passed_on.values()
+                   if source.split(".")[1] != crate != PUBLIC]
+    return told("addresses of modules", faults, f"{len(roots)} files")
+
+
 def check(shows=False):
-    return names(shows) & same_statements(shows)
+    return names(shows) & same_statements(shows) & second_addresses()
