@@ -1,7 +1,7 @@
 -- The answers of mode heap are beside those of mode plain.
 use Rattle.std.proofs.Common.{◌≡◌, ℕ, zero, suc, ◌<◌, ◌≤◌, ◌==◌, Bool, true, false, List, [], ◌∷◌, ◌++◌, map, refl}
-use Rattle.std.proofs.Common.{sym, subst, arith, eqb-true, Option, Some, None}
-use Rattle.std.specs.Prelude.{replicate, IfSome}
+use Rattle.std.proofs.Common.{sym, subst, arith, eqb-true, Option, Some}
+use Rattle.std.specs.Prelude.{replicate}
 use Rattle.std.proofs.lemmas.Bool.Decides.{nat_tests}
 use Rattle.std.proofs.lemmas.List.{get_or-replicate, length-replicate}
 use Rattle.sh_history.specs.declared.entry.Entry.{Entry}
@@ -61,14 +61,13 @@ none_has_shard terms tag heap = record {
       λ q below. get_or-replicate 64 q false false below;
 }
 
-new_pass_knows : (terms : RunTerms) (tag : Option ℕ) (heap : Option Heap) → IfSome heap (λ h. h.shape ≡ terms.shape)
-    → KnowsEach terms tag (new_part heap)
-new_pass_knows terms tag None is = record { each = λ q. tt }
-new_pass_knows terms tag (Some h) is = record { each = λ q. is }
+new_pass_knows : (terms : RunTerms) (tag : Option ℕ) (heap : Heap) → heap.shape ≡ terms.shape
+    → KnowsEach terms tag (new_part (Some heap))
+new_pass_knows terms tag heap is = record { each = λ q. is }
 
-lines_walked : (heap : Option Heap) (terms : RunTerms) (tag : Option ℕ) (lines : List CallLine) (output : List ℕ)
-    (tale : List PassTold) → (told : IsTold true heap terms tag lines output tale)
-    → IfSome heap (λ h. h.shape ≡ terms.shape) → 1 ≤ terms.shape.passes → terms.shape.passes ≤ 64
+lines_walked : (heap : Heap) (terms : RunTerms) (tag : Option ℕ) (lines : List CallLine) (output : List ℕ)
+    (tale : List PassTold) → (told : IsTold true (Some heap) terms tag lines output tale)
+    → heap.shape ≡ terms.shape → 1 ≤ terms.shape.passes → terms.shape.passes ≤ 64
     → HasTagRoom terms.layout tag → All (λ (l : CallLine). l.pass < terms.shape.passes) lines
     → FewAlong terms.layout.guard_max told.whole.history → CrowdedIsExact terms.layout.guard_max told.whole.history
     → AnswersAreExact terms.shape nobody_owns lines told.replies.answers
@@ -81,7 +80,7 @@ lines_walked heap terms tag lines output tale told shape some few room below hol
     (subst (HasAllLogs history) told.tale_is told.whole.has) in
     walk terms tag room some few history lines told.replies.answers _ told.replies.after [] history 0
     (replicate 64 false) nobody_owns
-    [] told.replies.ran told.whole.legal logs (told.in_order refl) below (none_has_shard terms tag heap) tt
+    [] told.replies.ran told.whole.legal logs (told.in_order refl) below (none_has_shard terms tag (Some heap)) tt
     (none_issued terms.layout) (new_pass_knows terms tag heap shape) holds crowds (λ q. refl) exact refl
 
 -- the layouts of scripts are layouts
@@ -100,7 +99,7 @@ heap_walked asked text output heap =
     let out = heap.is_output in
     let fit = scripts_fit text header heap.lines heap.is_calls in
     let shape = shape_of_calls text header heap.lines heap.is_calls in
-    lines_walked (Some out.heap) (heap_terms (layout_of header.layout) header.shape) header.tag heap.lines out.replies
+    lines_walked out.heap (heap_terms (layout_of header.layout) header.shape) header.tag heap.lines out.replies
     out.tale out.told out.of_shape shape.0.some_pass fit.few fit.room fit.below
     (subst (FewAlong (layout_of header.layout).guard_max) out.log
     (few_along (layout_of header.layout) header.shape (lawful header.layout) shape.0 shape.1 out.events))

@@ -22,7 +22,7 @@ use Rattle.sh_step.specs.Parts.{newcomer}
 use Rattle.sh_step.specs.Plans.{Plan}
 use Rattle.sh_step.specs.Rows.{Row, hand, own, look_place}
 use Rattle.sh_core.specs.Outcomes.{row_of_event}
-use Rattle.sh_slots.specs.Slots.{live_at, has_room, is_reusable_after, slot_ref_of}
+use Rattle.sh_slots.specs.Slots.{live_at, has_room, is_reusable_after, slot_ref_of, name_at}
 use Rattle.sh_core.specs.Trails.{trail_of}
 use Rattle.sh_core.specs.Words.{Words, put, read, write}
 use Rattle.sh_core.specs.Worlds.{World, apply, run, open_world}
@@ -144,6 +144,8 @@ module _ (plan : Plan) (w : World) (q : ℕ) (t : List Footstep) (p : Body) (old
   set_after (move.ReadPage r) may = inl (same_word w.words.class_at r q)
   set_after (move.ReadClass k x) may = inl (same_word w.words.class_at x.page q)
   set_after (move.LookOn k x s) may = inl (ap (λ (W : Words). W.class_at q) (write_same w.words (look_place x s)))
+  set_after (move.ReadEnding x g s) may =
+      inl (ap (λ (W : Words). W.class_at q) (write_same w.words (look_place (name_at x g) s)))
   set_after m may = inl refl
 
 -- ---- all events

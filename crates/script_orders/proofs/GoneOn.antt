@@ -16,7 +16,7 @@ use Rattle.sh_core.specs.declared.outcome.Outcome.{Outcome}
 use Rattle.sh_core.specs.Kept.{KeptWorld, Represents, StepsWorld, RunsWorld}
 use Rattle.sh_core.specs.Outcomes.{outcome_of}
 use Rattle.sh_core.specs.Worlds.{World, step, run, run_from, open_world}
-use Rattle.sh_core.proofs.Words.Steps.{run_snoc}
+use Rattle.sh_core.proofs.Words.Steps.{run_snoc, run_append}
 use Rattle.script_orders.specs.declared.changes.Change.{Change}
 use Rattle.script_orders.specs.declared.found.Program.{Program}
 use Rattle.script_orders.specs.Changes.{HasChanges}
@@ -31,7 +31,7 @@ use Rattle.script_orders.proofs.Stories.{story_more}
 use Rattle.script_orders.proofs.LineOptions.{is_of_at, due_event}
 use Rattle.script_orders.proofs.LineLists.{lines_join, lines_own, own_lines, other_lines, lines_are_of, events_append}
 use Rattle.script_orders.proofs.LineLists.{event_one}
-use Rattle.script_orders.proofs.Skipped.{Skips, run_append, replies_append, skips_run, skips_reply, not_due_skips}
+use Rattle.script_orders.proofs.Skipped.{Skips, replies_append, skips_run, skips_reply, not_due_skips}
 
 -- ---- an order, and then more lines
 

@@ -20,12 +20,6 @@ use Rattle.script_orders.proofs.LineOptions.{pass_is, may_do, due, due_event}
 
 -- ---- one run after another
 
-pub run_append : (plan : Plan) (w : World) (xs ys : List Event) → run_from plan w (xs ++ ys)
-    ≡ run_from plan (run_from plan w xs) ys
-unfolding run_from
-run_append plan w [] ys = refl
-run_append plan w (x ∷ xs) ys = run_append plan (step plan w x) xs ys
-
 pub replies_append : (plan : Plan) (w : World) (xs ys : List Event) (a : ℕ) → replies_from plan w (xs ++ ys) a
     ≡ replies_from plan w xs a ++ replies_from plan (run_from plan w xs) ys a
 unfolding run_from replies_from

@@ -45,10 +45,10 @@ got_is true false = refl
 got_is false room = refl
 
 ended_decides : (x : SlotRef) (b c : Bool) (g h : ℕ)
-    → ended_by (cond b (Finishing (record { page = 0; slot = 0 }) g) Idle)
-    ≡ ended_by (cond c (Finishing (record { page = 0; slot = 0 }) h) Idle)
-    → cond b (Finishing x g) Idle ≡ cond c (Finishing x h) Idle
-ended_decides x true true g h e = let same : g ≡ h = omega (arith, e) in ap (λ (n : ℕ). Finishing x n) same
+    → ended_by (cond b (Finishing (record { page = 0; slot = 0 }) g Bare) Idle)
+    ≡ ended_by (cond c (Finishing (record { page = 0; slot = 0 }) h Bare) Idle)
+    → cond b (Finishing x g Bare) Idle ≡ cond c (Finishing x h Bare) Idle
+ended_decides x true true g h e = let same : g ≡ h = omega (arith, e) in ap (λ (n : ℕ). Finishing x n Bare) same
 ended_decides x true false g h e = absurd (omega (arith, e))
 ended_decides x false true g h e = absurd (omega (arith, e))
 ended_decides x false false g h e = refl
@@ -78,6 +78,7 @@ seen_decides plan p (move.Look k x) m n e =
     (look_decides (live_at x.generation m) (live_at x.generation n) (past_at x.generation m) (past_at x.generation n) e)
 seen_decides plan p (move.LookOn k x s) m n e = ap (row_of plan p (move.LookOn k x s)).part e
 seen_decides plan p (move.LookAgain k x s) m n e = refl
+seen_decides plan p (move.ReadEnding x g s) m n e = ap (row_of plan p (move.ReadEnding x g s)).part e
 seen_decides plan p (move.Peek x) m n e = refl
 seen_decides plan p (move.Mark k x) m n e = refl
 seen_decides plan p (move.Drop x) m n e = ap (hand p) (drop_decides x m n e)

@@ -25,7 +25,7 @@ is_got Gone = false
 
 -- the generation that is left to be ended, plus 1; 0 if there is none
 abbrev pub ended_by : Hand → ℕ
-ended_by (Finishing x g) = g + 1
+ended_by (Finishing x g s) = g + 1
 ended_by _ = 0
 
 abbrev pub bit : Bool → ℕ

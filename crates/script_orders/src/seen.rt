@@ -27,7 +27,7 @@ fn ended_by(hand: &Hand) -> u64
     ensures { result ≡ ended_by hand.now }
 {
     match hand {
-        Hand::Finishing(_, generation) => u64::from(*generation) + 1,
+        Hand::Finishing(_, generation, _) => u64::from(*generation) + 1,
         _ => 0,
     }
 }

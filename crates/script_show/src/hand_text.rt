@@ -34,7 +34,7 @@ fn push_hand(out: &mut String, view: &View<'_>, hand: &Hand) -> Result<(), Alloc
             push_slot(out, view, *slot_ref)?;
             out.push_str(", next Drop")
         }
-        Hand::Finishing(slot_ref, generation) => {
+        Hand::Finishing(slot_ref, generation, _) => {
             write!(out, "ends generation {generation} of ")?;
             push_slot(out, view, *slot_ref)?;
             out.push_str(", next Finish")

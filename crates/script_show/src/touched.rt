@@ -52,6 +52,7 @@ fn by_move(the_move: &Move) -> Touched
         | Move::PutSlot(slot_ref)
         | Move::Tie(slot_ref, _, _)
         | Move::Peek(slot_ref) => Touched::Slot(*slot_ref),
+        Move::ReadEnding(slot_ref, _, _) => Touched::Page(slot_ref.page),
         Move::ReadPage(page) | Move::SetClass(page, _) | Move::Take(page) | Move::Arm(page) =>
             Touched::Page(*page),
         Move::Follow(page, slot) => Touched::Link(*page, *slot),

@@ -208,6 +208,7 @@ fn why_not<L: KeyLayout>(shape: &Shape, part: &Part, action: &Action) -> Result<
         Action::Publish => why_no_filling(part, Reason::WordsLeft),
         Action::Mark
         | Action::Drop
+        | Action::ReadEnding
         | Action::Finish
         | Action::Put
         | Action::Tie

@@ -62,7 +62,7 @@ hand_some x p = go p.hand where
   go Idle e = absurd (let z : false ≡ true = e in cc)
   go (Removing j) e = absurd (let z : false ≡ true = e in cc)
   go (Leaving y) e = absurd (let z : false ≡ true = e in cc)
-  go (Finishing y n) e = absurd (let z : false ≡ true = e in cc)
+  go (Finishing y n s) e = absurd (let z : false ≡ true = e in cc)
   go (Tying y n r) e = absurd (let z : false ≡ true = e in cc)
   go (Ringing q) e = absurd (let z : false ≡ true = e in cc)
   go (RingTying q n) e = absurd (let z : false ≡ true = e in cc)
@@ -77,7 +77,7 @@ hand_none x p = go p.hand where
   go Idle e = refl
   go (Removing j) e = refl
   go (Leaving y) e = refl
-  go (Finishing y n) e = refl
+  go (Finishing y n s) e = refl
   go (Tying y n r) e = refl
   go (Ringing q) e = refl
   go (RingTying q n) e = refl

@@ -4,4 +4,5 @@ pub mod WrongRows
 pub mod NoRing
 pub mod MoreWrongRows
 pub mod LookRows
+pub mod EndRows
 pub mod EveryTable

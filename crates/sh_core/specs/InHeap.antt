@@ -32,7 +32,7 @@ use Rattle.sh_core.specs.Lists.{times}
 abbrev pub HandWithin : Plan → Hand → Type 0
 HandWithin plan (Removing k) = (x : KeyRef) × Named plan k x
 HandWithin plan (Leaving x) = SlotWithin plan x
-HandWithin plan (Finishing x g) = SlotWithin plan x × (g ≤ plan.keys.gen_max)
+HandWithin plan (Finishing x g s) = SlotWithin plan x × (g ≤ plan.keys.gen_max)
 HandWithin plan (ToPut x) = SlotWithin plan x
 HandWithin plan (Tying x l r) = SlotWithin plan x
 HandWithin plan (Ringing q) = q < heap_pages plan

@@ -14,6 +14,8 @@ pub mod Opening
 pub mod Kept
 pub mod Looks
 pub mod LookRows
+pub mod KeyEnds
+pub mod EndRows
 pub mod Refines
 pub mod Reads
 pub mod InHeap

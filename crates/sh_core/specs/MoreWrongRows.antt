@@ -18,11 +18,12 @@ use Rattle.sh_stack.specs.Stack.{top_word}
 use Rattle.sh_word.specs.Fields.{fields_of}
 use Rattle.sh_core.specs.Variants.{Table}
 use Rattle.sh_core.specs.WrongRows.{finish_by}
+use Rattle.sh_slots.specs.declared.hand.Sight.TheVariants.{Bare}
 
 -- each generation counts as the last
 unfoldable pub retires_early : Table
 retires_early plan p Finish = elim (p.hand) [
-  | Finishing x g ↦ Some (finish_by plan p x (CompareExchange (marked_word g) (retired_word g)) (λ n. false))
+  | Finishing x g s ↦ Some (finish_by plan p x (CompareExchange (marked_word g) (retired_word g)) (λ n. false))
   | _ ↦ None
 ]
 retires_early plan p x = row plan p x
@@ -30,7 +31,7 @@ retires_early plan p x = row plan p x
 -- one generation is skipped
 unfoldable pub skips_generation : Table
 skips_generation plan p Finish = elim (p.hand) [
-  | Finishing x g ↦ Some (finish_by plan p x (CompareExchange (marked_word g) (reusable_word (g + 1)))
+  | Finishing x g s ↦ Some (finish_by plan p x (CompareExchange (marked_word g) (reusable_word (g + 1)))
       (λ n. n == marked_word g))
   | _ ↦ None
 ]
@@ -122,7 +123,7 @@ ties_ring_as_end plan p x = row plan p x
 -- a pass that leaves a slot takes the whole word found there for the number of the generation that it ends
 unfoldable pub ends_whole_word : Table
 ends_whole_word plan p Drop = elim (p.hand) [
-  | Leaving x ↦ Some (record (drop_hand p x) { part = λ n. hand p (Finishing x n) })
+  | Leaving x ↦ Some (record (drop_hand p x) { part = λ n. hand p (Finishing x n Bare) })
   | _ ↦ None
 ]
 ends_whole_word plan p x = row plan p x

@@ -12,6 +12,7 @@ use Rattle.sh_step.specs.Moves.{row}
 use Rattle.sh_step.specs.Rows.{own, unpoint}
 use Rattle.sh_step.specs.Ends.{HandNames, ComesNearer, HasNext}
 use Rattle.sh_core.specs.Variants.{Table}
+use Rattle.sh_core.specs.KeyEnds.{EndsAreTrue}
 use Rattle.sh_core.specs.Looks.{LooksAreTrue}
 use Rattle.sh_core.specs.InHeap.{StepsWithin, CountsFit, BellsAreSmall, ValuesFit, StoresWords, IssuesKeys}
 use Rattle.sh_slots.specs.declared.hand.Hand.TheVariants.{Idle, Filling}
@@ -257,6 +258,7 @@ pub record Refines (plan : Plan) (w : World) (l : PutLists) : Type 0 where
   pub hands : KeysInHandName plan w
   pub goes_on : GoesOn row plan w
   pub passes : length w.parts ≡ plan.passes
+  pub ends : EndsAreTrue plan w
 
 -- P holds after every list of events, in every heap whose shape fits its layout
 abbrev pub Always : (Plan → World → PutLists → Type 0) → Type 0

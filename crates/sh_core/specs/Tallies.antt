@@ -43,7 +43,7 @@ lost plan x st p = total (λ k. stale st x (plan.keys.unpack k)) p.holds + elim 
     [ Removing k ↦ stale st x (plan.keys.unpack k) | _ ↦ 0 ]
 
 abbrev pub finishing : SlotRef → ℕ → Body → ℕ
-finishing x g p = elim (p.hand) [ Finishing y h ↦ if1 (same_slot x y && (h == g)) | _ ↦ 0 ]
+finishing x g p = elim (p.hand) [ Finishing y h s ↦ if1 (same_slot x y && (h == g)) | _ ↦ 0 ]
 
 -- What a slot is to the passes together
 pub record Tally : Type 0 where

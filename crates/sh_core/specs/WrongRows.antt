@@ -109,7 +109,7 @@ finish_by plan p x operation ends = record {
 -- the flags are cleared, as by an `and`, and the generation stays
 unfoldable pub keeps_generation : Table
 keeps_generation plan p Finish = elim (p.hand) [
-  | Finishing x g ↦ Some
+  | Finishing x g s ↦ Some
       (finish_by plan p x (CompareExchange (marked_word g) (word_of
       (record { generation = g; marked = false; present = false; count = 0 }))) (λ n. n == marked_word g))
   | _ ↦ None
@@ -119,7 +119,7 @@ keeps_generation plan p x = row plan p x
 -- the state word is overwritten, whatever it is
 unfoldable pub ignores_count : Table
 ignores_count plan p Finish = elim (p.hand) [
-  | Finishing x g ↦ Some
+  | Finishing x g s ↦ Some
       (finish_by plan p x (Swap (cond (g == plan.keys.gen_max) (retired_word g) (reusable_word g)))
       (λ n. not (g == plan.keys.gen_max)))
   | _ ↦ None
@@ -129,7 +129,7 @@ ignores_count plan p x = row plan p x
 -- after the last generation comes the first
 unfoldable pub wraps_generation : Table
 wraps_generation plan p Finish = elim (p.hand) [
-  | Finishing x g ↦ Some
+  | Finishing x g s ↦ Some
       (finish_by plan p x (CompareExchange (marked_word g) (cond (g == plan.keys.gen_max) (reusable_word 0)
       (reusable_word g))) (λ n. n == marked_word g))
   | _ ↦ None
@@ -139,7 +139,7 @@ wraps_generation plan p x = row plan p x
 -- after the last generation comes one more
 unfoldable pub never_retires : Table
 never_retires plan p Finish = elim (p.hand) [
-  | Finishing x g ↦ Some
+  | Finishing x g s ↦ Some
       (finish_by plan p x (CompareExchange (marked_word g) (reusable_word g)) (λ n. n == marked_word g))
   | _ ↦ None
 ]
@@ -152,7 +152,7 @@ finish_again plan p x g = record (finish plan p x g) {
 
 -- a pass that finds another on the slot is to try again
 unfoldable pub tries_again : Table
-tries_again plan p Finish = elim (p.hand) [ Finishing x g ↦ Some (finish_again plan p x g) | _ ↦ None ]
+tries_again plan p Finish = elim (p.hand) [ Finishing x g s ↦ Some (finish_again plan p x g) | _ ↦ None ]
 tries_again plan p x = row plan p x
 
 -- ---- stacks

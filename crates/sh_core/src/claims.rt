@@ -4,6 +4,7 @@ ghost use Rattle.sh_history.specs.History.{Legal};
 ghost use Rattle.sh_step.specs.Moves.{row};
 ghost use Rattle.sh_core.specs.InHeap.{StepsWithin, CountsFit, BellsAreSmall, ValuesFit, StoresWords, IssuesKeys};
 ghost use Rattle.sh_core.specs.Refines.{Always, OneKind, ClassesAreKnown, HeldKeysAreValid};
+ghost use Rattle.sh_core.specs.KeyEnds.{EndsAreTrue};
 ghost use Rattle.sh_core.specs.Looks.{LooksAreTrue};
 ghost use Rattle.sh_core.specs.Refines.{NotesAreTrue, HoldsMatchLog, Counted, CountIsFew};
 ghost use Rattle.sh_core.specs.Refines.{PastIsRemoved, KeysMatchLog, EntriesAreOurs, GenerationsEnd, RetiredIsLast};
@@ -64,4 +65,7 @@ pub fn refines_map()
     // A pass that has begun something can continue, and each of its steps brings it nearer to the end.
     ensures hands { Always (λ plan w l. KeysInHandName plan w) }
     ensures goes_on { Always (λ plan w l. GoesOn row plan w) }
+
+    // A removed key ends at most once. Then no pass has a hold on it, and a pass that read its value before has it.
+    ensures ends { Always (λ plan w l. EndsAreTrue plan w) }
 {}

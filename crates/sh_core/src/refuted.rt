@@ -21,6 +21,9 @@ ghost use Rattle.sh_core.specs.MoreWrongRows.{reads_wrong_length, enters_uncount
 ghost use Rattle.sh_core.specs.MoreWrongRows.{leaves_elsewhere, ties_ring_as_end, ends_whole_word};
 ghost use Rattle.sh_core.specs.LookRows.{trusts_the_first_load, sees_at_once, looks_at_a_head, is_gone_early};
 ghost use Rattle.sh_core.specs.Looks.{LooksAreTrue};
+ghost use Rattle.sh_core.specs.KeyEnds.{EndsAreTrue};
+ghost use Rattle.sh_core.specs.EndRows.{ends_under_holds, ends_another_key, reads_next_value, leaves_marked_word};
+ghost use Rattle.sh_core.specs.EndRows.{EndsOnceBy};
 ghost use Rattle.sh_step.specs.Deciding.{DecidingReplies};
 
 /// The theorem does not hold of every table of actions. Each of these tables differs from the right one in an action or
@@ -93,6 +96,12 @@ pub fn refutes_more_wrong_tables()
     ensures sees_at_once { ¬ AlwaysBy sees_at_once (λ plan w l. Legal plan.passes plan.keys.guard_max w.log) }
     ensures looks_at_a_head { ¬ AlwaysBy looks_at_a_head (λ plan w l. LooksAreTrue plan w) }
     ensures is_gone_early { ¬ DecidingReplies is_gone_early }
+
+    // Ends.
+    ensures ends_under_holds { ¬ AlwaysBy ends_under_holds (λ plan w l. EndsAreTrue plan w) }
+    ensures ends_another_key { ¬ AlwaysBy ends_another_key (λ plan w l. EndsAreTrue plan w) }
+    ensures reads_next_value { ¬ AlwaysBy reads_next_value (λ plan w l. EndsAreTrue plan w) }
+    ensures leaves_marked_word { ¬ AlwaysBy leaves_marked_word (λ plan w l. EndsOnceBy leaves_marked_word plan w) }
 {}
 
 /// The two clauses of the theorem that hold by every table of actions, so that no table breaks them.

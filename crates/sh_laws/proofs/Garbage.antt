@@ -62,8 +62,8 @@ module _ (plan : Plan) (w : World) where
   begun_on p (Leaving y) =
       let less = over_le plan w (λ x. has_begun x (hand p (Leaving y))) (λ x. if1 (same_slot x y)) (λ x. omega arith) in
       let one = over_once plan w y in omega (arith, less, one)
-  begun_on p (Finishing y g) =
-      let less = over_le plan w (λ x. has_begun x (hand p (Finishing y g))) (λ x. if1 (same_slot x y))
+  begun_on p (Finishing y g s) =
+      let less = over_le plan w (λ x. has_begun x (hand p (Finishing y g s))) (λ x. if1 (same_slot x y))
       (λ x. let both = both_less (same_slot x y) (g == (state_of w x).generation) in omega (arith, both)) in
       let one = over_once plan w y in omega (arith, less, one)
   begun_on p (ToPut y) =

@@ -4,5 +4,6 @@ pub mod CutOff
 pub mod StrongOrders
 pub mod HoldCounts
 pub mod Objects
+pub mod Ends
 pub mod Counterexamples
 pub mod FoundOnce

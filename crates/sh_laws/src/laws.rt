@@ -1,5 +1,6 @@
 //! What holds of every run, in the words of those who use a heap.
 ghost use Rattle.sh_core.specs.Refines.{Always};
+ghost use Rattle.sh_laws.specs.Ends.{EndsAreLast, EndsOnce, LeftHasEnded};
 ghost use Rattle.sh_laws.specs.Garbage.{FewAreCutOff, GarbageIsFew};
 ghost use Rattle.sh_laws.specs.Objects.{HeldValuesStay, ObjectIsAtomic, OpensAsEmpty};
 ghost use Rattle.sh_laws.specs.StrongOrders.{StronglyLinearizable};
@@ -35,4 +36,13 @@ pub fn missed_is_absent()
     ensures missed { MissedIsAbsent }
     ensures met { StayingIsMet }
     ensures removed { HeardIsRemoved }
+{}
+
+/// A removed key ends at most once, by the one Finish that finds its marked word. It has ended exactly once if no pass
+/// has a hold on it, is on its slot or is to end it. At its end no pass has a hold on it, and none gets one later. The
+/// words that were read before are those that were inserted.
+pub fn keys_end_once()
+    ensures once { EndsOnce }
+    ensures quiet { LeftHasEnded }
+    ensures words { EndsAreLast }
 {}

@@ -8,6 +8,7 @@ pub mod laws;
 pub mod refuted;
 
 pub use laws::{
-    core_is_strongly_linearizable, garbage_is_bounded, missed_is_absent, whole_object_is_atomic,
+    core_is_strongly_linearizable, garbage_is_bounded, keys_end_once, missed_is_absent,
+    whole_object_is_atomic,
 };
 pub use refuted::{refutes_wider_laws, refutes_wrong_cores};

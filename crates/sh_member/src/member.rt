@@ -13,6 +13,7 @@ mod own_keys;
 mod reading;
 mod receipts;
 mod taking;
+mod telling;
 pub(crate) mod walking;
 mod warming;
 

@@ -12,6 +12,7 @@ use Rattle.sh_slots.specs.declared.hand.Hand.{Hand}
 use Rattle.sh_slots.specs.declared.hand.Hand.TheVariants.{Idle, Removing, Leaving, Finishing, ToPut, Tying, Ringing}
 use Rattle.sh_slots.specs.declared.hand.Hand.TheVariants.{RingTying}
 use Rattle.sh_slots.specs.declared.hand.KeyRef.{KeyRef}
+use Rattle.sh_slots.specs.declared.hand.Sight.{Sight}
 use Rattle.sh_slots.specs.declared.hand.SlotRef.{SlotRef}
 use Rattle.sh_slots.specs.Slots.{same_slot}
 use Rattle.sh_step.specs.declared.action.Action.{Action}
@@ -72,10 +73,10 @@ module _ (layout : Layout) (v : View) where
   not_leaving (Leaving x) is never = absurd (never x refl)
   not_leaving h is never = refused action.Drop (rw is refl)
 
-  pub not_finishing : (h : Hand) → body.hand ≡ h → ((x : SlotRef) (g : ℕ) → h ≡ Finishing x g → ⊥)
+  pub not_finishing : (h : Hand) → body.hand ≡ h → ((x : SlotRef) (g : ℕ) (s : Sight) → h ≡ Finishing x g s → ⊥)
       → Acts layout action.Finish v false v
   unfolding move_of
-  not_finishing (Finishing x g) is never = absurd (never x g refl)
+  not_finishing (Finishing x g s) is never = absurd (never x g s refl)
   not_finishing h is never = refused action.Finish (rw is refl)
 
   pub not_to_put : (h : Hand) → body.hand ≡ h → ((x : SlotRef) → h ≡ ToPut x → ⊥) → Acts layout action.Put v false v

@@ -1,5 +1,6 @@
 -- The steps of a look.
-use Rattle.std.proofs.Common.{◌≡◌, ℕ, ◌+◌, ◌<◌, ◌≤◌, Bool, true, false, cond, List, [], ◌∷◌, ◌++◌, length, refl}
+use Rattle.std.proofs.Common.{◌≡◌, ℕ, zero, suc, ◌+◌, ◌<◌, ◌≤◌, Bool, true, false, cond, List, [], ◌∷◌, ◌++◌, length}
+use Rattle.std.proofs.Common.{refl, take}
 use Rattle.std.proofs.Common.{ap, sym}
 use Rattle.std.proofs.Common.{◌∙◌, subst, arith, Some, None, inl, inr}
 use Rattle.std.proofs.Common.{append_assoc, ◌&&◌}
@@ -209,3 +210,10 @@ all_read x c m u none = go (nat_lt (length u) m) (nat_lt (length u) 16)
 -- the only word of a slot in a page of one-word slots
 pub one_fits : (slot : ℕ) → slot < 48 → payload_word slot 1 0 < 48
 one_fits slot few = omega arith
+
+-- the first words of a list
+pub length_taken : (i : ℕ) (xs : List ℕ) → i ≤ length xs → length (take i xs) ≡ i
+length_taken zero [] few = refl
+length_taken zero (x ∷ xs) few = refl
+length_taken (suc i) [] few = absurd (omega arith)
+length_taken (suc i) (x ∷ xs) few = ap suc (length_taken i xs (omega arith))

@@ -135,7 +135,7 @@ impl<L: KeyLayout> BusyState<L> {
             self.new.hand self.new.seated.number }
         ensures acts { Acts L.layout action.Finish self.old.seated.seat.me.0 result self.new.seated.seat.me.0 }
     {
-        let Hand::Finishing(slot_ref, generation) = self.hand else {
+        let Hand::Finishing(slot_ref, generation, _) = self.hand else {
             return false;
         };
         let found = table.finish(&mut self.seated.seat, slot_ref, generation);

@@ -18,9 +18,9 @@ use sh_table::{HeapTable, PassSeat, first_word};
 use sh_value::WORDS_MAX;
 use sh_word::COUNT_LIMIT;
 
-// How many words a look reads: as the length says that it found, but no more than a value has, and than the page has
-// from the first word on. (The length may be of another value than the class.)
-fn words_to_read(first: u64, count: u64) -> u64
+/// How many words a look reads: as the length says that it found, but no more than a value has, and than the page has
+/// from the first word on. (The length may be of another value than the class.)
+pub(crate) fn words_to_read(first: u64, count: u64) -> u64
     ensures counted { result ≤ count }
     ensures few { result ≤ 16 }
     ensures inside { (i : ℕ) → i < result → first + i < 48 }

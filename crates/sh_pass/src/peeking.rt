@@ -57,8 +57,8 @@ fn name_of_slot<L: KeyLayout>(shape: &Shape, slot_ref: SlotRef) -> SlotName
     }
 }
 
-// The key of this slot and generation, if the layout has it.
-fn key_in<L: KeyLayout>(shape: &Shape, slot_ref: SlotRef, generation: u32) -> Option<u64>
+/// The key of this slot and generation, if the layout has it.
+pub(crate) fn key_in<L: KeyLayout>(shape: &Shape, slot_ref: SlotRef, generation: u32) -> Option<u64>
     requires page { slot_ref.page < all_pages shape.now }
     requires slot { slot_ref.slot < slot_places }
     ensures { IsKeyNamed L.layout shape.now (name_at slot_ref generation) result }

@@ -11,7 +11,7 @@ use Rattle.sh_slots.specs.declared.hand.Hand.TheVariants.{RingTying, Looking}
 use Rattle.sh_slots.specs.declared.hand.Sight.{Sight}
 use Rattle.sh_slots.specs.declared.hand.Sight.TheVariants.{Bare, Classed, Measured}
 use Rattle.sh_slots.specs.declared.hand.SlotRef.{SlotRef}
-use Rattle.sh_slots.specs.Slots.{same_slot, slot_ref_of, live_at, has_room, after_drop, is_reusable_after}
+use Rattle.sh_slots.specs.Slots.{same_slot, slot_ref_of, live_at, has_room, after_drop, is_reusable_after, name_at}
 use Rattle.sh_word.specs.Fields.{fields_of}
 use Rattle.sh_step.specs.declared.body.Body.{Body}
 use Rattle.sh_step.specs.declared.footstep.Footstep.{Footstep}
@@ -63,7 +63,7 @@ no_ring_ties plan n q _ none = refl
 -- what a drop leaves in the hand
 drops : (x : SlotRef) (n : ℕ) → TiesNone (after_drop x n)
 drops x n = cond_either TiesNone ((fields_of n).present && (fields_of n).marked && ((fields_of n).count == 1))
-    (Finishing x (fields_of n).generation) Idle tt tt
+    (Finishing x (fields_of n).generation Bare) Idle tt tt
 
 -- what holds of world and lists since pass a, whose trail was t0 and is t, went on alone
 pub record Alone (plan : Plan) (a : ℕ) (w : World) (l : PutLists) (t t0 : List Footstep) : Type 0 where
@@ -277,6 +277,9 @@ module _ (plan : Plan) (a : ℕ) (w : World) (l : PutLists) (all : Refines plan 
         (put_other w.words.head_at r q 0 (ne_eqb q r apart)) (arms_before (trod (move.Take r)) same)
   heads_after (move.LookOn k x s) none q same = heads_still q (trod (move.LookOn k x s))
       (head_after (move.LookOn k x s) q) refl (look_leaves x s q) (arms_before (trod (move.LookOn k x s)) same)
+  heads_after (move.ReadEnding x g s) none q same = heads_still q (trod (move.ReadEnding x g s))
+      (head_after (move.ReadEnding x g s) q) refl (look_leaves (name_at x g) s q)
+      (arms_before (trod (move.ReadEnding x g s)) same)
   heads_after m none q same = heads_still q (trod m) (head_after m q) refl refl (arms_before (trod m) same)
 
   abbrev NoTies : Body → Type 0
@@ -294,6 +297,7 @@ module _ (plan : Plan) (a : ℕ) (w : World) (l : PutLists) (all : Refines plan 
   hand_after (move.Finish x g) may none n = cond_either NoTies (is_reusable_after g plan.keys.gen_max n)
       (cond (own plan p x.page) (hand (record p { mine = x ∷ p.mine }) Idle) (hand p (ToPut x))) (hand p Idle)
       (cond_either NoTies (own plan p x.page) (hand (record p { mine = x ∷ p.mine }) Idle) (hand p (ToPut x)) tt tt) tt
+  hand_after (move.ReadEnding x g s) may none n = tt
   hand_after (move.FillSlot x v) may none n = tt
   hand_after (move.Fill x v i c) may none n = tt
   hand_after (move.Publish x v) may none n = tt

@@ -139,6 +139,7 @@ action_gives words action.Ring x = record { kind = kind.Ring; others = []; says 
 action_gives words action.RingTie x = record { kind = kind.RingTie; others = []; says = x; reads = refl }
 action_gives words action.TakeBell x = record { kind = kind.TakeBell; others = []; says = x; reads = refl }
 action_gives words action.FollowBell x = record { kind = kind.FollowBell; others = []; says = x; reads = refl }
+action_gives words action.ReadEnding x = absurd x
 action_gives words (action.Peek slot) x = absurd x
 action_gives words (action.Look k) x = absurd x
 action_gives words action.LookOn x = absurd x

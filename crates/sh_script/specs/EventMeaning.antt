@@ -75,7 +75,8 @@ IsAction words action.Ring = words ≡ codes "Ring" ∷ []
 IsAction words action.RingTie = words ≡ codes "RingTie" ∷ []
 IsAction words action.TakeBell = words ≡ codes "TakeBell" ∷ []
 IsAction words action.FollowBell = words ≡ codes "FollowBell" ∷ []
--- no words say a load that leaves no mark in the heap: a peek or a step of a look
+-- no words say a load that leaves no mark in the heap: a peek, a step of a look, or a read before an end
+IsAction words action.ReadEnding = ⊥
 IsAction words (action.Peek slot) = ⊥
 IsAction words (action.Look k) = ⊥
 IsAction words action.LookOn = ⊥

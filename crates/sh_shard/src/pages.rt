@@ -16,6 +16,7 @@ mod peeking;
 mod places;
 mod receipts;
 mod stack;
+mod telling;
 
 use sh_key::KeyLayout;
 use sh_pass::KeepsHeap;

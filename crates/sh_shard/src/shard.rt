@@ -15,6 +15,7 @@ mod receipts;
 mod returning;
 mod search;
 mod store;
+mod telling;
 
 use crate::pages::PagesOn;
 use sh_key::KeyLayout;

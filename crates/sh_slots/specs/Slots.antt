@@ -31,7 +31,7 @@ past_at g n = nat_lt g (fields_of n).generation || (((fields_of n).generation ==
 -- what a drop leaves in the hand
 abbrev pub after_drop : SlotRef → ℕ → Hand
 after_drop x n = cond ((fields_of n).present && (fields_of n).marked && ((fields_of n).count == 1))
-    (Finishing x (fields_of n).generation) Idle
+    (Finishing x (fields_of n).generation Bare) Idle
 
 abbrev pub slot_ref_of : KeyRef → SlotRef
 slot_ref_of n = record { page = n.page; slot = n.slot }
@@ -66,7 +66,7 @@ after_enter_remove k x n = cond (live_at x.generation n) (Removing k) (Leaving (
 abbrev pub after_look : ℕ → KeyRef → ℕ → Hand
 after_look k x n = cond (live_at x.generation n) (Looking k x Bare) Idle
 
--- what a look has read, with the word of one more load; a value has no more than 16 words
+-- what was read, with the word of one more load; a value has no more than 16 words
 abbrev pub sight_with : Sight → ℕ → Sight
 sight_with Bare n = Classed n
 sight_with (Classed c) n = Measured c n []

@@ -3,7 +3,7 @@ ghost use Rattle.std.specs.Prelude.{◌≡◌, ◌+◌, ◌^◌, ◌<◌, ◌≢
 ghost use Rattle.sh_slots.specs.Slots.{is_first_mark, after_drop, marked_word, reusable_word, retired_word};
 ghost use Rattle.sh_slots.specs.Slots.{finished_word, is_reusable_after};
 
-use crate::{Hand, SlotRef};
+use crate::{Hand, Sight, SlotRef};
 use sh_word::{Kind, State};
 
 /// Whether a mark that found this state word decides: it is the first mark of the slot.
@@ -14,13 +14,13 @@ pub fn is_first_mark(found: u64) -> bool
 }
 
 /// What a pass has in hand after it gave back its count on the slot, by the state word that it found. If the slot is
-/// marked and the count was the last one, the pass has to end the generation.
+/// marked and the count was the last one, the pass has to end the generation. It has read nothing of the value yet.
 pub fn after_drop(slot_ref: SlotRef, found: u64) -> Hand
     ensures { result ≡ after_drop slot_ref found }
 {
     let state = State::of(found);
     if state.kind() == Kind::Marked && state.count == 1 {
-        Hand::Finishing(slot_ref, state.generation)
+        Hand::Finishing(slot_ref, state.generation, Sight::Bare)
     } else {
         Hand::Idle
     }

@@ -21,7 +21,7 @@ pub struct KeyRef {
     pub generation: u32,
 }
 
-/// What a look at a key has read so far.
+/// What was read so far of a slot's value without a count on the slot, by a look at its key or before its end.
 #[derive(Drop, Debug, PartialEq, Eq)]
 pub enum Sight {
     /// Nothing.
@@ -41,8 +41,8 @@ pub enum Hand {
     Removing(u64),
     /// It got its reply, and still has to give back its count on the slot.
     Leaving(SlotRef),
-    /// Its count was the last one on the marked slot, of this generation.
-    Finishing(SlotRef, u32),
+    /// Its count was the last one on the marked slot, of this generation. It has read so much of the value there.
+    Finishing(SlotRef, u32, Sight),
     /// It has an empty slot of a shard that it does not own.
     ToPut(SlotRef),
     /// It put the slot, whose link is not stored yet; whether it found the flag, and so must ring.

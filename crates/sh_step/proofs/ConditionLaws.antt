@@ -9,7 +9,7 @@ use Rattle.sh_slots.specs.declared.hand.KeyRef.{KeyRef}
 use Rattle.sh_slots.specs.declared.hand.Hand.{Hand}
 use Rattle.sh_slots.specs.declared.hand.Hand.TheVariants.{Idle, Removing, Leaving, Finishing, ToPut, Tying, Ringing}
 use Rattle.sh_slots.specs.declared.hand.Hand.TheVariants.{RingTying, Filling, Looking}
-use Rattle.sh_slots.specs.Slots.{same_slot}
+use Rattle.sh_slots.specs.Slots.{same_slot, name_at}
 use Rattle.sh_step.specs.declared.body.Body.{Body}
 use Rattle.sh_step.specs.declared.action.PageName.{PageName}
 use Rattle.sh_step.specs.declared.action.SlotName.{SlotName}
@@ -48,10 +48,18 @@ module _ (plan : Plan) (p : Body) where
   drop_may (Leaving x) m is e = as_this action.Drop (move.Drop x) m (by_some (move.Drop x) m e) (is, refl)
   drop_may _ m is e = no_some m e
 
+  read_ending_may : (h : Hand) (m : Move) → p.hand ≡ h → (elim h as (λ _. Option Move)
+      [ Finishing x g s ↦ then_some (not (is_read (name_at x g) s)) (move.ReadEnding x g s) | _ ↦ None ]) ≡ Some m
+      → MayBe action.ReadEnding m
+  read_ending_may (Finishing x g s) m is e =
+      let t = by_then (not (is_read (name_at x g) s)) (move.ReadEnding x g s) m e
+      in as_this action.ReadEnding (move.ReadEnding x g s) m t.1 ((is, not_of (is_read (name_at x g) s) t.0), refl)
+  read_ending_may _ m is e = no_some m e
+
   finish_may : (h : Hand) (m : Move) → p.hand ≡ h → (elim h as (λ _. Option Move)
-      [ Finishing x g ↦ Some (move.Finish x g) | _ ↦ None ]) ≡ Some m → MayBe action.Finish m
-  finish_may (Finishing x g) m is e = as_this action.Finish (move.Finish x g) m (by_some (move.Finish x g) m e)
-      (is, refl)
+      [ Finishing x g s ↦ Some (move.Finish x g) | _ ↦ None ]) ≡ Some m → MayBe action.Finish m
+  finish_may (Finishing x g s) m is e = as_this action.Finish (move.Finish x g) m (by_some (move.Finish x g) m e)
+      ((s, is), refl)
   finish_may _ m is e = no_some m e
 
   fill_may : (h : Hand) (m : Move) → p.hand ≡ h → (elim h as (λ _. Option Move) [
@@ -243,6 +251,7 @@ module _ (plan : Plan) (p : Body) where
   may_be action.Drop m e = drop_may p.hand m refl e
   may_be (action.DropHold k) m e = held_may k (action.DropHold k) m (move.DropHold k) e
       (λ y name rests held. ((rests, name, held), refl))
+  may_be action.ReadEnding m e = read_ending_may p.hand m refl e
   may_be action.Finish m e = finish_may p.hand m refl e
   may_be (action.FillSlot y v) m e =
       let x : SlotRef = slot_of plan y in

@@ -11,14 +11,14 @@ use Rattle.sh_slots.specs.declared.hand.Hand.TheVariants.{RingTying, Filling, Lo
 use Rattle.sh_slots.specs.declared.hand.KeyRef.{KeyRef}
 use Rattle.sh_slots.specs.declared.hand.Sight.{Sight}
 use Rattle.sh_slots.specs.declared.hand.Sight.TheVariants.{Bare, Classed, Measured}
-use Rattle.sh_slots.specs.Slots.{sight_with}
+use Rattle.sh_slots.specs.Slots.{sight_with, name_at}
 use Rattle.sh_slots.specs.Slots.{is_reusable_after}
 use Rattle.sh_bell.specs.Bell.{is_armed, top_of}
 use Rattle.sh_stack.specs.Stack.{link_over}
 use Rattle.sh_step.specs.declared.body.Body.{Body}
 use Rattle.sh_step.specs.declared.moves.Move.{Move}
 use Rattle.sh_step.specs.declared.moves.Move.TheVariants.{Mark, Drop, Finish, Fill, Publish, Put, Tie, Ring, RingTie}
-use Rattle.sh_step.specs.declared.moves.Move.TheVariants.{LookOn, LookAgain}
+use Rattle.sh_step.specs.declared.moves.Move.TheVariants.{LookOn, LookAgain, ReadEnding}
 use Rattle.sh_step.specs.Conditions.{May, action_of}
 use Rattle.sh_step.specs.Ends.{to_end, looks_left, HandNames, HasNext, StepsComeNearer, StepsGoOn}
 use Rattle.sh_step.specs.Moves.{row_of, row}
@@ -38,7 +38,7 @@ module _ (plan : Plan) (p : Body) (busy : p.hand ≢ Idle) where
       → to_end ((row_of plan p m).part n).hand < to_end p.hand
   nearer_by m n h is less = subst (λ (u : Hand). to_end ((row_of plan p m).part n).hand < to_end u) (sym is) less
 
-  dropped : (x : SlotRef) (g : ℕ) (b : Bool) → to_end (cond b (Finishing x g) Idle) < 6
+  dropped : (x : SlotRef) (g : ℕ) (b : Bool) → to_end (cond b (Finishing x g Bare) Idle) < 24
   dropped x g true = omega arith
   dropped x g false = omega arith
 
@@ -81,8 +81,13 @@ module _ (plan : Plan) (p : Body) (busy : p.hand ≢ Idle) where
   near (Mark k x) may n = nearer_by (Mark k x) n (Removing k) may.0 (omega arith)
   near (Drop x) may n = nearer_by (Drop x) n (Leaving x) may
       (let st : Fields = fields_of n in dropped x st.generation (st.present && st.marked && (st.count == 1)))
-  near (Finish x g) may n = nearer_by (Finish x g) n (Finishing x g) may
-      (finished x (is_reusable_after g plan.keys.gen_max n) (own plan p x.page))
+  near (ReadEnding x g s) may n =
+      let fewer = looks_on (name_at x g) s n may.1
+      in nearer_by (ReadEnding x g s) n (Finishing x g s) may.0 (omega arith)
+  near (Finish x g) may n =
+      let less = finished x (is_reusable_after g plan.keys.gen_max n) (own plan p x.page) in
+      let some = look_ends may.0
+      in nearer_by (Finish x g) n (Finishing x g may.0) may.1 (omega arith)
   near (Fill x v i c) may n = let less = may.1 in nearer_by (Fill x v i c) n (Filling x v i) may.0 (omega arith)
   near (Publish x v) may n = nearer_by (Publish x v) n (Filling x v may.0) may.1 (omega arith)
   near (Put x) may n = nearer_by (Put x) n (ToPut x) may (tying x (link_over (top_of n)) (is_armed n))
@@ -101,7 +106,7 @@ module _ (plan : Plan) (p : Body) (busy : p.hand ≢ Idle) where
   next Idle is name = no_idle is
   next (Removing k) is name = next_by (Mark k name.0) (is, name.1)
   next (Leaving x) is name = next_by (Drop x) is
-  next (Finishing x g) is name = next_by (Finish x g) is
+  next (Finishing x g s) is name = next_by (Finish x g) (s, is)
   next (ToPut x) is name = next_by (Put x) is
   next (Tying x l r) is name = next_by (Tie x l r) is
   next (Ringing q) is name = next_by (Ring q) is

@@ -33,7 +33,8 @@ module _ (plan : Plan) (p : Body) where
   given (move.Mark k x) h = rw (h.0, is_place plan k x h.1) refl
   given (move.Drop x) h = rw h refl
   given (move.DropHold k x) h = rw (is_place plan k x h.1, is_idle p h.0, h.2) refl
-  given (move.Finish x g) h = rw h refl
+  given (move.ReadEnding x g s) h = rw (h.0, h.1) refl
+  given (move.Finish x g) h = rw h.1 refl
   given (move.FillSlot x v) h = rw (
     slot_at x h.1,
     is_idle p h.0,

@@ -6,7 +6,8 @@ use Rattle.sh_slots.specs.declared.hand.SlotRef.{SlotRef}
 use Rattle.sh_slots.specs.declared.hand.KeyRef.{KeyRef}
 use Rattle.sh_slots.specs.declared.hand.Hand.TheVariants.{Idle, Removing, Leaving, Finishing, ToPut, Tying, Ringing}
 use Rattle.sh_slots.specs.declared.hand.Hand.TheVariants.{RingTying, Filling, Looking}
-use Rattle.sh_slots.specs.Slots.{same_slot}
+use Rattle.sh_slots.specs.declared.hand.Sight.{Sight}
+use Rattle.sh_slots.specs.Slots.{same_slot, name_at}
 use Rattle.sh_step.specs.declared.body.Body.{Body}
 use Rattle.sh_step.specs.declared.action.PageName.{PageName}
 use Rattle.sh_step.specs.declared.action.SlotName.{SlotName}
@@ -57,7 +58,8 @@ May plan p (move.EnterRemove k x) = (p.hand ≡ Idle) × Named plan k x
 May plan p (move.Mark k x) = (p.hand ≡ Removing k) × Named plan k x
 May plan p (move.Drop x) = p.hand ≡ Leaving x
 May plan p (move.DropHold k x) = (p.hand ≡ Idle) × Named plan k x × Holds p k
-May plan p (move.Finish x g) = p.hand ≡ Finishing x g
+May plan p (move.ReadEnding x g s) = (p.hand ≡ Finishing x g s) × (is_read (name_at x g) s ≡ false)
+May plan p (move.Finish x g) = (s : Sight) × (p.hand ≡ Finishing x g s)
 May plan p (move.FillSlot x v) = (p.hand ≡ Idle) × SlotWithin plan x × Owns plan p x.page × HasMine p x
     × (0 < class_word_noted p x.page) × (length v ≤ width (class_word_noted p x.page - 1))
 May plan p (move.Fill x v i c) = (p.hand ≡ Filling x v i) × (i < length v) × (class_word_noted p x.page ≡ c)
@@ -103,6 +105,7 @@ action_of plan (move.EnterRemove k x) = action.EnterRemove k
 action_of plan (move.Mark k x) = action.Mark
 action_of plan (move.Drop x) = action.Drop
 action_of plan (move.DropHold k x) = action.DropHold k
+action_of plan (move.ReadEnding x g s) = action.ReadEnding
 action_of plan (move.Finish x g) = action.Finish
 action_of plan (move.FillSlot x v) = action.FillSlot (slot_name plan x) v
 action_of plan (move.Fill x v i c) = action.Fill

@@ -13,22 +13,23 @@ use Rattle.sh_step.specs.Plans.{Plan}
 use Rattle.sh_step.specs.Moves.{row}
 use Rattle.sh_step.specs.Rows.{Row}
 
--- the greatest number of loads that a look has left
+-- the greatest number of loads that a look has left, with the last one, of the state
 abbrev pub looks_left : Sight → ℕ
 looks_left Bare = 19
 looks_left (Classed c) = 18
 looks_left (Measured c m v) = 16 - length v + 1
 
--- the greatest number of its own steps that are left until the hand is idle
+-- The greatest number of its own steps that are left until the hand is idle. An end has as many more as a look, of
+-- which it may do none; so up to 18 loads come before the five steps of a Finish and of a put that rings
 abbrev pub to_end : Hand → ℕ
 to_end Idle = 0
 to_end (RingTying q l) = 1
 to_end (Ringing q) = 2
 to_end (Tying x l r) = cond r 3 1
 to_end (ToPut x) = 4
-to_end (Finishing x g) = 5
-to_end (Leaving x) = 6
-to_end (Removing k) = 7
+to_end (Finishing x g s) = looks_left s + 4
+to_end (Leaving x) = 24
+to_end (Removing k) = 25
 to_end (Filling x v i) = length v - i + 1
 to_end (Looking k x s) = looks_left s
 

@@ -11,6 +11,7 @@ kind_of_action (action.EnterRemove k) = kind.Enter
 kind_of_action action.Mark = kind.Mark
 kind_of_action action.Drop = kind.Drop
 kind_of_action (action.DropHold k) = kind.Drop
+kind_of_action action.ReadEnding = kind.Read
 kind_of_action action.Finish = kind.Finish
 kind_of_action (action.FillSlot x v) = kind.Fill
 kind_of_action action.Fill = kind.Fill

@@ -10,7 +10,7 @@ use Rattle.sh_slots.specs.declared.hand.Hand.TheVariants.{Removing, Leaving, Fin
 use Rattle.sh_slots.specs.declared.hand.Hand.TheVariants.{RingTying, Filling, Looking}
 use Rattle.sh_slots.specs.declared.hand.SlotRef.{SlotRef}
 use Rattle.sh_slots.specs.declared.hand.KeyRef.{KeyRef}
-use Rattle.sh_slots.specs.Slots.{same_slot}
+use Rattle.sh_slots.specs.Slots.{same_slot, name_at}
 use Rattle.sh_step.specs.declared.action.Action.{Action}
 use Rattle.sh_step.specs.declared.action.Action.TheVariants as action
 use Rattle.sh_step.specs.declared.action.PageName.{PageName}
@@ -27,7 +27,7 @@ use Rattle.sh_step.specs.Rows.{Row, idle, own, class_word_noted, no_cursor, all_
 use Rattle.sh_step.specs.Rows.{drop_hand, drop_key, finish, fill_slot, fill_in, publish, read_class, read_length}
 use Rattle.sh_step.specs.Rows.{read_word, read_page, set_class, take_page, follow, put_at, tie, adopt, leave, arm, ring}
 use Rattle.sh_step.specs.Rows.{ring_tie, take_bell, follow_bell, look, look_on, look_again, is_read}
-use Rattle.sh_step.specs.Rows.{peek}
+use Rattle.sh_step.specs.Rows.{peek, read_ending}
 
 -- the shape has the place of a key of these parts
 abbrev pub has_place : Numbers → Parts → Bool
@@ -67,7 +67,9 @@ move_of plan p action.Mark = elim (p.hand) [ Removing k ↦ named plan k (λ x. 
 move_of plan p action.Drop = elim (p.hand) [ Leaving x ↦ Some (move.Drop x) | _ ↦ None ]
 move_of plan p (action.DropHold k) = named plan k
     (λ x. then_some (idle p && has (λ j. j == k) p.holds) (move.DropHold k x))
-move_of plan p action.Finish = elim (p.hand) [ Finishing x g ↦ Some (move.Finish x g) | _ ↦ None ]
+move_of plan p action.ReadEnding = elim (p.hand)
+    [ Finishing x g s ↦ then_some (not (is_read (name_at x g) s)) (move.ReadEnding x g s) | _ ↦ None ]
+move_of plan p action.Finish = elim (p.hand) [ Finishing x g s ↦ Some (move.Finish x g) | _ ↦ None ]
 move_of plan p (action.FillSlot y v) = slotted plan y (λ x. then_some
     (idle p && own plan p x.page && has (same_slot x) p.mine && nat_lt 0 (class_word_noted p x.page)
     && nat_le (length v) (width (class_word_noted p x.page - 1))) (move.FillSlot x v))
@@ -133,6 +135,7 @@ row_of plan p (move.EnterRemove k x) = enter_remove plan p k x
 row_of plan p (move.Mark k x) = mark p k x
 row_of plan p (move.Drop x) = drop_hand p x
 row_of plan p (move.DropHold k x) = drop_key p k x
+row_of plan p (move.ReadEnding x g s) = read_ending p x g s
 row_of plan p (move.Finish x g) = finish plan p x g
 row_of plan p (move.FillSlot x v) = fill_slot p x v
 row_of plan p (move.Fill x v n c) = fill_in p x v n c

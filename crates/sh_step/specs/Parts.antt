@@ -46,6 +46,7 @@ AddsToNoList (move.Follow q s) = ⊥
 AddsToNoList (move.Arm q) = ⊥
 AddsToNoList (move.EnterRemove k x) = Unit {0}
 AddsToNoList (move.Mark k x) = Unit {0}
+AddsToNoList (move.ReadEnding x g s) = Unit {0}
 AddsToNoList (move.Peek x) = Unit {0}
 AddsToNoList (move.Look k x) = Unit {0}
 AddsToNoList (move.LookOn k x s) = Unit {0}

@@ -4,7 +4,7 @@ use Rattle.std.specs.Prelude.{ℕ, ◌+◌, ◌-◌, ◌*◌, ◌^◌, ◌==◌,
 use Rattle.std.specs.Prelude.{List, [], ◌∷◌, ◌++◌, Option, Some, None, slice_index, length}
 use Rattle.sh_word.specs.Fields.{fields_of}
 use Rattle.sh_slots.specs.declared.hand.Hand.{Hand}
-use Rattle.sh_slots.specs.declared.hand.Hand.TheVariants.{Idle, Leaving, ToPut, Tying, Ringing}
+use Rattle.sh_slots.specs.declared.hand.Hand.TheVariants.{Idle, Leaving, Finishing, ToPut, Tying, Ringing}
 use Rattle.sh_slots.specs.declared.hand.Hand.TheVariants.{RingTying, Filling, Looking}
 use Rattle.sh_slots.specs.declared.hand.Sight.{Sight}
 use Rattle.sh_slots.specs.declared.hand.Sight.TheVariants.{Bare, Classed, Measured}
@@ -20,7 +20,7 @@ use Rattle.sh_step.specs.Plans.{Plan, shard_of, local, over_heap}
 use Rattle.sh_shape.specs.Classes.{width, slots}
 use Rattle.sh_slots.specs.Slots.{same_slot, slot_refs, slot_ref_of, live_at, past_at, has_room, after_enter_remove}
 use Rattle.sh_slots.specs.Slots.{after_drop, marked_word, finished_word, is_reusable_after, published_name, after_look}
-use Rattle.sh_slots.specs.Slots.{sight_with, value_seen}
+use Rattle.sh_slots.specs.Slots.{sight_with, value_seen, name_at}
 use Rattle.sh_shape.specs.Places.{payload_words}
 use Rattle.sh_stack.specs.Stack.{top_word, top_item, link_over, link_item}
 use Rattle.sh_bell.specs.Bell.{is_armed, top_of, head_word}
@@ -117,6 +117,33 @@ drop_key p k x = record {
   reply = λ n. Some (reply.Released k);
 }
 
+-- the payload word of this number, from 0, of a slot of a page of this class word
+abbrev pub payload_word : (slot class_word i : ℕ) → ℕ
+payload_word slot class_word i = slot * width (class_word - 1) + i
+
+-- Whether all was read. So it is too if the length that was found says more than a page of that class has room for:
+-- then the class or the length is of another value
+abbrev pub is_read : KeyRef → Sight → Bool
+is_read x Bare = false
+is_read x (Classed c) = false
+is_read x (Measured c m v) =
+    not (nat_lt (length v) m && nat_lt (length v) 16 && nat_lt (payload_word x.slot c (length v)) payload_words)
+
+-- the word that comes next
+abbrev pub look_place : KeyRef → Sight → Place
+look_place x Bare = Class x.page
+look_place x (Classed c) = Length x.page x.slot
+look_place x (Measured c m v) = Payload x.page (payload_word x.slot c (length v))
+
+-- The value whose generation is to end: what a read loads. What is found is the value if the word of the end is found
+abbrev pub read_ending : Body → SlotRef → ℕ → Sight → Row
+read_ending p x g s = record {
+  place = look_place (name_at x g) s;
+  operation = Load;
+  part = λ n. hand p (Finishing x g (sight_with s n));
+  reply = silent;
+}
+
 abbrev pub finish : Plan → Body → SlotRef → ℕ → Row
 finish plan p x g = record {
   place = State x.page x.slot;
@@ -133,10 +160,6 @@ fill_slot p x v = record {
   part = λ n. hand (record p { mine = without (same_slot x) p.mine }) (Filling x v 0);
   reply = silent;
 }
-
--- the payload word of this number, from 0, of a slot of a page of this class word
-abbrev pub payload_word : (slot class_word i : ℕ) → ℕ
-payload_word slot class_word i = slot * width (class_word - 1) + i
 
 -- a word of the value, in a page of this class word
 abbrev pub fill_in : Body → SlotRef → List ℕ → (i class_word : ℕ) → Row
@@ -201,20 +224,6 @@ look p k x = record {
   part = λ n. hand p (after_look k x n);
   reply = λ n. cond (past_at x.generation n) (Some (reply.Gone k)) None;
 }
-
--- Whether all was read. So it is too if the length that was found says more than a page of that class has room for:
--- then the class or the length is of another value
-abbrev pub is_read : KeyRef → Sight → Bool
-is_read x Bare = false
-is_read x (Classed c) = false
-is_read x (Measured c m v) =
-    not (nat_lt (length v) m && nat_lt (length v) 16 && nat_lt (payload_word x.slot c (length v)) payload_words)
-
--- the word that comes next
-abbrev pub look_place : KeyRef → Sight → Place
-look_place x Bare = Class x.page
-look_place x (Classed c) = Length x.page x.slot
-look_place x (Measured c m v) = Payload x.page (payload_word x.slot c (length v))
 
 abbrev pub look_on : Body → ℕ → KeyRef → Sight → Row
 look_on p k x s = record {

@@ -38,6 +38,8 @@ pub enum Action {
     Drop,
     /// Gives back the count of a hold on a key.
     DropHold(u64),
+    /// Loads what comes next of the value whose generation it is to end: the class of its page, its length, or a word.
+    ReadEnding,
     /// Ends the generation of a slot that is marked and has no count.
     Finish,
     /// Begins to fill a slot of its own: the length is stored.
@@ -114,6 +116,7 @@ impl Action {
             Action::ReadClass(_)
             | Action::ReadLength(_)
             | Action::ReadWord(_, _)
+            | Action::ReadEnding
             | Action::Peek(_)
             | Action::Look(_)
             | Action::LookOn

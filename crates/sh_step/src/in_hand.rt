@@ -18,13 +18,30 @@ pub fn drop_hand(part: &Part) -> Option<Move>
     }
 }
 
+/// The move that reads on of the value whose generation the pass is to end.
+#[tactic(auto, unfolding(crate::specs::Moves::move_of))]
+pub fn read_ending(part: &Part) -> Option<Move>
+    ensures { (plan : Plan) → result ≡ move_of plan part.now Action.ReadEnding }
+{
+    match part.hand() {
+        Hand::Finishing(slot_ref, generation, sight) => {
+            (!is_read(slot_ref.name(*generation), sight)).then_some(Move::ReadEnding(
+                *slot_ref,
+                *generation,
+                sight.copy(),
+            ))
+        }
+        _ => None,
+    }
+}
+
 /// The move that ends a generation.
 #[tactic(auto, unfolding(crate::specs::Moves::move_of))]
 pub fn finish(part: &Part) -> Option<Move>
     ensures { (plan : Plan) → result ≡ move_of plan part.now Action.Finish }
 {
     match part.hand() {
-        Hand::Finishing(slot_ref, generation) => Some(Move::Finish(*slot_ref, *generation)),
+        Hand::Finishing(slot_ref, generation, _) => Some(Move::Finish(*slot_ref, *generation)),
         _ => None,
     }
 }

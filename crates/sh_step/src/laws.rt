@@ -21,7 +21,8 @@ pub fn steps_look_at_no_part()
 
 /// A pass that has begun something ends it in a bounded number of its own steps, which its hand says, whatever the
 /// others do. Each step leaves fewer, whatever word it finds. There is a next step as long as a key in its hand names a
-/// slot. A removal has 7 steps, and a filling one more than words are left.
+/// slot. A removal has 7 steps, and 18 more if it reads a value of 16 words that ends. A filling has one more than
+/// words are left.
 pub fn hands_end()
     ensures nearer { StepsComeNearer }
     ensures goes_on { StepsGoOn }

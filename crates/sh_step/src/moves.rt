@@ -23,6 +23,8 @@ pub enum Move {
     Drop(SlotRef),
     /// Gives back the count of a hold on the key.
     DropHold(u64, KeyRef),
+    /// Loads what comes next of the slot's value of this generation, of which so much was read.
+    ReadEnding(SlotRef, u32, Sight),
     /// Ends the generation of the slot.
     Finish(SlotRef, u32),
     /// Stores the length of the value, as it begins to fill the slot.
@@ -87,6 +89,7 @@ impl Move {
             Action::Mark => keyed::mark::<L>(shape, part),
             Action::Drop => in_hand::drop_hand(part),
             Action::DropHold(key) => keyed::drop_hold::<L>(shape, part, *key),
+            Action::ReadEnding => in_hand::read_ending(part),
             Action::Finish => in_hand::finish(part),
             Action::FillSlot(name, value) => slotted::fill_slot::<L>(shape, part, *name, value),
             Action::Fill => in_hand::fill(part),

@@ -5,13 +5,14 @@ ghost use Rattle.sh_shape.specs.Places.{IsPlace};
 ghost use Rattle.sh_step.specs.Operations.{StoresWord};
 ghost use Rattle.sh_step.specs.Plans.{plan_of};
 ghost use Rattle.sh_step.specs.Moves.{step_at};
+ghost use Rattle.sh_step.specs.Rows.{look_place};
 
 use crate::operands::{bell_of, bell_word, gen_max, payload_word, put_word, word_of_value};
 use crate::{Move, Operation, Step};
 use sh_bell::ARMED;
 use sh_key::KeyLayout;
 use sh_shape::{Place, Shape};
-use sh_slots::{Sight, finished_word, marked_word};
+use sh_slots::{KeyRef, Sight, finished_word, marked_word};
 use sh_word::{MARK_BIT, PRESENT_BIT};
 
 // The operation that ends the generation, if no pass is on the slot.
@@ -24,6 +25,21 @@ fn end_of_generation<L: KeyLayout>(shape: &Shape, generation: u32) -> Operation
         marked_word(generation),
         finished_word(generation, gen_max::<L>()),
     )
+}
+
+// The place of the word that comes next for a reader that has no count on the slot, and has read so much of its value.
+fn next_place(_shape: &Shape, name: KeyRef, sight: &Sight) -> Place
+    requires { IsPlace _shape.now (look_place name sight.now) }
+    ensures { result ≡ look_place name sight.now }
+{
+    match sight {
+        Sight::Bare => Place::Class(name.page),
+        Sight::Classed(_) => Place::Length(name.page, name.slot),
+        Sight::Measured(class, _, value) => {
+            let i = value.words().len() as u64;
+            Place::Payload(name.page, payload_word(name.slot, *class, i))
+        }
+    }
 }
 
 impl Move {
@@ -52,14 +68,10 @@ impl Move {
             Move::ReadWord(_, name, class, i) => {
                 Place::Payload(name.page, payload_word(name.slot, *class, *i))
             }
-            Move::LookOn(_, name, sight) => match sight {
-                Sight::Bare => Place::Class(name.page),
-                Sight::Classed(_) => Place::Length(name.page, name.slot),
-                Sight::Measured(class, _, value) => {
-                    let i = value.words().len() as u64;
-                    Place::Payload(name.page, payload_word(name.slot, *class, i))
-                }
-            },
+            Move::LookOn(_, name, sight) => next_place(shape, *name, sight),
+            Move::ReadEnding(slot_ref, generation, sight) => {
+                next_place(shape, slot_ref.name(*generation), sight)
+            }
             Move::ReadPage(page) | Move::SetClass(page, _) => Place::Class(*page),
             Move::Take(page) | Move::Arm(page) => Place::Head(*page),
             Move::Follow(page, slot) => Place::Link(*page, *slot),
@@ -88,6 +100,7 @@ impl Move {
             Move::ReadClass(_, _)
             | Move::ReadLength(_, _)
             | Move::ReadWord(_, _, _, _)
+            | Move::ReadEnding(_, _, _)
             | Move::Peek(_)
             | Move::Look(_, _)
             | Move::LookOn(_, _, _)

@@ -2,6 +2,7 @@
 ghost use Rattle.sh_table.specs.Orders.{HeardComesFirst, GoneIsRemoved, GotIsInserted, RemovedIsGone};
 ghost use Rattle.sh_table.specs.Orders.{NothingComesLater, SeenIsInserted};
 ghost use Rattle.sh_table.specs.Reached.{PlansAreLawful};
+ghost use Rattle.sh_table.specs.Tales.{EndedKeysAreTrue};
 
 /// In a heap whose shape fits its layout each key names one place and generation, and counts have room.
 pub fn plans_are_lawful()
@@ -20,4 +21,10 @@ pub fn heard_comes_first()
     ensures seen { SeenIsInserted }
     ensures removed { RemovedIsGone }
     ensures taken { NothingComesLater }
+{}
+
+/// A key that the steps of a pass ended was inserted and removed, in a history of the pass's tale. What the pass read of
+/// it in full is the value that was inserted.
+pub fn ended_keys_are_true()
+    ensures { EndedKeysAreTrue }
 {}

@@ -4,6 +4,8 @@
 #[cfg(test)]
 mod assertions;
 #[cfg(test)]
+mod ends;
+#[cfg(test)]
 mod gather;
 #[cfg(test)]
 mod members;

@@ -1,9 +1,9 @@
 //! Tests of the words of a slot: what a step leaves of the word that it finds.
 use crate::assertions::agree;
 use sh_slots::{
-    GetAnswer, Hand, KeyRef, SlotRef, after_drop, after_enter_remove, answer_to_get, finished_word,
-    is_first_mark, is_live_at, is_reusable_after, marked_word, published_name, retired_word,
-    reusable_word,
+    GetAnswer, Hand, KeyRef, Sight, SlotRef, after_drop, after_enter_remove, answer_to_get,
+    finished_word, is_first_mark, is_live_at, is_reusable_after, marked_word, published_name,
+    retired_word, reusable_word,
 };
 
 // The words of generation 1, empty, live and marked, with no pass on the slot.
@@ -56,7 +56,11 @@ fn a_removal_goes_on_where_the_value_is_there(rt: HostRuntime) {
 
 #[test]
 fn the_last_drop_ends_the_generation(rt: HostRuntime) {
-    agree(&rt, after_drop(SPOT, 11811160065), Hand::Finishing(SPOT, 2));
+    agree(
+        &rt,
+        after_drop(SPOT, 11811160065),
+        Hand::Finishing(SPOT, 2, Sight::Bare),
+    );
     agree(&rt, after_drop(SPOT, MARKED + 2), Hand::Idle);
     agree(&rt, after_drop(SPOT, LIVE + 1), Hand::Idle);
     agree(&rt, marked_word(1), MARKED);

@@ -22,7 +22,7 @@ fn due(hand: &Hand) -> Option<Action> {
         Hand::Idle => None,
         Hand::Removing(_) => Some(Action::Mark),
         Hand::Leaving(_) => Some(Action::Drop),
-        Hand::Finishing(_, _) => Some(Action::Finish),
+        Hand::Finishing(_, _, _) => Some(Action::Finish),
         Hand::ToPut(_) => Some(Action::Put),
         Hand::Tying(_, _, _) => Some(Action::Tie),
         Hand::Ringing(_) => Some(Action::Ring),

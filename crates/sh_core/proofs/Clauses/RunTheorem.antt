@@ -20,7 +20,7 @@ use Rattle.sh_core.specs.Words.{read}
 use Rattle.sh_core.specs.Reads.{ReadsAgreeOf, AllReadsAgree}
 use Rattle.sh_core.proofs.Clauses.OpenSums.{part_new}
 use Rattle.sh_step.specs.Conditions.{May}
-use Rattle.sh_core.proofs.Moves.ByMove.{lists_after, run_keeps}
+use Rattle.sh_core.proofs.Moves.ByMove.{lists_after, run_keeps, MovesCount}
 use Rattle.sh_core.proofs.Moves.RunAll.{all_move}
 use Rattle.sh_core.proofs.Kept.ReadNotes.{reads_move}
 use Rattle.sh_core.proofs.Clauses.RunRefines.{all_open, one_kind, held_keys, counted}
@@ -45,6 +45,9 @@ use Rattle.sh_core.proofs.Clauses.KeyHolds.{holds_few}
 use Rattle.sh_core.proofs.Kept.Flags.{FlagsAlone, flags_move, flags_open, flagged_empty}
 use Rattle.sh_core.specs.Looks.{LooksAreTrue}
 use Rattle.sh_core.proofs.Kept.Looks.{looks_move, looks_open}
+use Rattle.sh_core.specs.KeyEnds.{EndsAreTrue, HandEnds}
+use Rattle.sh_core.proofs.Kept.OneEnd.{event_once}
+use Rattle.sh_core.proofs.Kept.Ends.{EndsBegun, ends_move, ends_open, end_words}
 use Rattle.sh_core.proofs.Kept.WordNotes.{WordNotesStand, words_move, words_open, notes}
 use Rattle.sh_core.proofs.Sums.Totals.{total_length}
 use Rattle.sh_core.proofs.Sums.ClassSlots.{class_room}
@@ -79,6 +82,8 @@ pub record Invariant (plan : Plan) (w : World) (l : PutLists) : Type 0 where
   pub retired : RetiredIsLast plan w
   pub entries : EntriesAreOurs plan w
   pub flags : FlagsAlone w
+  -- what passes know of keys that they are to end
+  pub ends : EndsBegun plan w
 
 -- the three that each move's lemma keeps together
 abbrev agreement : (plan : Plan) (w : World) (l : PutLists) → Invariant plan w l → Agreement plan w l
@@ -91,7 +96,8 @@ kept_move : (plan : Plan) → Lawful plan → (w : World) (l : PutLists) (a : �
 kept_move plan laws w l a p m k at may =
     let old : Agreement plan w l = agreement plan w l k in
     let new = all_move plan w l a p laws old (k.looks a p at) at m may in
-    let last = last_move plan w l a p m old (moves_count plan w l laws old k.notes k.places a p at) at may
+    let counts = moves_count plan w l laws old k.notes k.places a p at in
+    let last = last_move plan w l a p m old counts at may
     (record { retired = k.retired; entries = k.entries }) in record {
       sums = new.sums;
       lists = new.lists;
@@ -104,6 +110,7 @@ kept_move plan laws w l a p m k at may =
       retired = last.retired;
       entries = last.entries;
       flags = flags_move plan w a p m k.flags;
+      ends = ends_move plan w l a p m laws old counts (k.places a p at) k.ends at may new;
     }
 
 module _ (plan : Plan) (w : World) (l : PutLists) (laws : Lawful plan) (kept : Invariant plan w l) where
@@ -146,6 +153,18 @@ module _ (plan : Plan) (w : World) (l : PutLists) (laws : Lawful plan) (kept : I
   hands : KeysInHandName plan w
   hands a p at = hand_names p.hand (kept.places a p at).hand
 
+  ends_true : EndsAreTrue plan w
+  ends_true = record {
+    begun = kept.ends;
+    words = λ a p x g s at is all_read.
+        let t = subst (HandEnds plan w) is (kept.ends a p at) in
+        end_words plan laws w l all a p at (counts a p at) (kept.places a p at) (plan.keys.pack (name_at x g))
+        (name_at x g) s t all_read;
+    once = event_once plan w l all counts;
+  } where
+    counts : (a : ℕ) (p : Body) → slice_get w.parts a ≡ Some p → MovesCount plan w p
+    counts = moves_count plan w l laws all kept.notes kept.places
+
   pub refines : Refines plan w l
   refines = record {
     legal = all.sums.legal;
@@ -179,6 +198,7 @@ module _ (plan : Plan) (w : World) (l : PutLists) (laws : Lawful plan) (kept : I
     few_holds = holds_few plan w kept.notes kept.holds;
     flags = flagged_empty plan w l all kept.flags;
     hands = hands;
+    ends = ends_true;
     goes_on = λ a p at busy. (steps_go_on plan p busy (hands a p at), steps_come_nearer plan p busy);
   }
 
@@ -204,6 +224,7 @@ theorem layout shape a b c es =
       retired = last.retired;
       entries = last.entries;
       flags = flags_open plan;
+      ends = ends_open plan;
     }) (kept_move plan laws))
 
 -- its log, with the layout's own bound on holds

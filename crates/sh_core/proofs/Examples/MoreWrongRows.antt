@@ -30,6 +30,7 @@ use Rattle.sh_core.specs.MoreWrongRows.{enters_uncounted, fits_any_length, rings
 use Rattle.sh_core.specs.MoreWrongRows.{ties_ring_as_end, ends_whole_word}
 use Rattle.sh_core.proofs.Examples.Worked.{small, ev, slot, page, three_slots, everything}
 use Rattle.sh_core.proofs.Examples.WrongRows.{refuted, inserted, removed, put_back, putting, ringing, owner}
+use Rattle.sh_slots.specs.declared.hand.Sight.TheVariants.{Bare}
 
 more_wrongly : ℕ
 unfolding everything step_by run_from_by list_step_by lists_from_by retires_early skips_generation adopts_taken
@@ -244,7 +245,7 @@ abbrev left_word : ℕ
 left_word = 7516192769
 
 abbrev finisher : Body
-finisher = record owner { hand = Finishing (slot_ref 0 0) left_word }
+finisher = record owner { hand = Finishing (slot_ref 0 0) left_word Bare }
 
 pub end_of_a_word_is_no_word : ¬ AlwaysBy ends_whole_word (λ plan w l. StoresWords plan w)
 unfolding more_wrongly

@@ -26,7 +26,8 @@ module _ (plan : Plan) (p : Body) (q : ℕ) (is : p.hand ≡ Ringing q) where
   only_rings (move.Ring r) may = refl
   only_rings (move.Mark k x) may = let hand = may.0 in absurd (let z : ⊥ = cc in z)
   only_rings (move.Drop x) may = absurd (let z : ⊥ = cc in z)
-  only_rings (move.Finish x g) may = absurd (let z : ⊥ = cc in z)
+  only_rings (move.ReadEnding x g s) may = let hand = may.0 in absurd (let z : ⊥ = cc in z)
+  only_rings (move.Finish x g) may = let hand = may.1 in absurd (let z : ⊥ = cc in z)
   only_rings (move.Fill x v i c) may = let hand = may.0 in absurd (let z : ⊥ = cc in z)
   only_rings (move.Publish x v) may = let hand = may.1 in absurd (let z : ⊥ = cc in z)
   only_rings (move.Put x) may = absurd (let z : ⊥ = cc in z)

@@ -90,7 +90,7 @@ unfolding everything
 two_removers = refl
 
 -- a slot that is used again while a pass leaves it
-abbrev again : List Event
+abbrev pub again : List Event
 again = one_value ++ ev 0 (EnterRemove 4096) ∷ ev 0 Mark ∷ ev 0 Drop ∷ ev 0 Finish ∷
     ev 0 (FillSlot (slot 0 0 0) (6 ∷ [])) ∷ ev 0 Fill ∷ ev 0 Publish ∷ ev 1 (EnterGet 4096) ∷
     ev 0 (EnterRemove 8192) ∷ ev 0 Mark ∷ ev 0 Drop ∷ []

@@ -34,6 +34,7 @@ use Rattle.sh_core.specs.WrongRows.{leaves_bell, forgets_last_slot, gives_any_cl
 use Rattle.sh_core.specs.WrongRows.{remembers_generation, finish_again, tries_again, keeps_flag}
 use Rattle.sh_step.proofs.Truths.{no_bool}
 use Rattle.sh_core.proofs.Examples.Worked.{small, ev, slot, page, three_slots, everything}
+use Rattle.sh_slots.specs.declared.hand.Sight.TheVariants.{Bare}
 
 -- ---- a run by the right table is the run
 
@@ -325,13 +326,13 @@ generation_is_no_key = refuted remembers_generation (λ plan w l. KeysInHandName
 
 -- an end that is tried again and again
 abbrev ender : Body
-ender = record owner { hand = Finishing (slot_ref 0 0) 1 }
+ender = record owner { hand = Finishing (slot_ref 0 0) 1 Bare }
 
 pub end_may_never_come : ¬ AlwaysBy tries_again (λ plan w l. GoesOn tries_again plan w)
 unfolding wrongly
 end_may_never_come = refuted tries_again (λ plan w l. GoesOn tries_again plan w) 1 (omega arith) (omega arith)
     (three_slots ++ inserted 0 ++ ev 0 (EnterRemove 4096) ∷ ev 0 Mark ∷ ev 0 Drop ∷ [])
-    (λ h. let z : 5 < 5 = (h 0 ender refl (λ e. cc)).1 Finish (finish_again (small 1) ender (slot_ref 0 0) 1) refl 0
+    (λ h. let z : 23 < 23 = (h 0 ender refl (λ e. cc)).1 Finish (finish_again (small 1) ender (slot_ref 0 0) 1) refl 0
     in absurd (omega arith))
 
 -- a get that never returns

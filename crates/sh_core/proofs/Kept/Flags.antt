@@ -6,7 +6,7 @@ use Rattle.sh_shape.specs.declared.places.Place.TheVariants.{Class, Head, PageLi
 use Rattle.sh_shape.specs.declared.places.Place.TheVariants.{Bell}
 use Rattle.sh_step.specs.declared.body.Body.{Body}
 use Rattle.sh_step.specs.declared.moves.Move.{Move}
-use Rattle.sh_step.specs.declared.moves.Move.TheVariants.{Take, Put, PutSlot, Arm, LookOn}
+use Rattle.sh_step.specs.declared.moves.Move.TheVariants.{Take, Put, PutSlot, Arm, LookOn, ReadEnding}
 use Rattle.sh_step.specs.Moves.{row_of}
 use Rattle.sh_step.specs.Operations.{operate}
 use Rattle.sh_step.specs.Plans.{Plan}
@@ -21,6 +21,7 @@ use Rattle.sh_core.specs.Stacks.{top}
 use Rattle.sh_core.specs.Placed.{Agreement}
 use Rattle.sh_core.specs.Refines.{FlaggedAreEmpty}
 use Rattle.sh_core.proofs.Sums.Writes.{put_same, put_other}
+use Rattle.sh_slots.specs.Slots.{name_at}
 
 abbrev FlagAlone : ℕ → Type 0
 FlagAlone n = n % 2 ≡ 1 → n ≡ 1
@@ -70,6 +71,7 @@ module _ (plan : Plan) (w : Words) (p : Body) where
   row_writes_alone (PutSlot x) = put_alone x.slot
   row_writes_alone (Arm q) = λ _. refl
   row_writes_alone (LookOn k x s) = look_writes_alone x s
+  row_writes_alone (ReadEnding x g s) = look_writes_alone (name_at x g) s
   row_writes_alone m = tt
 
 pub flags_move : (plan : Plan) (w : World) (a : ℕ) (p : Body) (m : Move) → FlagsAlone w

@@ -14,7 +14,7 @@ use Rattle.sh_shape.specs.declared.places.Place.TheVariants.{Bell}
 use Rattle.sh_slots.specs.declared.hand.Hand.TheVariants.{Removing}
 use Rattle.sh_slots.specs.declared.reply.Reply.{Reply}
 use Rattle.sh_slots.specs.declared.reply.Reply.TheVariants as reply
-use Rattle.sh_slots.specs.Slots.{slot_ref_of, marked_word, retired_word, reusable_word}
+use Rattle.sh_slots.specs.Slots.{slot_ref_of, marked_word, retired_word, reusable_word, name_at}
 use Rattle.sh_step.specs.declared.body.Body.{Body}
 use Rattle.sh_step.specs.Operations.{operate}
 use Rattle.sh_step.specs.Plans.{Plan}
@@ -28,7 +28,7 @@ use Rattle.sh_core.proofs.Slots.MarkStep.{is_current}
 use Rattle.sh_step.specs.declared.moves.Move.{Move}
 use Rattle.sh_step.specs.declared.moves.Move.TheVariants.{EnterGet, EnterRemove, Mark, Drop, DropHold, Finish}
 use Rattle.sh_step.specs.declared.moves.Move.TheVariants.{Publish, Look}
-use Rattle.sh_step.specs.declared.moves.Move.TheVariants.{LookOn, LookAgain, Peek}
+use Rattle.sh_step.specs.declared.moves.Move.TheVariants.{LookOn, LookAgain, Peek, ReadEnding}
 use Rattle.sh_step.specs.Moves.{row_of}
 use Rattle.sh_step.specs.Rows.{Row, hand, look_place}
 use Rattle.sh_slots.specs.declared.hand.KeyRef.{KeyRef}
@@ -130,6 +130,7 @@ module _ (plan : Plan) (w : World) (l : PutLists) (all : Agreement plan w l) (a 
   row_writes_last (Peek x) may = old x.page x.slot
   row_writes_last (Look k x) may = old x.page x.slot
   row_writes_last (LookOn k x s) may = look_writes x s
+  row_writes_last (ReadEnding x g s) may = look_writes (name_at x g) s
   row_writes_last (LookAgain k x s) may = old x.page x.slot
   row_writes_last m may = tt
 

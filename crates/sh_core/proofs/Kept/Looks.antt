@@ -11,20 +11,22 @@ use Rattle.sh_history.specs.declared.entry.Entry.{Entry}
 use Rattle.sh_history.specs.History.{value_of, is_removed, is_removal_of}
 use Rattle.sh_history.proofs.LogLaws.{value_of-append_some}
 use Rattle.sh_shape.specs.Classes.{width}
+use Rattle.sh_shape.specs.declared.places.Place.{Place}
 use Rattle.sh_shape.specs.declared.places.Place.TheVariants.{Class}
 use Rattle.sh_shape.proofs.ClassLaws.{widths_few, slot_words_fit_page}
 use Rattle.sh_slots.specs.declared.hand.Hand.{Hand}
 use Rattle.sh_slots.specs.declared.hand.Hand.TheVariants.{Idle, Removing, Leaving, Finishing, ToPut, Ringing, Looking}
 use Rattle.sh_slots.specs.declared.hand.KeyRef.{KeyRef}
+use Rattle.sh_slots.specs.declared.hand.SlotRef.{SlotRef}
 use Rattle.sh_slots.specs.declared.hand.Sight.{Sight}
 use Rattle.sh_slots.specs.declared.hand.Sight.TheVariants.{Bare, Classed, Measured}
-use Rattle.sh_slots.specs.Slots.{slot_ref_of, live_at, has_room, sight_with, value_seen, is_reusable_after}
+use Rattle.sh_slots.specs.Slots.{slot_ref_of, live_at, has_room, sight_with, value_seen, is_reusable_after, name_at}
 use Rattle.sh_step.specs.declared.body.Body.{Body}
 use Rattle.sh_step.specs.declared.moves.Move.{Move}
 use Rattle.sh_step.specs.declared.moves.Move.TheVariants.{EnterGet, EnterRemove, Mark, Drop, DropHold, Finish, FillSlot}
 use Rattle.sh_step.specs.declared.moves.Move.TheVariants.{Fill, Publish, ReadClass, ReadPage, SetClass, Follow, Put}
 use Rattle.sh_step.specs.declared.moves.Move.TheVariants.{PutSlot, Tie, Adopt, Ring, RingTie, FollowBell, Look, LookOn}
-use Rattle.sh_step.specs.declared.moves.Move.TheVariants.{LookAgain}
+use Rattle.sh_step.specs.declared.moves.Move.TheVariants.{LookAgain, ReadEnding}
 use Rattle.sh_step.specs.Collections.{if1, noted}
 use Rattle.sh_step.specs.Conditions.{May, Named}
 use Rattle.sh_word.specs.Fields.{Fields, fields_of}
@@ -53,7 +55,7 @@ use Rattle.sh_core.proofs.Sums.Writes.{put_other, write_same}
 
 -- ---- as the log grows
 
-stays_issued : (log : List Entry) (o : Option Entry) (k : ℕ) (v : List ℕ) → value_of log k ≡ Some v
+pub stays_issued : (log : List Entry) (o : Option Entry) (k : ℕ) (v : List ℕ) → value_of log k ≡ Some v
     → value_of (joined log o) k ≡ Some v
 stays_issued log None k v is = is
 stays_issued log (Some e) k v is = value_of-append_some log (e ∷ []) k v is
@@ -124,33 +126,45 @@ module _ (plan : Plan) (w : World) (l : PutLists) (a : ℕ) (p : Body) (all : Ag
       (value_at w.words x.page x.slot) v (all.sums.keys k x name) (sym (value_first k w.log) ∙ is)
       (none_removed k w.log not)
 
-  same_class : (class : ℕ → ℕ) → class ≡ w.words.class_at → ClassesStay plan w class
-  same_class class e k x v name is not = ap (λ (f : ℕ → ℕ). f x.page) e
+  -- the class word of the page of a slot that is present stays
+  abbrev ClassStays : (ℕ → ℕ) → SlotRef → Type 0
+  ClassStays class x = (fields_of (w.words.state_at x.page x.slot)).present ≡ true → class x.page
+      ≡ w.words.class_at x.page
 
-  -- a page whose slots are all its owner's has no such key
-  set_class_stays : (q n c : ℕ) → own plan p q ≡ true → noted q p.classes ≡ Some n → ((n == 0) || all_mine p q n) ≡ true
-      → ClassesStay plan w (put w.words.class_at q (c + 1))
-  set_class_stays q n c mine is full k x v name issued not = go (x.page == q) refl where
+  same_class : (class : ℕ → ℕ) (x : SlotRef) → class ≡ w.words.class_at → ClassStays class x
+  same_class class x e there = ap (λ (f : ℕ → ℕ). f x.page) e
+
+  -- a page whose slots are all its owner's has no such slot
+  set_class_stays : (q n c : ℕ) (x : SlotRef) → own plan p q ≡ true → noted q p.classes ≡ Some n
+      → ((n == 0) || all_mine p q n) ≡ true → ClassStays (put w.words.class_at q (c + 1)) x
+  set_class_stays q n c x mine is full there = go (x.page == q) refl where
     go : (d : Bool) → (x.page == q) ≡ d → put w.words.class_at q (c + 1) x.page ≡ w.words.class_at x.page
     go false f = put_other w.words.class_at q x.page (c + 1) f
     go true f =
-        let t = live_of k x v name issued not in
         let r = room_mine w.words p q n ((all.lists.own_notes a p at).notes q n mine is).0 full in
-        let z = (empty_page plan w l a p q c all.sums at r (slot_ref_of x) (eqb-true x.page q f)).0 in
+        let z = (empty_page plan w l a p q c all.sums at r x (eqb-true x.page q f)).0 in
         let y = (if1_neither (fields_of (w.words.state_at x.page x.slot)).present
         (fields_of (w.words.state_at x.page x.slot)).marked z).0 in
-        let u : true ≡ false = sym t.0 ∙ y in absurd (cc)
+        let u : true ≡ false = sym there ∙ y in absurd (cc)
 
   abbrev class_after : Row → ℕ → ℕ
   class_after r = (write w.words r.place (operate r.operation (read w.words r.place))).class_at
 
+  -- a load leaves each class word
+  loaded_class : (q : Place) (x : SlotRef) → ClassStays (write w.words q (read w.words q)).class_at x
+  loaded_class q x = same_class _ x (ap (λ (W : Words). W.class_at) (write_same w.words q))
+
+  pub class_stays : (m : Move) → May plan p m → (x : SlotRef) → ClassStays (class_after (row_of plan p m)) x
+  class_stays (SetClass q c) (n, idle, inside, mine, is, full, small) x = set_class_stays q n c x
+      (is_own plan p q mine) is (zero_or n (all_mine p q n) full)
+  class_stays (ReadClass k y) may x = loaded_class (Class y.page) x
+  class_stays (ReadPage q) may x = loaded_class (Class q) x
+  class_stays (LookOn k y s) may x = loaded_class (look_place y s) x
+  class_stays (ReadEnding y g s) may x = loaded_class (look_place (name_at y g) s) x
+  class_stays m may x = same_class _ x refl
+
   keeps_class : (m : Move) → May plan p m → ClassesStay plan w (class_after (row_of plan p m))
-  keeps_class (SetClass q c) (n, idle, inside, mine, is, full, small) = set_class_stays q n c (is_own plan p q mine) is
-      (zero_or n (all_mine p q n) full)
-  keeps_class (ReadClass k x) may = same_class _ (ap (λ (W : Words). W.class_at) (write_same w.words (Class x.page)))
-  keeps_class (ReadPage q) may = same_class _ (ap (λ (W : Words). W.class_at) (write_same w.words (Class q)))
-  keeps_class (LookOn k x s) may = same_class _ (ap (λ (W : Words). W.class_at) (write_same w.words (look_place x s)))
-  keeps_class m may = same_class _ refl
+  keeps_class m may k x v name issued not = class_stays m may (slot_ref_of x) (live_of k x v name issued not).0
 
   -- ---- what a look reads
 
@@ -183,73 +197,59 @@ module _ (plan : Plan) (w : World) (l : PutLists) (a : ℕ) (p : Body) (all : Ag
       ap (λ us. us ++ n ∷ []) so_far ∙ (ap (λ m. take (length u) v ++ m ∷ []) is
       ∙ (sym (take_more v (length u) 0 less) ∙ ap (λ m. take m v) (sym long)))
 
-  reads_on : (k : ℕ) (x : KeyRef) (s : Sight) → LookIsTrue plan w.words.class_at w.log k x s → is_read x s ≡ false
-      → LookIsTrue plan w.words.class_at w.log k x (sight_with s (read w.words (look_place x s)))
+  -- the next word that is read of a value in its slot is of the value
+  pub sees_more : (x : KeyRef) (v : List ℕ) (s : Sight) → value_at w.words x.page x.slot ≡ v → is_read x s ≡ false
+      → Sees (w.words.class_at x.page) v s
+      → Sees (w.words.class_at x.page) v (sight_with s (read w.words (look_place x s)))
   unfolding value_at
-  reads_on k x Bare t more = record { named = t.named; value = t.value; issued = t.issued; sees = λ h. refl }
-  reads_on k x (Classed c) t more = record {
-    named = t.named;
-    value = t.value;
-    issued = t.issued;
-    sees = λ h.
-        let r = live_of k x t.value t.named.unpacks t.issued h in
-        let f : ℕ → ℕ = w.words.payload_at x.page in
-        let first : ℕ = x.slot * width (w.words.class_at x.page - 1) in
-        (t.sees h, sym (length-words f first (w.words.length_at x.page x.slot)) ∙ ap length r.2, refl);
-  }
-  reads_on k x (Measured c m u) t more = go (nat_lt (length u) m) (nat_lt (length u) 16) refl refl more where
+  sees_more x v Bare here more o = refl
+  sees_more x v (Classed c) here more o =
+      let f : ℕ → ℕ = w.words.payload_at x.page in
+      let first : ℕ = x.slot * width (w.words.class_at x.page - 1) in
+      (o, sym (length-words f first (w.words.length_at x.page x.slot)) ∙ ap length here, refl)
+  sees_more x v (Measured c m u) here more o = go (nat_lt (length u) m) (nat_lt (length u) 16) refl refl more where
     n : ℕ
     n = w.words.payload_at x.page (payload_word x.slot c (length u))
 
     go : (b d : Bool) → nat_lt (length u) m ≡ b → nat_lt (length u) 16 ≡ d
         → not (b && d && nat_lt (payload_word x.slot c (length u)) 48) ≡ false
-        → LookIsTrue plan w.words.class_at w.log k x (Measured c m (cond d (u ++ n ∷ []) u))
+        → Sees (w.words.class_at x.page) v (Measured c m (cond d (u ++ n ∷ []) u))
     go false d e f h = absurd (let z : true ≡ false = h in cc)
     go true false e f h = absurd (let z : true ≡ false = h in cc)
-    go true true e f h = record {
-      named = t.named;
-      value = t.value;
-      issued = t.issued;
-      sees = λ not.
-          let r = live_of k x t.value t.named.unpacks t.issued not in
-          let o = t.sees not in
-          let g : ℕ → ℕ = w.words.payload_at x.page in
-          let first : ℕ = x.slot * width (w.words.class_at x.page - 1) in
-          let count : ℕ = w.words.length_at x.page x.slot in
-          let many : count ≡ length t.value = sym (length-words g first count) ∙ ap length r.2 in
-          let below : length u < m = grind (arith, nat_tests) in
-          let same = o.1 in
-          let here : get_or (words_from g first count) (length u) 0 ≡ g (first + length u) = get-words g first count
-          (length u) (omega arith) in
-          let found : n ≡ g (first + length u) = ap (λ d. g (x.slot * width (d - 1) + length u)) o.0 in (
-            o.0,
-            same,
-            one_word_more t.value u n (omega arith) o.2
-                (found ∙ (sym here ∙ ap (λ us. get_or us (length u) 0) r.2)),
-          );
-    }
+    go true true e f h =
+        let g : ℕ → ℕ = w.words.payload_at x.page in
+        let first : ℕ = x.slot * width (w.words.class_at x.page - 1) in
+        let count : ℕ = w.words.length_at x.page x.slot in
+        let many : count ≡ length v = sym (length-words g first count) ∙ ap length here in
+        let below : length u < m = grind (arith, nat_tests) in
+        let same = o.1 in
+        let word : get_or (words_from g first count) (length u) 0 ≡ g (first + length u) = get-words g first count
+        (length u) (omega arith) in
+        let found : n ≡ g (first + length u) = ap (λ d. g (x.slot * width (d - 1) + length u)) o.0 in (
+          o.0,
+          same,
+          one_word_more v u n (omega arith) o.2
+              (found ∙ (sym word ∙ ap (λ us. get_or us (length u) 0) here)),
+        )
 
-  -- so once all is read, it is the key's value
-  pub all_seen : (k : ℕ) (x : KeyRef) (s : Sight) → LookIsTrue plan w.words.class_at w.log k x s → is_read x s ≡ true
-      → is_removed w.log k ≡ false → value_of w.log k ≡ Some (value_seen s)
+  -- once all is read of a value that is in its slot, it is the value
+  pub sees_all : (x : KeyRef) (v : List ℕ) (s : Sight)
+      → ((fields_of (w.words.state_at x.page x.slot)).present || (fields_of (w.words.state_at x.page x.slot)).marked)
+      ≡ true → value_at w.words x.page x.slot ≡ v → is_read x s ≡ true → Sees (w.words.class_at x.page) v s
+      → value_seen s ≡ v
   unfolding value_at
-  all_seen k x Bare t ends not = absurd (let z : false ≡ true = ends in cc)
-  all_seen k x (Classed c) t ends not = absurd (let z : false ≡ true = ends in cc)
-  all_seen k x (Measured c m u) t ends not =
-      t.issued ∙ ap (λ (v : List ℕ). Some v) (sym whole)
+  sees_all x v Bare there here ends o = absurd (let z : false ≡ true = ends in cc)
+  sees_all x v (Classed c) there here ends o = absurd (let z : false ≡ true = ends in cc)
+  sees_all x v (Measured c m u) there here ends o =
+      ⊎_elim (λ less. absurd (more_left less)) (λ ge. o.2 ∙ take_all (length u) v ge) (cases_lt (length u) (length v))
     where
-      more_left : length u < length t.value → ⊥
+      more_left : length u < length v → ⊥
       more_left less =
-          let r = live_of k x t.value t.named.unpacks t.issued not in
-          let o = t.sees not in
           let q : ℕ = x.page in
           let class : ℕ = w.words.class_at q in
           let first : ℕ = x.slot * width (class - 1) in
           let count : ℕ = w.words.length_at q x.slot in
-          let many : length t.value ≡ count = ap length (sym r.2) ∙ length-words (w.words.payload_at q) first count in
-          let there : ((fields_of (w.words.state_at q x.slot)).present
-          || (fields_of (w.words.state_at q x.slot)).marked)
-          ≡ true = rw r.0 refl in
+          let many : length v ≡ count = ap length (sym here) ∙ length-words (w.words.payload_at q) first count in
           let bound = all.bounds.lengths q x.slot there in
           let few = widths_few (class - 1) in
           let one : if1 ((fields_of (w.words.state_at q x.slot)).present ||
@@ -268,9 +268,22 @@ module _ (plan : Plan) (w : World) (l : PutLists) (a : ℕ) (p : Body) (all : Ag
           fit_c in
           let z : false ≡ true = rw (a1, a2, a3) at ends in cc
 
-      whole : u ≡ t.value
-      whole = ⊎_elim (λ less. absurd (more_left less)) (λ ge. (t.sees not).2 ∙ take_all (length u) t.value ge)
-          (cases_lt (length u) (length t.value))
+  reads_on : (k : ℕ) (x : KeyRef) (s : Sight) → LookIsTrue plan w.words.class_at w.log k x s → is_read x s ≡ false
+      → LookIsTrue plan w.words.class_at w.log k x (sight_with s (read w.words (look_place x s)))
+  reads_on k x s t more = record {
+    named = t.named;
+    value = t.value;
+    issued = t.issued;
+    sees = λ not.
+        let r = live_of k x t.value t.named.unpacks t.issued not in sees_more x t.value s r.2 more (t.sees not);
+  }
+
+  pub all_seen : (k : ℕ) (x : KeyRef) (s : Sight) → LookIsTrue plan w.words.class_at w.log k x s → is_read x s ≡ true
+      → is_removed w.log k ≡ false → value_of w.log k ≡ Some (value_seen s)
+  all_seen k x s t ends not =
+      let r = live_of k x t.value t.named.unpacks t.issued not in
+      let whole = sees_all x t.value s (rw r.0 refl) r.2 ends (t.sees not) in
+      t.issued ∙ ap (λ (v : List ℕ). Some v) (sym whole)
 
   -- ---- the hand after a move
 
@@ -280,14 +293,15 @@ module _ (plan : Plan) (w : World) (l : PutLists) (a : ℕ) (p : Body) (all : Ag
   after (EnterRemove k x) may old = cond_either S (live_at x.generation (w.words.state_at x.page x.slot)) (Removing k)
       (Leaving (slot_ref_of x)) tt tt
   after (Mark k x) may old = tt
-  after (Drop x) may old = cond_either S _ (Finishing x (fields_of (w.words.state_at x.page x.slot)).generation) Idle tt
+  after (Drop x) may old = cond_either S _ (Finishing x (fields_of (w.words.state_at x.page x.slot)).generation Bare) Idle tt
       tt
   after (DropHold k x) may old = cond_either S _
-      (Finishing (slot_ref_of x) (fields_of (w.words.state_at x.page x.slot)).generation) Idle tt tt
+      (Finishing (slot_ref_of x) (fields_of (w.words.state_at x.page x.slot)).generation Bare) Idle tt tt
   after (Finish x g) may old =
       cond_either B (is_reusable_after g plan.keys.gen_max (w.words.state_at x.page x.slot))
       (cond (own plan p x.page) (hand (record p { mine = x ∷ p.mine }) Idle) (hand p (ToPut x))) (hand p Idle)
       (cond_either B (own plan p x.page) (hand (record p { mine = x ∷ p.mine }) Idle) (hand p (ToPut x)) tt tt) tt
+  after (ReadEnding x g s) may old = tt
   after (FillSlot x v) may old = tt
   after (Fill x v i c) may old = tt
   after (Publish x v) may old = tt

@@ -15,7 +15,7 @@ use Rattle.sh_slots.specs.declared.hand.Hand.TheVariants.{Removing, Leaving, Fin
 use Rattle.sh_slots.specs.declared.hand.Hand.TheVariants.{RingTying, Filling, Looking}
 use Rattle.sh_slots.specs.declared.hand.Sight.{Sight}
 use Rattle.sh_slots.specs.declared.hand.Sight.TheVariants.{Bare, Classed, Measured}
-use Rattle.sh_slots.specs.Slots.{slot_ref_of, same_slot}
+use Rattle.sh_slots.specs.Slots.{slot_ref_of, same_slot, name_at}
 use Rattle.sh_step.specs.declared.body.Body.{Body}
 use Rattle.sh_step.specs.Collections.{if1, has, noted}
 use Rattle.sh_core.specs.Words.{read}
@@ -36,11 +36,12 @@ use Rattle.sh_step.specs.declared.moves.Move.TheVariants.{EnterGet, EnterRemove,
 use Rattle.sh_step.specs.declared.moves.Move.TheVariants.{Fill, Publish, ReadClass, ReadLength, ReadWord, ReadPage}
 use Rattle.sh_step.specs.declared.moves.Move.TheVariants.{SetClass, Take, Follow, Put, PutSlot, Tie, Adopt, Leave, Arm}
 use Rattle.sh_step.specs.declared.moves.Move.TheVariants.{Ring, RingTie, TakeBell, FollowBell, Look, LookOn, LookAgain}
-use Rattle.sh_step.specs.declared.moves.Move.TheVariants.{Peek}
+use Rattle.sh_step.specs.declared.moves.Move.TheVariants.{Peek, ReadEnding}
 use Rattle.sh_step.specs.Moves.{row_of}
 use Rattle.sh_step.specs.Plans.{Plan, Lawful, heap_pages, shard_of}
 use Rattle.sh_step.specs.Rows.{class_word_noted, is_read, look_place, payload_word}
-use Rattle.sh_step.specs.Conditions.{May, Named}
+use Rattle.sh_step.specs.Conditions.{May}
+use Rattle.sh_shape.specs.Places.{slot_places}
 use Rattle.sh_core.proofs.Moves.ByMove.{MovesCount, by_move}
 use Rattle.sh_core.proofs.Sums.Tests.{if1_self}
 use Rattle.sh_core.proofs.Sums.ListCounts.{a_first, times_cons, noted_at}
@@ -105,13 +106,13 @@ module _ (plan : Plan) (w : World) (l : PutLists) (laws : Lawful plan) (all : Ag
       let P : ℕ → Type 0 = λ z. x.slot * width (z - 1) + i < 48 in
       subst P (class.1 x name) (slot_words_fit_page (w.words.class_at x.page - 1) x.slot i r.1 (omega arith))
 
-  -- what a look loads next
-  look_placed : (k : ℕ) (x : KeyRef) (s : Sight) → Named plan k x → is_read x s ≡ false
+  -- what a look, or a read before an end, loads next
+  look_placed : (x : KeyRef) (s : Sight) → x.page < heap_pages plan → x.slot < slot_places → is_read x s ≡ false
       → HasPlace plan (look_place x s)
-  look_placed k x Bare named more = named.page
-  look_placed k x (Classed c) named more = (named.page, named.slot)
-  look_placed k x (Measured c m u) named more =
-      (named.page, go (nat_lt (length u) m) (nat_lt (length u) 16) (nat_lt i 48) refl more)
+  look_placed x Bare page slot more = page
+  look_placed x (Classed c) page slot more = (page, slot)
+  look_placed x (Measured c m u) page slot more =
+      (page, go (nat_lt (length u) m) (nat_lt (length u) 16) (nat_lt i 48) refl more)
     where
       i : ℕ
       i = payload_word x.slot c (length u)
@@ -163,7 +164,10 @@ module _ (plan : Plan) (w : World) (l : PutLists) (laws : Lawful plan) (all : Ag
   place_of a p (Mark k x) at (is, named) = (named.page, named.slot)
   place_of a p (Drop x) at is = hand_within plan p (Leaving x) (within a p at) is
   place_of a p (DropHold k x) at (idle, named, is) = (named.page, named.slot)
-  place_of a p (Finish x g) at is = (hand_within plan p (Finishing x g) (within a p at) is).0
+  place_of a p (ReadEnding x g s) at (is, more) =
+      let inside = (hand_within plan p (Finishing x g s) (within a p at) is).0
+      in look_placed (name_at x g) s inside.0 inside.1 more
+  place_of a p (Finish x g) at (s, is) = (hand_within plan p (Finishing x g s) (within a p at) is).0
   place_of a p (FillSlot x v) at may = may.1
   place_of a p (Fill x v i c) at (is, less, noted_is) = (
     (hand_within plan p (Filling x v i) (within a p at) is).0,
@@ -178,7 +182,7 @@ module _ (plan : Plan) (w : World) (l : PutLists) (laws : Lawful plan) (all : Ag
   place_of a p (Peek x) at (idle, inside) = inside
   place_of a p (Look k x) at (idle, named) = (named.page, named.slot)
   place_of a p (LookOn k x s) at (is, more) =
-      look_placed k x s (hand_within plan p (Looking k x s) (within a p at) is) more
+      let named = hand_within plan p (Looking k x s) (within a p at) is in look_placed x s named.page named.slot more
   place_of a p (LookAgain k x s) at (is, ends) =
       let named = hand_within plan p (Looking k x s) (within a p at) is in (named.page, named.slot)
   place_of a p (ReadPage q) at (idle, inside, mine) = inside

@@ -8,7 +8,7 @@ use Rattle.sh_core.specs.Words.{Words, write, put, put2, read}
 use Rattle.sh_shape.specs.declared.places.Place.TheVariants.{Class, State, Length}
 use Rattle.sh_word.specs.Fields.{fields_of}
 use Rattle.sh_shape.specs.Classes.{slots}
-use Rattle.sh_slots.specs.Slots.{same_slot, slot_refs, live_at, has_room, slot_ref_of, after_drop, sight_with}
+use Rattle.sh_slots.specs.Slots.{same_slot, slot_refs, live_at, has_room, slot_ref_of, after_drop, sight_with, name_at}
 use Rattle.sh_step.specs.Collections.{if1, has, without, noted, off}
 use Rattle.sh_step.specs.declared.body.Body.{Body}
 use Rattle.sh_core.specs.Lists.{PutLists, times, mine_at}
@@ -21,14 +21,14 @@ use Rattle.sh_core.proofs.Slots.Slots.{same_slot-true}
 use Rattle.sh_core.proofs.Slots.SlotSums.{room_few}
 use Rattle.sh_core.proofs.Slots.ClassSums.{room_mine, empty_page}
 use Rattle.sh_core.proofs.Clauses.RunRefines.{held_stands}
-use Rattle.sh_slots.specs.declared.hand.Hand.TheVariants.{Leaving, Filling, Looking}
+use Rattle.sh_slots.specs.declared.hand.Hand.TheVariants.{Leaving, Filling, Looking, Finishing}
 use Rattle.sh_step.specs.declared.moves.Move.{Move}
 use Rattle.sh_step.specs.declared.moves.Move.TheVariants.{EnterGet, DropHold, FillSlot, ReadClass, ReadLength, ReadWord}
-use Rattle.sh_step.specs.declared.moves.Move.TheVariants.{ReadPage, SetClass, LookOn}
+use Rattle.sh_step.specs.declared.moves.Move.TheVariants.{ReadPage, SetClass, LookOn, ReadEnding}
 use Rattle.sh_step.specs.Moves.{row_of}
 use Rattle.sh_step.specs.Plans.{Plan, heap_pages}
 use Rattle.sh_step.specs.Rows.{Row, hand, freed, own, all_mine, payload_word, fill_slot, read_class, read_length}
-use Rattle.sh_step.specs.Rows.{read_word, read_page, set_class, look_on, look_place}
+use Rattle.sh_step.specs.Rows.{read_word, read_page, set_class, look_on, look_place, read_ending}
 use Rattle.sh_step.proofs.PartTests.{is_own, zero_or}
 use Rattle.sh_step.specs.Conditions.{May}
 use Rattle.sh_core.proofs.Moves.ByMove.{keys_stay}
@@ -268,6 +268,8 @@ module _ (plan : Plan) (w : World) (l : PutLists) (a : ℕ) (p : Body) (all : Ag
       (refl, refl, refl))
   owes (LookOn k x s) may = owes_read (look_on p k x s) refl (three_knows w.words
       (hand p (Looking k x (sight_with s (read w.words (look_place x s))))) words_stay (refl, refl, refl))
+  owes (ReadEnding x g s) may = owes_read (read_ending p x g s) refl (three_knows w.words
+      (hand p (Finishing x g (sight_with s (read w.words (look_place (name_at x g) s))))) words_stay (refl, refl, refl))
   owes (ReadPage q) may = owes_read (read_page p q) refl (three_knows w.words
       (record p { classes = (q, w.words.class_at q) ∷ p.classes }) words_stay (refl, refl, refl))
   owes (SetClass q c) (n, idle, inside, mine, is, full, small) = owes_set_class q n c (is_own plan p q mine) is

@@ -89,7 +89,7 @@ module _ (plan : Plan) (w : World) (laws : Lawful plan) (fills : FillsAreKeys pl
 
   stores : (a : ℕ) (p : Body) (m : Move) → slice_get w.parts a ≡ Some p → May plan p m
       → StoresWord (row_of plan p m).operation
-  stores a p (Finish x g) at is = finishes (hand_within plan p (Finishing x g) (within a p at) is).1
+  stores a p (Finish x g) at (s, is) = finishes (hand_within plan p (Finishing x g s) (within a p at) is).1
   stores a p (Take q) at may = bit_is_word 0 (omega arith)
   stores a p (Follow q s) at may = bit_is_word 0 (omega arith)
   stores a p (Put x) at is = names_slot x (hand_within plan p (ToPut x) (within a p at) is).1

@@ -25,6 +25,7 @@ use Rattle.sh_step.specs.declared.moves.Move.{Move}
 use Rattle.sh_step.specs.declared.moves.Move.TheVariants.{EnterGet, EnterRemove, Mark, Drop, DropHold, Finish, FillSlot}
 use Rattle.sh_step.specs.declared.moves.Move.TheVariants.{Fill, Publish, Take, Follow, Put, PutSlot, Tie, Adopt, Leave}
 use Rattle.sh_step.specs.declared.moves.Move.TheVariants.{Arm, Ring, RingTie, FollowBell, Look, LookOn, LookAgain}
+use Rattle.sh_step.specs.declared.moves.Move.TheVariants.{ReadEnding}
 use Rattle.sh_step.specs.Moves.{row_of}
 use Rattle.sh_step.specs.Plans.{Plan, heap_pages}
 use Rattle.sh_step.specs.Rows.{Row, own, hand as in_hand}
@@ -54,7 +55,7 @@ module _ (plan : Plan) (p : Body) (old : InHeap plan p) where
   within_drop : (x : SlotRef) (n : ℕ) → SlotWithin plan x → (fields_of n).generation ≤ plan.keys.gen_max
       → HandWithin plan (after_drop x n)
   within_drop x n w few = go ((fields_of n).present && (fields_of n).marked && ((fields_of n).count == 1)) where
-    go : (b : Bool) → HandWithin plan (cond b (Finishing x (fields_of n).generation) Idle)
+    go : (b : Bool) → HandWithin plan (cond b (Finishing x (fields_of n).generation Bare) Idle)
     go true = (w, few)
     go false = tt
 
@@ -82,12 +83,14 @@ module _ (plan : Plan) (p : Body) (old : InHeap plan p) where
     owned = old.owned;
     armed = old.armed;
   }
-  within_part (Finish x g) is n f = cond_either (InHeap plan) ((n == marked_word g) && not (g == plan.keys.gen_max))
+  within_part (ReadEnding x g s) (is, more) n f = with_hand (Finishing x g (sight_with s n))
+      (hand_within plan p (Finishing x g s) old is)
+  within_part (Finish x g) (s, is) n f = cond_either (InHeap plan) ((n == marked_word g) && not (g == plan.keys.gen_max))
       (cond (own plan p x.page) (in_hand (record p { mine = x ∷ p.mine }) Idle) (in_hand p (ToPut x)))
       (in_hand p Idle)
       (cond_either (InHeap plan) (own plan p x.page) (in_hand (record p { mine = x ∷ p.mine }) Idle)
       (in_hand p (ToPut x)) (stays (in_hand (record p { mine = x ∷ p.mine }) Idle) tt refl (λ q. omega arith))
-      (stays (in_hand p (ToPut x)) (hand_within plan p (Finishing x g) old is).0 refl (λ q. omega arith)))
+      (stays (in_hand p (ToPut x)) (hand_within plan p (Finishing x g s) old is).0 refl (λ q. omega arith)))
       (stays (in_hand p Idle) tt refl (λ q. omega arith))
   within_part (FillSlot x v) may n f = record { hand = may.1; owned = old.owned; armed = old.armed }
   within_part (Fill x v i c) (is, less, noted_is) n f = with_hand (Filling x v (i + 1))

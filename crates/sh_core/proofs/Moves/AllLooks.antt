@@ -1,22 +1,22 @@
 -- All that holds, over the loads of a look.
-use Rattle.std.proofs.Common.{◌≡◌, ℕ, ◌+◌, Bool, true, false, cond, List, [], ◌∷◌, ◌++◌, set, sym, refl, ap, ◌∙◌, subst}
+use Rattle.std.proofs.Common.{◌≡◌, ℕ, Bool, true, false, cond, List, [], ◌∷◌, ◌++◌, set, sym, refl, ap, ◌∙◌, subst}
 use Rattle.std.proofs.Common.{arith, Some, None, slice_get}
 use Rattle.sh_history.specs.declared.entry.Entry.{Entry}
 use Rattle.sh_history.specs.declared.entry.Entry.TheVariants.{Gone, Seen}
-use Rattle.sh_history.specs.History.{value_of, is_removed}
+use Rattle.sh_history.specs.History.{is_removed}
 use Rattle.sh_shape.specs.declared.places.Place.{Place}
 use Rattle.sh_shape.specs.declared.places.Place.TheVariants.{State}
 use Rattle.sh_slots.specs.declared.hand.SlotRef.{SlotRef}
 use Rattle.sh_slots.specs.declared.hand.KeyRef.{KeyRef}
-use Rattle.sh_slots.specs.declared.hand.Hand.TheVariants.{Idle, Looking}
+use Rattle.sh_slots.specs.declared.hand.Hand.TheVariants.{Idle, Looking, Finishing}
 use Rattle.sh_slots.specs.declared.hand.Sight.{Sight}
 use Rattle.sh_slots.specs.declared.hand.Sight.TheVariants.{Bare}
 use Rattle.sh_slots.specs.declared.reply.Reply.TheVariants as reply
-use Rattle.sh_slots.specs.Slots.{live_at, past_at, sight_with, value_seen}
+use Rattle.sh_slots.specs.Slots.{live_at, past_at, sight_with, value_seen, name_at}
 use Rattle.sh_step.specs.declared.body.Body.{Body}
 use Rattle.sh_word.specs.Fields.{Fields, fields_of}
 use Rattle.sh_step.specs.Plans.{Plan}
-use Rattle.sh_step.specs.Rows.{hand, peek, look, look_on, look_again, look_place, is_read}
+use Rattle.sh_step.specs.Rows.{hand, peek, look, look_on, look_again, look_place, is_read, read_ending}
 use Rattle.sh_core.specs.Words.{Words, write, read}
 use Rattle.sh_core.specs.Worlds.{World, apply, joined, entry_of, value_at}
 use Rattle.sh_core.specs.Lists.{PutLists}
@@ -112,6 +112,16 @@ module _ (plan : Plan) (w : World) (l : PutLists) (a : ℕ) (p : Body) (old : Ag
       (read w.words (look_place y s)) old at refl (λ z st. refl) refl tt
       (lists_frame plan w.words w.parts l a (hand p (Looking k y s)) _ old.lists at refl
       (old.lists.own_notes a (hand p (Looking k y s)) at))
+
+  pub all_read_ending : (x : SlotRef) (g : ℕ) (s : Sight) → slice_get w.parts a ≡ Some (hand p (Finishing x g s))
+      → Agreement plan (apply w a (read_ending (hand p (Finishing x g s)) x g s)) l
+  unfolding apply
+  all_read_ending x g s at =
+      let q : Place = look_place (name_at x g) s in
+      all_load plan w l a (hand p (Finishing x g s)) (hand p (Finishing x g (sight_with s (read w.words q)))) q
+      (read w.words q) old at refl (λ z st. refl) refl tt
+      (lists_frame plan w.words w.parts l a (hand p (Finishing x g s)) _ old.lists at refl
+      (old.lists.own_notes a (hand p (Finishing x g s)) at))
 
   pub all_look_again : (k : ℕ) (y : KeyRef) (s : Sight) → slice_get w.parts a ≡ Some (hand p (Looking k y s))
       → LookIsTrue plan w.words.class_at w.log k y s → is_read y s ≡ true

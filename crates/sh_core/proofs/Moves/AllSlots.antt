@@ -42,6 +42,8 @@ use Rattle.sh_core.proofs.Lists.StackKinds.{apart_pages}
 use Rattle.sh_core.proofs.Sums.Tests.{eqb-comm, if1_neither, cond_either}
 use Rattle.sh_core.proofs.Sums.ListCounts.{has_some}
 use Rattle.sh_core.proofs.Sums.ClassSlots.{room_placed}
+use Rattle.sh_slots.specs.declared.hand.Sight.{Sight}
+use Rattle.sh_slots.specs.declared.hand.Sight.TheVariants.{Bare}
 
 -- a part that shows the same of lists, bells, duties and owners
 abbrev pub Plain : Plan → (ℕ → ℕ) → Body → Body → Type 0
@@ -132,7 +134,7 @@ all_drop_hand plan w l a p x old at =
     all_state plan w l a (hand p (Leaving x)) x _ _ _ old at (sums_drop plan w l a p x old.sums at)
     (plain_hand plan w.words.class_at (hand p (Leaving x)) p
     ((fields_of n).present && (fields_of n).marked && ((fields_of n).count == 1))
-    (Finishing x (fields_of n).generation) Idle (refl, h) (refl, h))
+    (Finishing x (fields_of n).generation Bare) Idle (refl, h) (refl, h))
     (bounds_count plan w.words x (n - 1) _ old.bounds (fields_of-sub n some))
 
 pub all_drop_key : (plan : Plan) (w : World) (l : PutLists) (a : ℕ) (p : Body) (k : ℕ) (y : KeyRef) → Agreement plan w l
@@ -152,7 +154,7 @@ all_drop_key plan w l a p k y old at name is =
     all_state plan w l a (hand p Idle) x _ _ _ old at (sums_drop_key plan w l a p k y old.sums at name is)
     (plain_hand plan w.words.class_at (hand p Idle) (freed p k)
     ((fields_of n).present && (fields_of n).marked && ((fields_of n).count == 1))
-    (Finishing x (fields_of n).generation) Idle (refl, h) (refl, h))
+    (Finishing x (fields_of n).generation Bare) Idle (refl, h) (refl, h))
     (bounds_count plan w.words x (n - 1) _ old.bounds (fields_of-sub n some))
 
 -- one more of `mine`, on a page of the own shard
@@ -190,18 +192,18 @@ finish_next plan g n = cond (n == marked_word g)
     (word_of (record { generation = g + 1; marked = false; present = false; count = 0 })))
     n
 
-pub all_finish : (plan : Plan) (w : World) (l : PutLists) (a : ℕ) (p : Body) (x : SlotRef) (g : ℕ) → Agreement plan w l
-    → slice_get w.parts a ≡ Some (hand p (Finishing x g)) → Agreement plan
-    (apply w a (finish plan (hand p (Finishing x g)) x g)) l
-all_finish plan w l a p x g old at = go (n == marked_word g) (g == plan.keys.gen_max) (own plan p x.page) refl refl
+pub all_finish : (plan : Plan) (w : World) (l : PutLists) (a : ℕ) (p : Body) (x : SlotRef) (g : ℕ)
+    (sight : Sight) → Agreement plan w l → slice_get w.parts a ≡ Some (hand p (Finishing x g sight)) → Agreement plan
+    (apply w a (finish plan (hand p (Finishing x g sight)) x g)) l
+all_finish plan w l a p x g sight old at = go (n == marked_word g) (g == plan.keys.gen_max) (own plan p x.page) refl refl
     refl where
       n : ℕ
       n = w.words.state_at x.page x.slot
 
       h : OwnNotesOf plan w.words.class_at p
-      h = old.lists.own_notes a (hand p (Finishing x g)) at
+      h = old.lists.own_notes a (hand p (Finishing x g sight)) at
 
-      plain : (b c d : Bool) → own plan p x.page ≡ d → Plain plan w.words.class_at (hand p (Finishing x g))
+      plain : (b c d : Bool) → own plan p x.page ≡ d → Plain plan w.words.class_at (hand p (Finishing x g sight))
           (cond (b && not c) (cond d (hand (record p { mine = x ∷ p.mine }) Idle) (hand p (ToPut x))) (hand p Idle))
       plain false c d e = (refl, h)
       plain true true d e = (refl, h)
@@ -209,15 +211,15 @@ all_finish plan w l a p x g old at = go (n == marked_word g) (g == plan.keys.gen
       plain true false false e = (refl, h)
 
       go : (b c d : Bool) → (n == marked_word g) ≡ b → (g == plan.keys.gen_max) ≡ c → own plan p x.page ≡ d
-          → Agreement plan (apply w a (finish plan (hand p (Finishing x g)) x g)) l
-      go false c d e f o = all_state plan w l a (hand p (Finishing x g)) x _ _ _ old at
-          (sums_finish_fail plan w l a p x g old.sums at e) (plain (n == marked_word g) (g == plan.keys.gen_max)
+          → Agreement plan (apply w a (finish plan (hand p (Finishing x g sight)) x g)) l
+      go false c d e f o = all_state plan w l a (hand p (Finishing x g sight)) x _ _ _ old at
+          (sums_finish_fail plan w l a p x g sight old.sums at e) (plain (n == marked_word g) (g == plan.keys.gen_max)
           (own plan p x.page) refl)
           (let i : finish_next plan g n ≡ n = rw e refl in let P : ℕ → Type 0 = λ m. BoundsOf plan
           (write w.words (State x.page x.slot) m) in subst P (sym i)
           (bounds_still plan w.words x n old.bounds refl refl refl))
-      go true true d e f o = all_state plan w l a (hand p (Finishing x g)) x _ _ _ old at
-          (sums_finish_last plan w l a p x g old.sums at e f) (plain (n == marked_word g) (g == plan.keys.gen_max)
+      go true true d e f o = all_state plan w l a (hand p (Finishing x g sight)) x _ _ _ old at
+          (sums_finish_last plan w l a p x g sight old.sums at e f) (plain (n == marked_word g) (g == plan.keys.gen_max)
           (own plan p x.page) refl)
           (let i : finish_next plan g n ≡ word_of (retired_fields g) = rw (e, f) refl in let P : ℕ
           → Type 0 = λ m. BoundsOf plan (write w.words (State x.page x.slot) m)
@@ -226,7 +228,7 @@ all_finish plan w l a p x g old at = go (n == marked_word g) (g == plan.keys.gen
           (λ _. old.bounds.lengths x.page x.slot there)))
         where
           s : fields_of n ≡ record { generation = g; marked = true; present = true; count = 0 }
-          s = found_is plan w l a p x g old.sums at e
+          s = found_is plan w l a p x g sight old.sums at e
 
           range : (0 < g) × (g ≤ plan.keys.gen_max)
           range = let P : Fields → Type 0 = λ t. (0 < t.generation) × (t.generation ≤ plan.keys.gen_max)
@@ -234,7 +236,7 @@ all_finish plan w l a p x g old at = go (n == marked_word g) (g == plan.keys.gen
 
           there : ((fields_of n).present || (fields_of n).marked) ≡ true
           there = rw s refl
-      go true false d e f o = all_state plan w l a (hand p (Finishing x g)) x _ _ _ old at (sums d o)
+      go true false d e f o = all_state plan w l a (hand p (Finishing x g sight)) x _ _ _ old at (sums d o)
           (plain (n == marked_word g) (g == plan.keys.gen_max) (own plan p x.page) refl)
           (let i : finish_next plan g n ≡ word_of (reused_fields g) = rw (e, f) refl in let P : ℕ
           → Type 0 = λ m. BoundsOf plan (write w.words (State x.page x.slot) m)
@@ -244,7 +246,7 @@ all_finish plan w l a p x g old at = go (n == marked_word g) (g == plan.keys.gen
           in absurd (cc))))
         where
           s : fields_of n ≡ record { generation = g; marked = true; present = true; count = 0 }
-          s = found_is plan w l a p x g old.sums at e
+          s = found_is plan w l a p x g sight old.sums at e
 
           range : (0 < g + 1) × (g + 1 ≤ plan.keys.gen_max)
           range =
@@ -256,9 +258,9 @@ all_finish plan w l a p x g old at = go (n == marked_word g) (g == plan.keys.gen
               ≡ true = rw z (eq-eqb plan.keys.gen_max plan.keys.gen_max refl) in let v : true ≡ false = sym y ∙ f in cc)
               in (omega arith, grind arith)
 
-          sums : (d : Bool) → own plan p x.page ≡ d → Sums plan (apply w a (finish plan (hand p (Finishing x g)) x g)) l
-          sums true o = sums_finish_mine plan w l a p x g old.sums at e f o
-          sums false o = sums_finish_hand plan w l a p x g old.sums at e f o
+          sums : (d : Bool) → own plan p x.page ≡ d → Sums plan (apply w a (finish plan (hand p (Finishing x g sight)) x g)) l
+          sums true o = sums_finish_mine plan w l a p x g sight old.sums at e f o
+          sums false o = sums_finish_hand plan w l a p x g sight old.sums at e f o
 
 pub all_publish : (plan : Plan) (w : World) (l : PutLists) (a : ℕ) (p : Body) (x : SlotRef) (v : List ℕ) (i : ℕ)
     → Lawful plan → Agreement plan w l → slice_get w.parts a ≡ Some (hand p (Filling x v i)) → length v ≤ i

@@ -9,7 +9,7 @@ use Rattle.sh_step.specs.declared.moves.Move.TheVariants.{EnterGet, EnterRemove,
 use Rattle.sh_step.specs.declared.moves.Move.TheVariants.{Fill, Publish, ReadClass, ReadLength, ReadWord, ReadPage}
 use Rattle.sh_step.specs.declared.moves.Move.TheVariants.{SetClass, Take, Follow, Put, PutSlot, Tie, Adopt, Leave, Arm}
 use Rattle.sh_step.specs.declared.moves.Move.TheVariants.{Ring, RingTie, TakeBell, FollowBell, Look, LookOn, LookAgain}
-use Rattle.sh_step.specs.declared.moves.Move.TheVariants.{Peek}
+use Rattle.sh_step.specs.declared.moves.Move.TheVariants.{Peek, ReadEnding}
 use Rattle.sh_step.specs.Moves.{row_of}
 use Rattle.sh_step.specs.Plans.{Plan, Lawful}
 use Rattle.sh_step.specs.Rows.{Row, hand, all_mine, fill_in, follow_bell}
@@ -24,7 +24,7 @@ use Rattle.sh_core.proofs.Moves.ByMove.{lists_after}
 use Rattle.sh_core.proofs.Moves.AllSlots.{all_enter_get, all_enter_remove, all_mark, all_drop_hand, all_drop_key}
 use Rattle.sh_core.proofs.Moves.AllSlots.{all_finish, all_fill_slot, all_fill, all_publish}
 use Rattle.sh_core.proofs.Moves.AllReads.{all_read_class, all_read_length, all_read_word, all_read_page, all_set_class}
-use Rattle.sh_core.proofs.Moves.AllLooks.{all_peek, all_look, all_look_on, all_look_again}
+use Rattle.sh_core.proofs.Moves.AllLooks.{all_peek, all_look, all_look_on, all_look_again, all_read_ending}
 use Rattle.sh_core.proofs.Moves.AllStacks.{all_take, all_arm, all_follow, all_put, all_put_slot, all_tie}
 use Rattle.sh_core.proofs.Moves.AllBells.{all_adopt, all_leave, all_ring, all_ring_tie, all_take_bell, all_follow_bell}
 
@@ -51,7 +51,10 @@ module _ (plan : Plan) (w : World) (l : PutLists) (a : ℕ) (p : Body) (laws : L
   all_move (Drop x) is = by_hand (Drop x) (Leaving x) is (λ i. all_drop_hand plan w l a p x old i)
   all_move (DropHold k x) (idle, named, is) = by_hand (DropHold k x) Idle idle
       (λ i. all_drop_key plan w l a p k x old i named.unpacks is)
-  all_move (Finish x g) is = by_hand (Finish x g) (Finishing x g) is (λ i. all_finish plan w l a p x g old i)
+  all_move (ReadEnding x g s) (is, more) = by_hand (ReadEnding x g s) (Finishing x g s) is
+      (λ i. all_read_ending plan w l a p old x g s i)
+  all_move (Finish x g) (s, is) = by_hand (Finish x g) (Finishing x g s) is
+      (λ i. all_finish plan w l a p x g s old i)
   all_move (FillSlot x v) (idle, inside, mine, is, classed, fits) = by_hand (FillSlot x v) Idle idle
       (λ i. all_fill_slot plan w l a p x v old i (is_own plan p x.page mine) is classed fits)
   all_move (Fill x v i c) (is, less, noted_is) = by_hand (Fill x v i c) (Filling x v i) is

@@ -7,6 +7,8 @@ use Rattle.sh_history.specs.declared.entry.Entry.TheVariants.{Released}
 use Rattle.sh_slots.specs.declared.hand.SlotRef.{SlotRef}
 use Rattle.sh_slots.specs.declared.hand.KeyRef.{KeyRef}
 use Rattle.sh_slots.specs.declared.hand.Hand.TheVariants.{Idle, Removing, Finishing, ToPut}
+use Rattle.sh_slots.specs.declared.hand.Sight.{Sight}
+use Rattle.sh_slots.specs.declared.hand.Sight.TheVariants.{Bare}
 use Rattle.sh_core.specs.Words.{Words, write}
 use Rattle.sh_shape.specs.declared.places.Place.TheVariants.{State}
 use Rattle.sh_word.specs.Fields.{Fields, fields_of, word_of}
@@ -76,25 +78,26 @@ finish_keys plan w log x g old is = keys_state plan w log log x (word_of (reused
     (removals k log) (value_at w x.page x.slot) (value_at w x.page x.slot) (subst Q is s) refl refl))
 
 -- Finish that succeeds, of a slot of another's shard
-pub sums_finish_hand : (plan : Plan) (w : World) (l : PutLists) (a : ℕ) (p : Body) (x : SlotRef) (g : ℕ) → Sums plan w l
-    → slice_get w.parts a ≡ Some (hand p (Finishing x g)) → (w.words.state_at x.page x.slot == marked_word g) ≡ true
+pub sums_finish_hand : (plan : Plan) (w : World) (l : PutLists) (a : ℕ) (p : Body) (x : SlotRef) (g : ℕ) (s : Sight)
+    → Sums plan w l
+    → slice_get w.parts a ≡ Some (hand p (Finishing x g s)) → (w.words.state_at x.page x.slot == marked_word g) ≡ true
     → (g == plan.keys.gen_max) ≡ false → own plan p x.page ≡ false
-    → Sums plan (apply w a (finish plan (hand p (Finishing x g)) x g)) l
+    → Sums plan (apply w a (finish plan (hand p (Finishing x g s)) x g)) l
 unfolding apply
-sums_finish_hand plan w l a p x g sums at is more other =
+sums_finish_hand plan w l a p x g s sums at is more other =
     let m = found_marked n g is in
     let f : AddsUp (room w.words x) (queued l x) (record { generation = g; marked = true; present = true; count = 0 })
     (tally plan x (record { generation = g; marked = true; present = true; count = 0 }) w.parts) =
     let P : Fields → Type 0 = λ s. AddsUp (room w.words x) (queued l x) s (tally plan x s w.parts)
     in subst P m (sums.slots x) in
-    rw (is, more, other) (sums_at plan w l l a (hand p (Finishing x g)) (hand p (ToPut x))
+    rw (is, more, other) (sums_at plan w l l a (hand p (Finishing x g s)) (hand p (ToPut x))
     (write w.words (State x.page x.slot) (word_of (reused_fields g))) None sums at
-    (slots_state plan w.words w.parts l a (hand p (Finishing x g)) (hand p (ToPut x)) x (word_of (reused_fields g))
+    (slots_state plan w.words w.parts l a (hand p (Finishing x g s)) (hand p (ToPut x)) x (word_of (reused_fields g))
     sums.slots at (λ y st h. rw h refl)
     (rw (fields_of-word_of (reused_fields g) (omega arith))
-    (finish_hand _ _ (record { generation = g; marked = true; present = true; count = 0 }) plan w.parts a p x g refl
+    (finish_hand _ _ (record { generation = g; marked = true; present = true; count = 0 }) plan w.parts a p x g s refl
     refl at f)))
-    (finish_keys plan w.words w.log x g sums.keys m) tt (λ j. refl) ((sums.parts a (hand p (Finishing x g)) at).0, tt)
+    (finish_keys plan w.words w.log x g sums.keys m) tt (λ j. refl) ((sums.parts a (hand p (Finishing x g s)) at).0, tt)
     (λ b q _ _ h. h)) where
       n : ℕ
       n = w.words.state_at x.page x.slot
@@ -102,7 +105,7 @@ sums_finish_hand plan w l a p x g sums at is more other =
 -- Drop of a hold
 drop_key_due : (b : Bool) (g : ℕ) (plan : Plan) (p : Body) (k : ℕ) (z : KeyRef) → plan.keys.unpack k ≡ Some z
     → has (λ j. j == k) p.holds ≡ true → (y : SlotRef) (st : Fields) → same_slot y (slot_ref_of z) ≡ false
-    → due plan y st (hand (freed p k) (cond b (Finishing (slot_ref_of z) g) Idle)) ≡ due plan y st (hand p Idle)
+    → due plan y st (hand (freed p k) (cond b (Finishing (slot_ref_of z) g Bare) Idle)) ≡ due plan y st (hand p Idle)
 drop_key_due b g plan p k z name is y st h =
     let one : (f : Option KeyRef → ℕ) → f (plan.keys.unpack k) ≡ 0 → (j : ℕ) → (j == k) ≡ true → f (plan.keys.unpack j)
     ≡ 0 = λ f e j t. let i : j ≡ k = grind (arith, nat_tests) in rw i e in
@@ -112,9 +115,9 @@ drop_key_due b g plan p k z name is y st h =
     p.holds is in
     let v = total_without (λ j. stale st y (plan.keys.unpack j)) (λ j. j == k) 0 (one (stale st y) c) p.holds is in
     let fin : if1 (same_slot y (slot_ref_of z) && (g == st.generation)) ≡ 0 = rw h refl in
-    cond_either (λ u. due plan y st (hand (freed p k) u) ≡ due plan y st (hand p Idle)) b (Finishing (slot_ref_of z) g)
+    cond_either (λ u. due plan y st (hand (freed p k) u) ≡ due plan y st (hand p Idle)) b (Finishing (slot_ref_of z) g Bare)
     Idle
-    (tally_ext (due plan y st (hand (freed p k) (Finishing (slot_ref_of z) g))) (due plan y st (hand p Idle)) refl refl
+    (tally_ext (due plan y st (hand (freed p k) (Finishing (slot_ref_of z) g Bare))) (due plan y st (hand p Idle)) refl refl
     (omega arith) refl (omega arith) fin)
     (tally_ext (due plan y st (hand (freed p k) Idle)) (due plan y st (hand p Idle)) refl refl (omega arith) refl
     (omega arith) refl)
@@ -161,7 +164,7 @@ sums_drop_key plan w l a p k y g at name is =
     ) (
       omega arith,
       cond_either (FillAgrees (write w.words (State y.page y.slot) (n - 1)) (hand (freed p k) (after_drop x n))) b
-          (Finishing x (fields_of n).generation) Idle tt tt,
+          (Finishing x (fields_of n).generation Bare) Idle tt tt,
     ) (λ c q _ _ h. h) where
       n : ℕ
       n = w.words.state_at y.page y.slot

@@ -5,6 +5,8 @@ use Rattle.std.proofs.lemmas.Bool.Decides.{nat_tests}
 use Rattle.sh_slots.specs.declared.hand.SlotRef.{SlotRef}
 use Rattle.sh_slots.specs.declared.hand.KeyRef.{KeyRef}
 use Rattle.sh_slots.specs.declared.hand.Hand.TheVariants.{Idle, Removing, Leaving, Finishing, ToPut, Filling}
+use Rattle.sh_slots.specs.declared.hand.Sight.{Sight}
+use Rattle.sh_slots.specs.declared.hand.Sight.TheVariants.{Bare}
 use Rattle.sh_core.specs.Words.{Words, write}
 use Rattle.sh_shape.specs.declared.places.Place.TheVariants.{State}
 use Rattle.sh_word.specs.Fields.{Fields, fields_of}
@@ -34,9 +36,9 @@ pub drop_adds_up : (b : Bool) (r q : ℕ) (st : Fields) (plan : Plan) (ps : List
     → slice_get ps a ≡ Some (hand p (Leaving x))
     → AddsUp r q st (tally plan x st ps) → 0 < st.count → (st.present && st.marked && (st.count == 1)) ≡ b
     → AddsUp r q (record st { count = st.count - 1 }) (tally plan x (record st { count = st.count - 1 })
-    (set ps a (hand p (cond b (Finishing x st.generation) Idle))))
+    (set ps a (hand p (cond b (Finishing x st.generation Bare) Idle))))
 drop_adds_up true r q st plan ps a p x at f some is =
-    let m = tally_set plan x st ps a (hand p (Leaving x)) (hand p (Finishing x st.generation)) at in
+    let m = tally_set plan x st ps a (hand p (Leaving x)) (hand p (Finishing x st.generation Bare)) at in
     let here = if1_same_slot x in
     let there : if1 (same_slot x x && (st.generation == st.generation)) ≡ 1 = grind (arith, nat_tests) in
     record { kinds = omega arith; counts = omega arith; none_lost = omega arith; owed = λ _ _ _. omega arith }
@@ -52,7 +54,7 @@ drop_adds_up false r q st plan ps a p x at f some is =
     }
 
 pub drop_due : (b : Bool) (g : ℕ) (plan : Plan) (p : Body) (x y : SlotRef) (st : Fields) → same_slot y x ≡ false
-    → due plan y st (hand p (cond b (Finishing x g) Idle)) ≡ due plan y st (hand p (Leaving x))
+    → due plan y st (hand p (cond b (Finishing x g Bare) Idle)) ≡ due plan y st (hand p (Leaving x))
 drop_due true g plan p x y st h = rw h refl
 drop_due false g plan p x y st h = rw h refl
 
@@ -171,27 +173,27 @@ remove_adds_up r q st plan ps a p k y name now at f =
 abbrev pub reused_fields : ℕ → Fields
 reused_fields g = record { generation = g + 1; marked = false; present = false; count = 0 }
 
-pub finish_mine : (r q : ℕ) (st : Fields) (plan : Plan) (ps : List Body) (a : ℕ) (p : Body) (x : SlotRef) (g : ℕ)
+pub finish_mine : (r q : ℕ) (st : Fields) (plan : Plan) (ps : List Body) (a : ℕ) (p : Body) (x : SlotRef) (g : ℕ) (s : Sight)
     → st.present ≡ true → st.count ≡ 0
-    → slice_get ps a ≡ Some (hand p (Finishing x g)) → AddsUp r q st (tally plan x st ps)
+    → slice_get ps a ≡ Some (hand p (Finishing x g s)) → AddsUp r q st (tally plan x st ps)
     → AddsUp r q (reused_fields g) (tally plan x (reused_fields g)
     (set ps a (hand (record p { mine = x ∷ p.mine }) Idle)))
 unfolding total
-finish_mine r q st plan ps a p x g there none at f =
-    let m = tally_set plan x (reused_fields g) ps a (hand p (Finishing x g))
+finish_mine r q st plan ps a p x g s there none at f =
+    let m = tally_set plan x (reused_fields g) ps a (hand p (Finishing x g s))
     (hand (record p { mine = x ∷ p.mine }) Idle) at in
     let one = if1_same_slot x in
     let k1 : if1 (st.present || st.marked) ≡ 1 = rw there refl in
     let few = lost_le plan x (reused_fields g) (set ps a (hand (record p { mine = x ∷ p.mine }) Idle)) in
     record { kinds = omega arith; counts = omega arith; none_lost = omega arith; owed = λ c d n. cc }
 
-pub finish_hand : (r q : ℕ) (st : Fields) (plan : Plan) (ps : List Body) (a : ℕ) (p : Body) (x : SlotRef) (g : ℕ)
+pub finish_hand : (r q : ℕ) (st : Fields) (plan : Plan) (ps : List Body) (a : ℕ) (p : Body) (x : SlotRef) (g : ℕ) (s : Sight)
     → st.present ≡ true → st.count ≡ 0
-    → slice_get ps a ≡ Some (hand p (Finishing x g)) → AddsUp r q st (tally plan x st ps)
+    → slice_get ps a ≡ Some (hand p (Finishing x g s)) → AddsUp r q st (tally plan x st ps)
     → AddsUp r q (reused_fields g) (tally plan x (reused_fields g) (set ps a (hand p (ToPut x))))
 unfolding total
-finish_hand r q st plan ps a p x g there none at f =
-    let m = tally_set plan x (reused_fields g) ps a (hand p (Finishing x g)) (hand p (ToPut x)) at in
+finish_hand r q st plan ps a p x g s there none at f =
+    let m = tally_set plan x (reused_fields g) ps a (hand p (Finishing x g s)) (hand p (ToPut x)) at in
     let one = if1_same_slot x in
     let k1 : if1 (st.present || st.marked) ≡ 1 = rw there refl in
     let few = lost_le plan x (reused_fields g) (set ps a (hand p (ToPut x))) in
@@ -242,10 +244,10 @@ pub drop_key_adds_up : (b : Bool) (r q : ℕ) (st : Fields) (plan : Plan) (ps : 
     → slice_get ps a ≡ Some (hand p Idle) → AddsUp r q st (tally plan (slot_ref_of y) st ps) → 0 < st.count
     → (st.present && st.marked && (st.count == 1)) ≡ b
     → AddsUp r q (record st { count = st.count - 1 }) (tally plan (slot_ref_of y) (record st { count = st.count - 1 })
-    (set ps a (hand (freed p k) (cond b (Finishing (slot_ref_of y) st.generation) Idle))))
+    (set ps a (hand (freed p k) (cond b (Finishing (slot_ref_of y) st.generation Bare) Idle))))
 drop_key_adds_up true r q st plan ps a p k y name is at f some last =
     let x : SlotRef = slot_ref_of y in
-    let m = tally_set plan x st ps a (hand p Idle) (hand (freed p k) (Finishing x st.generation)) at in
+    let m = tally_set plan x st ps a (hand p Idle) (hand (freed p k) (Finishing x st.generation Bare)) at in
     let e = same_slot-refl x in
     let there : if1 (same_slot x x && (st.generation == st.generation)) ≡ 1 = grind (arith, nat_tests) in
     let here : if1 (at_slot x (plan.keys.unpack k)) ≡ 1 = rw (name, e) refl in

@@ -34,6 +34,7 @@ use Rattle.sh_core.proofs.Slots.Logs.{values_append, values_none, removals_snoc,
 use Rattle.sh_core.proofs.Slots.MarkStep.{same_key, apart_key, other_key}
 use Rattle.sh_core.proofs.Slots.SumsStep.{sums_at}
 use Rattle.sh_core.proofs.Sums.Tests.{if1_few, if1_one, if1_none, if1_neither, cond_either}
+use Rattle.sh_slots.specs.declared.hand.Sight.TheVariants.{Bare}
 
 -- a step that leaves generation, M and P, with no entry
 pub keys_still : (plan : Plan) (w : Words) (log : List Entry) (x : SlotRef) (n : ℕ) → KeysAgree plan w log
@@ -65,7 +66,7 @@ sums_drop plan w l a p x g at =
       (g.parts a (hand p (Leaving x)) at).0,
       cond_either (FillAgrees (write w.words (State x.page x.slot) (n - 1)) (hand p (after_drop x n)))
           ((fields_of n).present && (fields_of n).marked && ((fields_of n).count == 1))
-          (Finishing x (fields_of n).generation) Idle tt tt,
+          (Finishing x (fields_of n).generation Bare) Idle tt tt,
     ) (λ b q _ _ h. h) where
       n : ℕ
       n = w.words.state_at x.page x.slot

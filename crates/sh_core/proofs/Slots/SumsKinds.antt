@@ -33,6 +33,7 @@ use Rattle.sh_core.proofs.Slots.CrowdedAndClass.{crowded_permitted}
 use Rattle.sh_core.proofs.Sums.Tests.{eqb-comm}
 use Rattle.sh_core.proofs.Sums.ListCounts.{times_cons, times_none}
 use Rattle.sh_core.proofs.Sums.Writes.{put_same, put_other}
+use Rattle.sh_slots.specs.declared.hand.Sight.{Sight}
 
 -- words other than those that slots and keys read
 abbrev pub beside : Words → (ℕ → ℕ) → (ℕ → ℕ) → (ℕ → ℕ → ℕ) → (ℕ → ℕ) → (ℕ → ℕ) → Words
@@ -159,17 +160,17 @@ sums_follow plan w l a p p' q s li g at is moves holds fill = sums_at plan w l L
         go false e = rw (put_other l.chain q y.page (drop 1 (l.chain q)) e) (omega arith)
 
 -- Finish that fails
-pub sums_finish_fail : (plan : Plan) (w : World) (l : PutLists) (a : ℕ) (p : Body) (x : SlotRef) (g : ℕ) → Sums plan w l
-    → slice_get w.parts a ≡ Some (hand p (Finishing x g)) → (w.words.state_at x.page x.slot == marked_word g) ≡ false
-    → Sums plan (apply w a (finish plan (hand p (Finishing x g)) x g)) l
+pub sums_finish_fail : (plan : Plan) (w : World) (l : PutLists) (a : ℕ) (p : Body) (x : SlotRef) (g : ℕ) (sight : Sight)
+    → Sums plan w l → slice_get w.parts a ≡ Some (hand p (Finishing x g sight)) → (w.words.state_at x.page x.slot == marked_word g) ≡ false
+    → Sums plan (apply w a (finish plan (hand p (Finishing x g sight)) x g)) l
 unfolding apply
-sums_finish_fail plan w l a p x g sums at fails =
-    rw fails (sums_at plan w l l a (hand p (Finishing x g)) (hand p Idle) (write w.words (State x.page x.slot) n) None
+sums_finish_fail plan w l a p x g sight sums at fails =
+    rw fails (sums_at plan w l l a (hand p (Finishing x g sight)) (hand p Idle) (write w.words (State x.page x.slot) n) None
     sums at
-    (slots_state plan w.words w.parts l a (hand p (Finishing x g)) (hand p Idle) x n sums.slots at (λ y st h. rw h refl)
+    (slots_state plan w.words w.parts l a (hand p (Finishing x g sight)) (hand p Idle) x n sums.slots at (λ y st h. rw h refl)
     here)
     (keys_still plan w.words w.log x n sums.keys refl refl refl) tt (λ j. refl)
-    ((sums.parts a (hand p (Finishing x g)) at).0, tt) (λ b q _ _ h. h)) where
+    ((sums.parts a (hand p (Finishing x g sight)) at).0, tt) (λ b q _ _ h. h)) where
       n : ℕ
       n = w.words.state_at x.page x.slot
 
@@ -187,7 +188,7 @@ sums_finish_fail plan w l a p x g sums at fails =
       here : AddsUp (room w.words x) (queued l x) st (tally plan x st (set w.parts a (hand p Idle)))
       here =
           let f = sums.slots x in
-          let m = tally_set plan x st w.parts a (hand p (Finishing x g)) (hand p Idle) at in
+          let m = tally_set plan x st w.parts a (hand p (Finishing x g sight)) (hand p Idle) at in
           record {
             kinds = omega arith;
             counts = omega arith;
@@ -198,7 +199,7 @@ sums_finish_fail plan w l a p x g sums at fails =
             go : st.present ≡ true → st.marked ≡ true → st.count ≡ 0 → (b : Bool)
                 → (same_slot x x && (g == st.generation)) ≡ b → 0 < total (finishing x st.generation) w.parts
                 → 0 < total (finishing x st.generation) (set w.parts a (hand p Idle))
-            go b c d false e o = let m = total_set (finishing x st.generation) w.parts a (hand p (Finishing x g))
+            go b c d false e o = let m = total_set (finishing x st.generation) w.parts a (hand p (Finishing x g sight))
                 (hand p Idle) at in let z : if1 (same_slot x x && (g == st.generation)) ≡ 0 = rw e refl in omega arith
             go b c d true e o =
                 let k : (g == st.generation) ≡ true = (let t : (true && (g == st.generation))
@@ -208,8 +209,9 @@ sums_finish_fail plan w l a p x g sums at fails =
 abbrev pub retired_fields : ℕ → Fields
 retired_fields g = record { generation = g; marked = true; present = false; count = 0 }
 
-module _ (plan : Plan) (w : World) (l : PutLists) (a : ℕ) (p : Body) (x : SlotRef) (g : ℕ) (sums : Sums plan w l)
-    (at : slice_get w.parts a ≡ Some (hand p (Finishing x g)))
+module _ (plan : Plan) (w : World) (l : PutLists) (a : ℕ) (p : Body) (x : SlotRef) (g : ℕ) (sight : Sight)
+    (sums : Sums plan w l)
+    (at : slice_get w.parts a ≡ Some (hand p (Finishing x g sight)))
     (is : (w.words.state_at x.page x.slot == marked_word g) ≡ true) where
   abbrev st0 : Fields
   st0 = record { generation = g; marked = true; present = true; count = 0 }
@@ -223,35 +225,35 @@ module _ (plan : Plan) (w : World) (l : PutLists) (a : ℕ) (p : Body) (x : Slot
 
   -- Finish of an own slot
   pub sums_finish_mine : (g == plan.keys.gen_max) ≡ false → own plan p x.page ≡ true
-      → Sums plan (apply w a (finish plan (hand p (Finishing x g)) x g)) l
+      → Sums plan (apply w a (finish plan (hand p (Finishing x g sight)) x g)) l
   unfolding apply total
-  sums_finish_mine more mine = rw (is, more, mine) (sums_at plan w l l a (hand p (Finishing x g))
+  sums_finish_mine more mine = rw (is, more, mine) (sums_at plan w l l a (hand p (Finishing x g sight))
       (hand (record p { mine = x ∷ p.mine }) Idle) (write w.words (State x.page x.slot) (word_of (reused_fields g)))
       None sums at
-      (slots_state plan w.words w.parts l a (hand p (Finishing x g)) (hand (record p { mine = x ∷ p.mine }) Idle) x
+      (slots_state plan w.words w.parts l a (hand p (Finishing x g sight)) (hand (record p { mine = x ∷ p.mine }) Idle) x
       (word_of (reused_fields g)) sums.slots at
       (λ y st h. let z : if1 (same_slot y x) ≡ 0 = rw h refl in let f : if1 (same_slot y x && (g == st.generation))
       ≡ 0 = rw h refl in tally_ext _ _ (omega arith) refl refl refl refl (sym f))
       (rw (fields_of-word_of (reused_fields g) (omega arith))
-      (finish_mine _ _ st0 plan w.parts a p x g refl refl at fine0)))
+      (finish_mine _ _ st0 plan w.parts a p x g sight refl refl at fine0)))
       (finish_keys plan w.words w.log x g sums.keys found_is) tt (λ j. refl)
-      ((sums.parts a (hand p (Finishing x g)) at).0, tt) (λ b q _ _ h. h))
+      ((sums.parts a (hand p (Finishing x g sight)) at).0, tt) (λ b q _ _ h. h))
 
   -- Finish of the last generation
   pub sums_finish_last : (g == plan.keys.gen_max) ≡ true → Sums plan
-      (apply w a (finish plan (hand p (Finishing x g)) x g)) l
+      (apply w a (finish plan (hand p (Finishing x g sight)) x g)) l
   unfolding apply
-  sums_finish_last last = rw (is, last) (sums_at plan w l l a (hand p (Finishing x g)) (hand p Idle)
+  sums_finish_last last = rw (is, last) (sums_at plan w l l a (hand p (Finishing x g sight)) (hand p Idle)
       (write w.words (State x.page x.slot) (word_of (retired_fields g))) None sums at
-      (slots_state plan w.words w.parts l a (hand p (Finishing x g)) (hand p Idle) x (word_of (retired_fields g))
+      (slots_state plan w.words w.parts l a (hand p (Finishing x g sight)) (hand p Idle) x (word_of (retired_fields g))
       sums.slots at (λ y st h. rw h refl)
       (rw (fields_of-word_of (retired_fields g) (omega arith)) here)) keys tt (λ j. refl)
-      ((sums.parts a (hand p (Finishing x g)) at).0, tt) (λ b q _ _ h. h)) where
+      ((sums.parts a (hand p (Finishing x g sight)) at).0, tt) (λ b q _ _ h. h)) where
         here : AddsUp (room w.words x) (queued l x) (retired_fields g)
             (tally plan x (retired_fields g) (set w.parts a (hand p Idle)))
         here =
             let f = fine0 in
-            let m = tally_set plan x (retired_fields g) w.parts a (hand p (Finishing x g)) (hand p Idle) at in
+            let m = tally_set plan x (retired_fields g) w.parts a (hand p (Finishing x g sight)) (hand p Idle) at in
             let few = lost_le plan x (retired_fields g) (set w.parts a (hand p Idle)) in
             record { kinds = omega arith; counts = omega arith; none_lost = omega arith; owed = λ c d n. cc }
 

@@ -46,6 +46,12 @@ unfolding run_from
 run_snoc plan w [] e = refl
 run_snoc plan w (d ∷ es) e = run_snoc plan (step plan w d) es e
 
+pub run_append : (plan : Plan) (w : World) (xs ys : List Event) → run_from plan w (xs ++ ys)
+    ≡ run_from plan (run_from plan w xs) ys
+unfolding run_from
+run_append plan w [] ys = refl
+run_append plan w (x ∷ xs) ys = run_append plan (step plan w x) xs ys
+
 pub run_none : (plan : Plan) (w : World) → run_from plan w [] ≡ w
 unfolding run_from
 run_none plan w = refl

@@ -14,8 +14,12 @@ use sh_slots::SlotRef;
 use sh_states::PageStates;
 use sh_value::{Hold, Refusal, Value};
 
-// Puts a slot that the owner gained in front of `local`. Returns its page's number in the shard.
-fn push_gained(states: &mut PageStates, shard: u64, gained: Option<SlotRef>) -> Option<u64>
+/// Puts a slot that the owner gained in front of `local`. Returns its page's number in the shard.
+pub(super) fn push_gained(
+    states: &mut PageStates,
+    shard: u64,
+    gained: Option<SlotRef>,
+) -> Option<u64>
     requires few { shard * length states.old + length states.old ≤ 2 ^ 24 }
     requires may { MayGain shard states.old gained }
     ensures { PushesGained shard gained states.old result states.new }

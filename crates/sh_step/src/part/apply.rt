@@ -45,6 +45,12 @@ impl Part {
                 *generation,
                 found,
             ),
+            Move::ReadEnding(slot_ref, generation, sight) => Ok(self.read_ending(
+                *slot_ref,
+                *generation,
+                sight,
+                found,
+            )),
             Move::FillSlot(slot_ref, value) => Ok(self.fill_slot(*slot_ref, value)),
             Move::Fill(slot_ref, value, i, _) => Ok(self.fill(*slot_ref, value, *i)),
             Move::Publish(slot_ref, value) => Ok(self.publish::<L>(shape, *slot_ref, value, found)),

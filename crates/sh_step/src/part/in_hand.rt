@@ -3,7 +3,7 @@ ghost use Rattle.std.specs.Prelude.{◌≡◌, ◌+◌, ◌≤◌, ℕ, None, If
 ghost use Rattle.sh_shape.specs.Places.{all_pages};
 ghost use Rattle.sh_step.specs.Plans.{Plan, plan_of};
 ghost use Rattle.sh_step.specs.Parts.{ListGrows};
-ghost use Rattle.sh_step.specs.Rows.{drop_hand, finish, put_at, tie, ring, ring_tie};
+ghost use Rattle.sh_step.specs.Rows.{drop_hand, read_ending, finish, put_at, tie, ring, ring_tie};
 
 use super::Part;
 use crate::operands::gen_max;
@@ -11,7 +11,7 @@ use crate::paged::owns;
 use sh_bell::{is_armed, top_of};
 use sh_key::KeyLayout;
 use sh_shape::Shape;
-use sh_slots::{Hand, Reply, SlotRef, after_drop, is_reusable_after};
+use sh_slots::{Hand, Reply, Sight, SlotRef, after_drop, is_reusable_after};
 use sh_stack::link_over;
 use sh_value::Refusal;
 
@@ -22,6 +22,21 @@ impl Part {
         ensures part { self.new ≡ (drop_hand self.old slot_ref).part found }
     {
         self.hand = after_drop(slot_ref, found);
+        None
+    }
+
+    // Reads on of the value whose generation it is to end; the step found this word.
+    pub(super) fn read_ending(
+        &mut self,
+        slot_ref: SlotRef,
+        generation: u32,
+        sight: &Sight,
+        found: u64,
+    ) -> Option<Reply>
+        ensures reply { result ≡ None }
+        ensures part { self.new ≡ (read_ending self.old slot_ref generation sight.now).part found }
+    {
+        self.hand = Hand::Finishing(slot_ref, generation, sight.with(found));
         None
     }
 

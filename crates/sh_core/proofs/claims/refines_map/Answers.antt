@@ -96,3 +96,6 @@ returns-clause-hands c = λ layout shape a b f es. (theorem layout shape a b f e
 
 pub returns-clause-goes_on : goal.returns-clause-goes_on
 returns-clause-goes_on c = λ layout shape a b f es. (theorem layout shape a b f es).goes_on
+
+pub returns-clause-ends : goal.returns-clause-ends
+returns-clause-ends c = λ layout shape a b f es. (theorem layout shape a b f es).ends

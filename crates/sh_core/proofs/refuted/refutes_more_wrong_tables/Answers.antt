@@ -23,6 +23,8 @@ use Rattle.sh_core.proofs.Examples.MoreWrongRows.{fourth_generation_is_issued}
 use Rattle.sh_core.proofs.Examples.MoreWrongRows.{end_of_a_word_is_no_word}
 use Rattle.sh_core.proofs.Examples.LookRows.{removed_key_is_seen, another_value_is_seen, another_class_is_seen}
 use Rattle.sh_core.proofs.Examples.LookRows.{early_key_is_gone}
+use Rattle.sh_core.proofs.Examples.EndRows.{end_comes_under_a_hold, another_key_ends, next_value_is_read}
+use Rattle.sh_core.proofs.Examples.EndRows.{key_ends_again}
 use Rattle.sh_core.proofs.refuted.refutes_more_wrong_tables.Goals as goal
 
 pub returns-clause-retires_early : goal.returns-clause-retires_early
@@ -105,3 +107,15 @@ returns-clause-looks_at_a_head c = another_class_is_seen
 
 pub returns-clause-is_gone_early : goal.returns-clause-is_gone_early
 returns-clause-is_gone_early c = early_key_is_gone
+
+pub returns-clause-ends_under_holds : goal.returns-clause-ends_under_holds
+returns-clause-ends_under_holds c = end_comes_under_a_hold
+
+pub returns-clause-ends_another_key : goal.returns-clause-ends_another_key
+returns-clause-ends_another_key c = another_key_ends
+
+pub returns-clause-reads_next_value : goal.returns-clause-reads_next_value
+returns-clause-reads_next_value c = next_value_is_read
+
+pub returns-clause-leaves_marked_word : goal.returns-clause-leaves_marked_word
+returns-clause-leaves_marked_word c = key_ends_again

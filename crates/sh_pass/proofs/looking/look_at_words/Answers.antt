@@ -8,14 +8,8 @@ use Rattle.sh_step.specs.Rows.{payload_word}
 use Rattle.sh_table.specs.declared.view.View.{View}
 use Rattle.sh_pass.specs.Looking.{IsLooking}
 use Rattle.sh_pass.proofs.LookLaws.{can_look_on, can_look_again, looks_on, sight_more, look_sees, look_loses}
-use Rattle.sh_pass.proofs.LookLaws.{more_to_read, all_read}
+use Rattle.sh_pass.proofs.LookLaws.{length_taken, more_to_read, all_read}
 use Rattle.sh_pass.proofs.looking.look_at_words.Goals as goal
-
-length_taken : (i : ℕ) (xs : List ℕ) → i ≤ length xs → length (take i xs) ≡ i
-length_taken zero [] few = refl
-length_taken zero (x ∷ xs) few = refl
-length_taken (suc i) [] few = absurd (omega arith)
-length_taken (suc i) (x ∷ xs) few = ap suc (length_taken i xs (omega arith))
 
 pub loop-i-init : goal.loop-i-init
 loop-i-init g c = (c.requires.seat, λ v r. r, refl)

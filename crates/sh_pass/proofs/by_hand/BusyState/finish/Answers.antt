@@ -21,12 +21,12 @@ pub finish-found-requires : goal.finish-found-requires
 finish-found-requires g c = record {
   seat = c.requires.seat;
   may = may_finish _ c.args.self.now.seated.seat.me.0.own.body
-      c.in-Finishing.slot_ref c.in-Finishing.generation (c.requires.hand ∙ c.in-Finishing.is);
+      c.in-Finishing.slot_ref c.in-Finishing.generation _ (c.requires.hand ∙ c.in-Finishing.is);
 }
 
 pub returns-clause-acts : goal.returns-clause-acts
 returns-clause-acts g c = done action.Finish (move.Finish c.in-Finishing.slot_ref c.in-Finishing.generation) refl
-    (may_finish _ c.args.self.now.seated.seat.me.0.own.body c.in-Finishing.slot_ref c.in-Finishing.generation
+    (may_finish _ c.args.self.now.seated.seat.me.0.own.body c.in-Finishing.slot_ref c.in-Finishing.generation _
     (c.requires.hand ∙ c.in-Finishing.is)) c.finish-found.ensures
 
 pub returns-clause-busy : goal.returns-clause-busy
