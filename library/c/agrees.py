@@ -29,6 +29,7 @@ TYPES = {
     '&mut PageReport': ['shardheap_page *'], '&mut SumsReport': ['shardheap_sums *'],
     '&mut [Loaded]': ['shardheap_loaded *', 'size_t'],
     '&mut LiveKey': ['shardheap_live_key *'], '&mut HeldKey': ['shardheap_held_key *'],
+    '&mut Ended': ['shardheap_ended *'],
     '': ['void'],
 }
 
@@ -67,7 +68,7 @@ def record_of(text, pattern, field):
 def records():
     """The fields of each record, in the library and in the header: the type and the name of each."""
     for rust, c in (('PageReport', 'shardheap_page'), ('SumsReport', 'shardheap_sums'), ('Loaded', 'shardheap_loaded'),
-                    ('LiveKey', 'shardheap_live_key'), ('HeldKey', 'shardheap_held_key')):
+                    ('LiveKey', 'shardheap_live_key'), ('HeldKey', 'shardheap_held_key'), ('Ended', 'shardheap_ended')):
         library = record_of(SOURCES, rf'pub struct {rust} \{{(.*?)\n\}}', r'pub (\w+): ([^,]+),')
         header = record_of(HEADER, rf'typedef struct {c} \{{(.*?)\n\}} {c};', r'^ +uint(\d+)_t (\w+)(?:\[(\d+)\])?;')
         yield (c, library and [(FIELDS.get(kind, kind), name) for name, kind in library],

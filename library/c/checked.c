@@ -45,7 +45,7 @@ static void refused(shardheap *heap, shardheap_pass *pass, uint64_t key, uint32_
     each_call_of_a_heap(heap, code);
     TRUE(misuses - before == 15 && last_misuse == code);
     each_call_of_a_pass(pass, key, code);
-    TRUE(misuses - before == 15 + 25 && last_misuse == code);
+    TRUE(misuses - before == 15 + 31 && last_misuse == code);
 }
 
 static void copied_and_moved(void) {
@@ -118,6 +118,19 @@ static void example_two_threads(void) {
     closes(&heap, &shared, shared_key);
 }
 
+/* A key of another heap ends nothing. */
+static void tells_no_end(shardheap_pass *pass, uint64_t key) {
+    shardheap_ended ended[3] = {{66, 55, {0}}, {66, 55, {0}}, {66, 55, {0}}};
+    uint64_t over[3] = {66, 66, 66};
+    IS(shardheap_get_ended(pass, key, &ended[0]), SHARDHEAP_OTHER_HEAP);
+    IS(shardheap_release_ended(pass, key, &ended[1]), SHARDHEAP_OTHER_HEAP);
+    IS(shardheap_remove_ended(pass, key, &ended[2]), SHARDHEAP_OTHER_HEAP);
+    IS(shardheap_get_ended_key(pass, key, &over[0]), SHARDHEAP_OTHER_HEAP);
+    IS(shardheap_release_ended_key(pass, key, &over[1]), SHARDHEAP_OTHER_HEAP);
+    IS(shardheap_remove_ended_key(pass, key, &over[2]), SHARDHEAP_OTHER_HEAP);
+    for (int n = 0; n < 3; n++) TRUE(ended[n].key == 0 && ended[n].length == 0 && over[n] == 0);
+}
+
 /* A key of one heap in another that has the same number: refused, if keys have room for the heap's number. */
 static void another_heap(uint32_t layout) {
     shardheap heaps[2] = {SHARDHEAP_INIT, SHARDHEAP_INIT};
@@ -139,6 +152,7 @@ static void another_heap(uint32_t layout) {
     IS(shardheap_read(&passes[0], keys[1], room, 16, &length), SHARDHEAP_OTHER_HEAP);
     IS(shardheap_release(&passes[0], keys[1]), SHARDHEAP_OTHER_HEAP);
     TRUE(length == 99);
+    tells_no_end(&passes[0], keys[1]);
     IS(shardheap_release(&passes[0], keys[0]), SHARDHEAP_OK);
     closes(&heaps[0], &passes[0], keys[0]);
     IS(shardheap_get(&passes[0], keys[1]), SHARDHEAP_EMPTY);

@@ -51,7 +51,8 @@ static void each_call_of_a_pass(shardheap_pass *pass, uint64_t key, uint32_t ref
     shardheap_loaded batch[1] = {{key, 99, 66, {0}}};
     shardheap_live_key live = {66, 55, 44, {0}};
     shardheap_held_key held = {66, 55, 44};
-    uint64_t words[16] = {0}, length = 99, other = 77, place = 44;
+    shardheap_ended ended[3] = {{66, 55, {0}}, {66, 55, {0}}, {66, 55, {0}}};
+    uint64_t words[16] = {0}, length = 99, other = 77, place = 44, over[3] = {66, 66, 66};
     uint32_t page = 55;
     IS(shardheap_give(pass), refused);
     IS(shardheap_get(pass, key), refused);
@@ -61,6 +62,12 @@ static void each_call_of_a_pass(shardheap_pass *pass, uint64_t key, uint32_t ref
     IS(shardheap_load(pass, key, words, 16, &length), refused);
     IS(shardheap_load_each(pass, batch, 1), refused);
     IS(shardheap_take_value(pass, key, words, 16, &length), refused);
+    IS(shardheap_get_ended(pass, key, &ended[0]), refused);
+    IS(shardheap_release_ended(pass, key, &ended[1]), refused);
+    IS(shardheap_remove_ended(pass, key, &ended[2]), refused);
+    IS(shardheap_get_ended_key(pass, key, &over[0]), refused);
+    IS(shardheap_release_ended_key(pass, key, &over[1]), refused);
+    IS(shardheap_remove_ended_key(pass, key, &over[2]), refused);
     IS(shardheap_receipt_make(pass, &receipt), refused);
     IS(shardheap_heed(pass, &receipt), refused);
     IS(shardheap_pages_left(pass, &other), refused);
@@ -82,6 +89,7 @@ static void each_call_of_a_pass(shardheap_pass *pass, uint64_t key, uint32_t ref
     TRUE(length == 99 && other == 77 && page == 55 && place == 44 && words[0] == 0);
     TRUE(live.key == 66 && live.behind == 55 && live.length == 44 && live.words[0] == 0);
     TRUE(held.key == 66 && held.behind == 55 && held.held == 44);
+    for (int n = 0; n < 3; n++) TRUE(ended[n].key == 0 && ended[n].length == 0 && over[n] == 0);
     TRUE(batch[0].key == key && batch[0].length == 99 && batch[0].code == 66 && batch[0].words[0] == 0);
 }
 

@@ -65,7 +65,16 @@ static void handle_one(uint64_t key) {
     must(shardheap_take_value(&handlers, key, words, 16, &length), SHARDHEAP_GONE, "signals: taken\n");
     must(shardheap_read(&handlers, key, words, 16, &length), SHARDHEAP_OK, "signals: read\n");
     check_value(words, length, words[0]);
-    must(shardheap_release(&handlers, key), SHARDHEAP_OK, "signals: release\n");
+    shardheap_ended ended;
+    must(shardheap_get_ended(&handlers, key, &ended), SHARDHEAP_GONE, "signals: get_ended\n");
+    must(shardheap_remove_ended(&handlers, key, &ended), SHARDHEAP_GONE, "signals: remove_ended\n");
+    if (key % 2) {
+        must(shardheap_release(&handlers, key), SHARDHEAP_OK, "signals: release\n");
+    } else {
+        must(shardheap_release_ended(&handlers, key, &ended), SHARDHEAP_OK, "signals: release_ended\n");
+        if (ended.key != key) fail("signals: the key that ended\n");
+        check_value(ended.words, ended.length, words[0]);
+    }
     must(shardheap_load(&handlers, key, words, 16, &length), SHARDHEAP_GONE, "signals: gone\n");
     atomic_fetch_add(&handled, 1);
 }

@@ -29,6 +29,7 @@ static shardheap_sums sums;
 static shardheap_loaded batch[9];
 static shardheap_live_key live;
 static shardheap_held_key held;
+static shardheap_ended ended;
 
 static void on_the_stack(void) { action(); }
 
@@ -97,6 +98,15 @@ static void load_each(void) {
 }
 static void take_value(void) { code = shardheap_take_value(&pass, key, room, 16, &length); }
 static void own_take_value(void) { code = shardheap_take_value(&owner, key, room, 16, &length); }
+static void get_ended(void) { code = shardheap_get_ended(&pass, key, &ended); }
+static void release_ended(void) { code = shardheap_release_ended(&pass, key, &ended); }
+static void remove_ended(void) { code = shardheap_remove_ended(&pass, key, &ended); }
+static void own_release_ended(void) { code = shardheap_release_ended(&owner, key, &ended); }
+static void own_remove_ended(void) { code = shardheap_remove_ended(&owner, key, &ended); }
+static void own_get_ended(void) { code = shardheap_get_ended_key(&owner, key, &number); }
+static void get_ended_key(void) { code = shardheap_get_ended_key(&pass, key, &number); }
+static void release_ended_key(void) { code = shardheap_release_ended_key(&pass, key, &number); }
+static void remove_ended_key(void) { code = shardheap_remove_ended_key(&pass, key, &number); }
 static void make_receipt(void) { code = shardheap_receipt_make(&pass, &receipt); }
 static void own_receipt(void) { code = shardheap_receipt_make(&owner, &receipt); }
 static void heed(void) { code = shardheap_heed(&pass, &receipt); }
@@ -144,6 +154,30 @@ static void one_taken(uint64_t count) {
     SHORT_CALL(get);
     SHORT_CALL(own_take_value);
     SHORT_CALL(release);
+}
+
+/* Values of `count` words that end by a release or a remove of either, with their words or without. */
+static void ends(uint64_t count) {
+    length = count;
+    LONG_CALL(insert);
+    SHORT_CALL(get_ended);
+    SHORT_CALL(remove_ended);
+    SHORT_CALL(get_ended);
+    SHORT_CALL(release_ended);
+    TRUE(ended.key == key && ended.length == count);
+    LONG_CALL(insert);
+    SHORT_CALL(own_get_ended);
+    SHORT_CALL(remove_ended_key);
+    SHORT_CALL(own_release_ended);
+    TRUE(ended.key == key && ended.length == count);
+    LONG_CALL(insert);
+    SHORT_CALL(own_remove_ended);
+    TRUE(ended.key == key && ended.length == count);
+    LONG_CALL(insert);
+    SHORT_CALL(get_ended_key);
+    SHORT_CALL(own_remove);
+    SHORT_CALL(release_ended_key);
+    TRUE(number == key);
 }
 
 /* Receipts of each, by each; and what the owner knows. */
@@ -208,6 +242,7 @@ static void a_heap(void) {
     LONG_CALL(adopt);
     for (uint64_t count = 0; count <= 17; count++) one_value(count);
     for (uint64_t count = 0; count <= 16; count++) one_taken(count);
+    for (uint64_t count = 0; count <= 16; count++) ends(count);
     receipts();
     walks();
     many_values();
@@ -246,8 +281,10 @@ static void a_growing_heap(void) {
         GROWING_CALL(read);
         GROWING_CALL(load);
         GROWING_CALL(load_each);
-        GROWING_CALL(remove_key);
-        GROWING_CALL(release);
+        GROWING_CALL(remove_ended);
+        GROWING_CALL(get_ended);
+        GROWING_CALL(release_ended);
+        TRUE(ended.key == key);
     }
     GROWING_CALL(count_room);
     GROWING_CALL(collect);

@@ -15,6 +15,10 @@ static bool is_odd(void *none, const shardheap_live_key *met) {
     return none == NULL && met->words[0] % 2 == 1;
 }
 
+static void ends(void *none, const shardheap_ended *ended) {
+    (void)none, (void)ended;
+}
+
 /* Calls that do nothing: pointers that are null or overlap, and a handle that is empty, full or none. */
 static void refuses(void) {
     static union {
@@ -36,6 +40,7 @@ static void refuses(void) {
     IS(shardheap_table_take(table, 1, room, 16, &length), refused);
     IS(shardheap_table_next(table, 0, &next), refused);
     IS(shardheap_table_remove_if(table, is_odd, NULL, &key), refused);
+    IS(shardheap_table_on_end(table, ends, NULL), refused);
     IS(shardheap_table_enter(table), refused);
     IS(shardheap_table_rest(table), refused);
     TRUE(shardheap_table_length(table) == 0);
@@ -57,6 +62,7 @@ static void refuses(void) {
     IS(shardheap_table_remove_if(NULL, is_odd, NULL, &key), SHARDHEAP_NULL);
     IS(shardheap_table_remove_if(&none, NULL, NULL, &key), SHARDHEAP_NULL);
     IS(shardheap_table_remove_if(&none, is_odd, NULL, NULL), SHARDHEAP_NULL);
+    IS(shardheap_table_on_end(NULL, ends, NULL), SHARDHEAP_NULL);
     IS(shardheap_table_enter(NULL), SHARDHEAP_NULL);
     IS(shardheap_table_rest(NULL), SHARDHEAP_NULL);
     TRUE(shardheap_table_length(NULL) == 0);
@@ -70,6 +76,7 @@ static void refuses(void) {
     IS(shardheap_table_take(table, 1, room, 16, &length), SHARDHEAP_EMPTY);
     IS(shardheap_table_next(table, 0, &next), SHARDHEAP_EMPTY);
     IS(shardheap_table_remove_if(table, is_odd, NULL, &key), SHARDHEAP_EMPTY);
+    IS(shardheap_table_on_end(table, ends, NULL), SHARDHEAP_EMPTY);
     IS(shardheap_table_enter(table), SHARDHEAP_EMPTY);
     IS(shardheap_table_rest(table), SHARDHEAP_EMPTY);
     shardheap_table_close(table);
@@ -138,6 +145,7 @@ static void serves_one(void) {
     shardheap_live_key next;
     IS(shardheap_table_next(&copy, 0, &next), refused);
     IS(shardheap_table_remove_if(&copy, is_odd, NULL, &key), refused);
+    IS(shardheap_table_on_end(&copy, ends, NULL), refused);
     IS(shardheap_table_enter(&copy), refused);
     IS(shardheap_table_rest(&copy), refused);
 #endif
@@ -212,7 +220,7 @@ static void takes_over(void) {
     shardheap_table_close(&table);
 }
 
-static pthread_barrier_t begins, ends;
+static pthread_barrier_t begins, over;
 
 static void *enters(void *none) {
     uint64_t key;
@@ -220,7 +228,7 @@ static void *enters(void *none) {
     pthread_barrier_wait(&begins);
     IS(shardheap_table_insert(&table, words, 1, &key), SHARDHEAP_OK);
     IS(shardheap_table_remove(&table, key), SHARDHEAP_OK);
-    pthread_barrier_wait(&ends);
+    pthread_barrier_wait(&over);
     return none;
 }
 
@@ -231,14 +239,14 @@ static void shares(void) {
     IS(shardheap_table_open(&table), SHARDHEAP_OK);
     for (int twice = 0; twice < 2; twice++) {
         pthread_barrier_init(&begins, NULL, ALL_OWN + 1);
-        pthread_barrier_init(&ends, NULL, ALL_OWN + 1);
+        pthread_barrier_init(&over, NULL, ALL_OWN + 1);
         for (int n = 0; n < ALL_OWN; n++) TRUE(pthread_create(&threads[n], NULL, enters, NULL) == 0);
         pthread_barrier_wait(&begins);
         IS(shardheap_table_enter(&table), SHARDHEAP_NO_PLACE);
         IS(shardheap_table_insert(&table, words, 1, &key), SHARDHEAP_OK);
         IS(shardheap_table_contains(&table, key), SHARDHEAP_OK);
         IS(shardheap_table_remove(&table, key), SHARDHEAP_OK);
-        pthread_barrier_wait(&ends);
+        pthread_barrier_wait(&over);
         for (int n = 0; n < ALL_OWN; n++) TRUE(pthread_join(threads[n], NULL) == 0);
         IS(shardheap_table_enter(&table), SHARDHEAP_OK);
         IS(shardheap_table_rest(&table), SHARDHEAP_OK);

@@ -63,8 +63,8 @@ threaded() {
 all() {
   local compiler=$1 rounds=$2 name
   shift 2
-  for name in session growing_table connections blocks misuse pointers whole reuse taking batches receipts keys \
-    own_keys walks growing seeded memory checked table table_walks table_ends table_memory; do
+  for name in session growing_table connections closing blocks misuse pointers whole reuse taking ends batches receipts \
+    keys own_keys walks growing seeded memory checked table table_walks table_ends table_hook table_memory; do
     compiled "$compiler" "$name" "$@"
     run "$name"
   done
@@ -75,8 +75,8 @@ all() {
 in_checked_mode() {
   local compiler=$1 rounds=$2 name
   shift 2
-  for name in session growing_table connections pointers whole reuse taking batches receipts keys own_keys walks \
-    growing seeded memory table table_walks table_ends table_memory; do
+  for name in session growing_table connections closing pointers whole reuse taking ends batches receipts keys \
+    own_keys walks growing seeded memory table table_walks table_ends table_hook table_memory; do
     compiled "$compiler" "$name" -DSHARDHEAP_CHECKED "$@"
     run "$name"
   done
@@ -89,10 +89,13 @@ waits() {
   run waiting "$2" "$((limit - 10))"
 }
 
-# alone COMPILER FLAG..: compiles and runs what looks at the stack and at signals: no sanitizer and no memcheck.
+# alone COMPILER FLAG..: compiles and runs what looks at the stack, at each instruction and at signals: no sanitizer and
+# no memcheck.
 alone() {
   compiled "$1" stack "${@:2}"
   run stack
+  compiled "$1" stopped "${@:2}"
+  run stopped
   compiled "$1" signals "${@:2}"
   run signals 500 "$((limit - 10))"
 }
@@ -119,6 +122,7 @@ examples() {
   echo "== the headers' examples"
   {
     printf '#include "shardheap_table.h"\nbool is_over(void *now, const shardheap_live_key *met);\n'
+    printf 'void frees(void *now, const shardheap_ended *ended);\n'
     printf 'uint64_t examples(void);\nuint64_t examples(void) {\n'
     printf '    shardheap heap = SHARDHEAP_INIT;\n    shardheap_pass pass = SHARDHEAP_INIT;\n'
     printf '    shardheap_receipt receipt = SHARDHEAP_INIT;\n    shardheap_table table = SHARDHEAP_INIT;\n'

@@ -62,7 +62,7 @@
    SIGNALS AND STACK. A signal handler is to the calls like another thread: it needs handles that nothing else uses.
    Calls that take and give back no memory are async-signal-safe then: get, release, read, load, load_each, remove,
    collect, passes, chunks, capacity, bytes, layout_of, tag, untag, take_value, pages_left, slots_out, next_own_key,
-   next_live, next_held and remove_if.
+   next_live, next_held, remove_if, and those that end in `_ended` or `_ended_key`.
    The others are not, because they call malloc, aligned_alloc, realloc or free. The head of each section below has the
    most stack that its calls took in a test, with the allocator of glibc and a heap of a fixed shape.
 
@@ -274,6 +274,13 @@ typedef struct shardheap_held_key {
     uint32_t held;   /* 1 with a hold on the key, and 0 if it has as many as it may have */
 } shardheap_held_key;
 
+/* A key that a call ended, with its value: see shardheap_release_ended. */
+typedef struct shardheap_ended {
+    uint64_t key;       /* 0, which is no key, if the call ended none */
+    uint64_t length;    /* how many words the value has */
+    uint64_t words[16]; /* the value: words[0] to words[length - 1] */
+} shardheap_ended;
+
 /* Whether shardheap_remove_if removes a key. */
 typedef bool shardheap_predicate(void *context, const shardheap_live_key *met);
 
@@ -285,6 +292,7 @@ SHARDHEAP_ASSERT(offsetof(shardheap_receipt, full) == 8 && sizeof(shardheap_rece
 SHARDHEAP_ASSERT(offsetof(shardheap_receipt, seal) == 16, "the header's part");
 SHARDHEAP_ASSERT(offsetof(shardheap_loaded, words) == 24 && sizeof(shardheap_loaded) == 152, "a key and its value");
 SHARDHEAP_ASSERT(offsetof(shardheap_live_key, words) == 24 && sizeof(shardheap_live_key) == 152, "a key and its value");
+SHARDHEAP_ASSERT(offsetof(shardheap_ended, words) == 16 && sizeof(shardheap_ended) == 144, "a key and its value");
 SHARDHEAP_ASSERT(offsetof(shardheap_held_key, held) == 16 && sizeof(shardheap_held_key) == 24, "a key that is held");
 SHARDHEAP_ASSERT(sizeof(shardheap_page) == 24 && sizeof(shardheap_sums) == 24, "six numbers of 32 bits");
 
@@ -324,6 +332,12 @@ uint32_t shardheap_raw_read(shardheap_pass *pass, uint64_t key, uint64_t *words,
 uint32_t shardheap_raw_load(shardheap_pass *pass, uint64_t key, uint64_t *words, size_t room, uint64_t *length);
 uint32_t shardheap_raw_load_each(shardheap_pass *pass, shardheap_loaded *loads, size_t count);
 uint32_t shardheap_raw_take_value(shardheap_pass *pass, uint64_t key, uint64_t *words, size_t room, uint64_t *length);
+uint32_t shardheap_raw_get_ended(shardheap_pass *pass, uint64_t key, shardheap_ended *ended);
+uint32_t shardheap_raw_release_ended(shardheap_pass *pass, uint64_t key, shardheap_ended *ended);
+uint32_t shardheap_raw_remove_ended(shardheap_pass *pass, uint64_t key, shardheap_ended *ended);
+uint32_t shardheap_raw_get_ended_key(shardheap_pass *pass, uint64_t key, uint64_t *ended);
+uint32_t shardheap_raw_release_ended_key(shardheap_pass *pass, uint64_t key, uint64_t *ended);
+uint32_t shardheap_raw_remove_ended_key(shardheap_pass *pass, uint64_t key, uint64_t *ended);
 uint32_t shardheap_raw_next_live(shardheap_pass *pass, uint64_t from, uint64_t before, shardheap_live_key *next);
 uint32_t shardheap_raw_next_held(shardheap_pass *pass, uint64_t from, uint64_t before, shardheap_held_key *next);
 uint32_t shardheap_raw_pages_left(shardheap_pass *pass, uint64_t *pages);
@@ -813,6 +827,100 @@ SHARDHEAP_API uint32_t shardheap_remove(shardheap_pass *pass, uint64_t key) {
 SHARDHEAP_API uint32_t shardheap_take_value(shardheap_pass *pass, uint64_t key, uint64_t *words, size_t room,
                                             uint64_t *length) {
     return shardheap_fill(shardheap_raw_take_value, pass, key, words, room, length);
+}
+
+/* ---- The end of a value ----
+
+   What the words of a value name, as a file, has to be freed once nobody can read the value any more. That is when its
+   key ends: it was removed, and there is no hold on it and no call at its slot. Exactly one call ends a key. It may be
+   the remove or a release, and also a get or a remove that is refused, since that was at the slot for a moment. So the
+   key that ends may be another than that of the call. It may also be a key that another pass removed.
+
+   Each of these calls does what the call without `_ended` does, and writes which key it ended: at most one. A call that
+   ends none writes the key 0, also if it is refused; only after OVERLAP nothing is written. A call that writes the
+   words of the key's value takes up to 18 atomic loads for them, only where a key ends; one with `_ended_key` writes
+   the key alone.
+
+   The calls of other sections write no such key. Of these, get, release, remove, take_value, next_held and remove_if
+   may end a key, and so may a load of a key whose insert the pass neither made nor heard of by a receipt. So a program
+   that has to learn of each end makes none of them. No call ends a key that is not removed before its heap goes, or
+   that a pass holds which was lost.
+
+   Threads, signals and stack: as of a pass. */
+
+/* What the calls below have in common: one of them, and the key that it ended. */
+static inline uint32_t shardheap_tell_end(
+    uint32_t (*raw)(shardheap_pass *pass, uint64_t key, shardheap_ended *ended), shardheap_pass *pass, uint64_t key,
+    shardheap_ended *ended) {
+    if (!ended) return SHARDHEAP_NULL;
+    if (shardheap_overlap(ended, sizeof *ended, pass, sizeof *pass)) return SHARDHEAP_OVERLAP;
+    ended->key = ended->length = 0;
+    uint32_t code = shardheap_begin_key(pass, &key);
+    if (code != SHARDHEAP_OK) return code;
+    code = raw(pass, key, ended);
+    if (ended->key != 0) ended->key = shardheap_marked(pass->seal.mark, ended->key);
+    return shardheap_end(&pass->seal, code);
+}
+
+/* The same without its value. */
+static inline uint32_t shardheap_tell_end_key(uint32_t (*raw)(shardheap_pass *pass, uint64_t key, uint64_t *ended),
+                                              shardheap_pass *pass, uint64_t key, uint64_t *ended) {
+    if (!ended) return SHARDHEAP_NULL;
+    if (shardheap_overlap(ended, sizeof *ended, pass, sizeof *pass)) return SHARDHEAP_OVERLAP;
+    *ended = 0;
+    uint32_t code = shardheap_begin_key(pass, &key);
+    if (code != SHARDHEAP_OK) return code;
+    code = raw(pass, key, ended);
+    if (*ended != 0) *ended = shardheap_marked(pass->seal.mark, *ended);
+    return shardheap_end(&pass->seal, code);
+}
+
+/* Gives one hold on a key back, and writes the key that this ended: its own, if the key was removed and nobody else is
+   on it. NOT_HELD, EMPTY, OVERLAP.
+
+       shardheap_ended ended;
+       code = shardheap_release_ended(&pass, key, &ended);
+       if (ended.key != 0) now = ended.words[0];    nobody reads the value any more: free what it names */
+SHARDHEAP_API uint32_t shardheap_release_ended(shardheap_pass *pass, uint64_t key, shardheap_ended *ended) {
+    return shardheap_tell_end(shardheap_raw_release_ended, pass, key, ended);
+}
+
+/* Removes a key, and writes the key that this ended: its own, if nobody else is on it. A remove that is GONE may end
+   its own key or another. BAD_KEY, GONE, EMPTY, OVERLAP.
+
+       code = shardheap_remove_ended(&pass, key, &ended);
+       if (ended.key == 0) length = 0;    another pass has a hold: its last release ends the key */
+SHARDHEAP_API uint32_t shardheap_remove_ended(shardheap_pass *pass, uint64_t key, shardheap_ended *ended) {
+    return shardheap_tell_end(shardheap_raw_remove_ended, pass, key, ended);
+}
+
+/* Takes a hold on a key. One that is OK ends none. One that is GONE or CROWDED may end its own key or another, and
+   writes that. BAD_KEY, HOLDS_FULL, GONE, CROWDED, EMPTY, OVERLAP.
+
+       code = shardheap_get_ended(&pass, key, &ended);
+       if (ended.key != 0) now = ended.words[0];    also after GONE */
+SHARDHEAP_API uint32_t shardheap_get_ended(shardheap_pass *pass, uint64_t key, shardheap_ended *ended) {
+    return shardheap_tell_end(shardheap_raw_get_ended, pass, key, ended);
+}
+
+/* The same as shardheap_release_ended, without the words of the value. NOT_HELD, EMPTY, OVERLAP.
+
+       uint64_t over;
+       code = shardheap_release_ended_key(&pass, key, &over);
+       if (over != 0) count--;    the key of an entry in a table of the caller's own */
+SHARDHEAP_API uint32_t shardheap_release_ended_key(shardheap_pass *pass, uint64_t key, uint64_t *ended) {
+    return shardheap_tell_end_key(shardheap_raw_release_ended_key, pass, key, ended);
+}
+
+/* The same as shardheap_remove_ended, without the words of the value. BAD_KEY, GONE, EMPTY, OVERLAP. */
+SHARDHEAP_API uint32_t shardheap_remove_ended_key(shardheap_pass *pass, uint64_t key, uint64_t *ended) {
+    return shardheap_tell_end_key(shardheap_raw_remove_ended_key, pass, key, ended);
+}
+
+/* The same as shardheap_get_ended, without the words of the value. BAD_KEY, HOLDS_FULL, GONE, CROWDED, EMPTY,
+   OVERLAP. */
+SHARDHEAP_API uint32_t shardheap_get_ended_key(shardheap_pass *pass, uint64_t key, uint64_t *ended) {
+    return shardheap_tell_end_key(shardheap_raw_get_ended_key, pass, key, ended);
 }
 
 /* ---- Walks ----

@@ -75,9 +75,13 @@ typedef struct shardheap_table {
 SHARDHEAP_ASSERT(offsetof(shardheap_table, full) == 8 && sizeof(shardheap_table) == 32, "a handle");
 SHARDHEAP_ASSERT(offsetof(shardheap_table, seal) == 16, "the header's part");
 
+/* What is called as a key ends: see shardheap_table_on_end. */
+typedef void shardheap_end_hook(void *context, const shardheap_ended *ended);
+
 /* The calls of table.c. They check no pointer and no handle: use the functions below, which do. */
 uint32_t shardheap_table_raw_open(shardheap_places **into, uint32_t owners, uint64_t values, uint32_t words,
                                   uint32_t chunks);
+void shardheap_table_raw_on_end(shardheap_places *of, shardheap_end_hook *hook, void *context);
 void shardheap_table_raw_close(shardheap_places *of);
 uint32_t shardheap_table_raw_insert(shardheap_places *of, const uint64_t *words, size_t count, uint64_t *into);
 uint32_t shardheap_table_raw_get(shardheap_places *of, uint64_t at, uint64_t *words, size_t room, uint64_t *length);
@@ -151,6 +155,22 @@ SHARDHEAP_API uint32_t shardheap_table_open(shardheap_table *table) {
     return shardheap_table_open_for(table, 2, 1, 1, 64);
 }
 
+/* Has `hook` called with `context` and each key that ends from now on, with its value. It is called once for each key
+   that is removed, by the thread whose call was the last to use the key, at the end of that call. The close calls it
+   for each key that is left. So what a value names, such as a file, is closed once. An end waits for calls that use the
+   value, and for no copy that a get made. A program that follows what a copy names uses the holds of a heap instead,
+   and shardheap_release_ended.
+   The hook may call the table, except in a close. It is not left by longjmp or an exception. A null hook calls nothing.
+   No other call on the table runs meanwhile, as for open. While there is a hook, a get writes to memory that all
+   readers of the key share. A thread that was stopped for good within a call may keep a key from its end. EMPTY.
+
+       code = shardheap_table_on_end(&table, frees, &now);    void frees(void *now, const shardheap_ended *ended); */
+SHARDHEAP_API uint32_t shardheap_table_on_end(shardheap_table *table, shardheap_end_hook *hook, void *context) {
+    uint32_t code = shardheap_table_opened(table);
+    if (code == SHARDHEAP_OK) shardheap_table_raw_on_end(table->at, hook, context);
+    return code;
+}
+
 /* Empties the handle, and ends the table with all its values.
 
        shardheap_table_close(&table);    once no other thread uses it */
@@ -180,8 +200,8 @@ SHARDHEAP_API uint32_t shardheap_table_insert(shardheap_table *table, const uint
 }
 
 /* Copies the value of a key into `words`, which has room for `room` words, and its length into `length`. It writes
-   nothing to memory that threads share if the thread has a place of its own. A room of 16 is always enough. BAD_KEY,
-   GONE, NO_PLACE, EMPTY, OVERLAP; SHORT, with only the length read.
+   nothing to memory that threads share if the thread has a place of its own and the table no hook. A room of 16 is
+   always enough. BAD_KEY, GONE, NO_PLACE, EMPTY, OVERLAP; SHORT, with only the length read.
 
        code = shardheap_table_get(&table, key, room, 16, &length);
        if (code == SHARDHEAP_GONE) length = 0;    another thread removed it */

@@ -39,7 +39,9 @@ typedef struct place {
 } place;
 
 struct shardheap_places {
-    uint64_t number; /* no two tables of the process have the same; from 1 */
+    uint64_t number;            /* no two tables of the process have the same; from 1 */
+    shardheap_end_hook *on_end; /* what is called as a key ends, or null; it does not change while calls run */
+    void *context;              /* with this */
     _Atomic uint64_t fresh, resting;
     _Atomic uint32_t waited; /* how often a thread waited for a shared place */
     _Atomic uint32_t kept;   /* by the table, and by each thread that has a place */

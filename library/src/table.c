@@ -42,6 +42,62 @@ static inline uint32_t take_by(place *it, uint64_t of, uint64_t *words, size_t r
     return code;
 }
 
+/* ---- Calls by a place that write which key they ended ----
+
+   A get is one by a hold: a load of a number that was never issued goes on as a get, which may end a key without a
+   word. */
+
+typedef uint32_t told_call(place *it, uint64_t at, uint64_t *words, size_t room, uint64_t *length,
+                           shardheap_ended *ended);
+
+static uint32_t get_told(place *it, uint64_t at, uint64_t *words, size_t room, uint64_t *length,
+                         shardheap_ended *ended) {
+    uint32_t code = shardheap_raw_get_ended(&it->pass, at, ended);
+    if (code != SHARDHEAP_OK) return code;
+    code = shardheap_raw_read(&it->pass, at, words, room, length);
+    (void)shardheap_raw_release_ended(&it->pass, at, ended);
+    return code;
+}
+
+static uint32_t remove_told(place *it, uint64_t at, uint64_t *words, size_t room, uint64_t *length,
+                            shardheap_ended *ended) {
+    (void)words, (void)room, (void)length;
+    uint32_t code = shardheap_raw_remove_ended(&it->pass, at, ended);
+    if (code == SHARDHEAP_OK) add(it, -1);
+    return code;
+}
+
+/* (The removal ends no key, since the pass has a hold on it.) */
+static uint32_t take_told(place *it, uint64_t at, uint64_t *words, size_t room, uint64_t *length,
+                          shardheap_ended *ended) {
+    uint64_t value[16], count = 0;
+    uint32_t code = shardheap_raw_get_ended(&it->pass, at, ended);
+    if (code != SHARDHEAP_OK) return code;
+    (void)shardheap_raw_read(&it->pass, at, value, 16, &count);
+    code = count > room ? (uint32_t)SHARDHEAP_SHORT : shardheap_raw_remove_ended(&it->pass, at, ended);
+    (void)shardheap_raw_release_ended(&it->pass, at, ended);
+    if (code == SHARDHEAP_OK) {
+        memcpy(words, value, count * sizeof *words);
+        add(it, -1);
+    }
+    if (code == SHARDHEAP_OK || code == SHARDHEAP_SHORT) *length = count;
+    return code;
+}
+
+/* Makes such a call, and tells the hook. The thread has no place and no lock of the table then, so that the hook may
+   call it. */
+static uint32_t tell(shardheap_places *of, told_call *call, uint64_t at, uint64_t *words, size_t room,
+                     uint64_t *length) {
+    turn it;
+    shardheap_ended ended;
+    uint32_t code = begin_turn(of, &it);
+    if (code != SHARDHEAP_OK) return code;
+    code = call(it.place, at, words, room, length, &ended);
+    end_turn(of, &it);
+    if (ended.key != 0) of->on_end(of->context, &ended);
+    return code;
+}
+
 /* Inserts by the resting and the shared places, after that of a call was refused for want of room or memory. The code
    is that one if all of them refuse. */
 static uint32_t insert_by_others(shardheap_places *of, const uint64_t *words, size_t count, uint64_t *into,
@@ -56,7 +112,7 @@ static uint32_t insert_by_others(shardheap_places *of, const uint64_t *words, si
     return refused;
 }
 
-/* The calls below, if the thread has no place that it used lately, or its place is busy. */
+/* The calls below, if the thread has no place that it used lately, or its place is busy, or there is a hook. */
 
 static __attribute__((noinline)) uint32_t insert_slowly(shardheap_places *of, const uint64_t *words, size_t count,
                                                         uint64_t *into) {
@@ -71,6 +127,7 @@ static __attribute__((noinline)) uint32_t insert_slowly(shardheap_places *of, co
 
 static __attribute__((noinline)) uint32_t get_slowly(shardheap_places *of, uint64_t at, uint64_t *words, size_t room,
                                                      uint64_t *length) {
+    if (of->on_end) return tell(of, get_told, at, words, room, length);
     turn it;
     uint32_t code = begin_turn(of, &it);
     if (code != SHARDHEAP_OK) return code;
@@ -80,6 +137,7 @@ static __attribute__((noinline)) uint32_t get_slowly(shardheap_places *of, uint6
 }
 
 static __attribute__((noinline)) uint32_t remove_slowly(shardheap_places *of, uint64_t at) {
+    if (of->on_end) return tell(of, remove_told, at, NULL, 0, NULL);
     turn it;
     uint32_t code = begin_turn(of, &it);
     if (code != SHARDHEAP_OK) return code;
@@ -90,6 +148,7 @@ static __attribute__((noinline)) uint32_t remove_slowly(shardheap_places *of, ui
 
 static __attribute__((noinline)) uint32_t take_slowly(shardheap_places *of, uint64_t at, uint64_t *words, size_t room,
                                                       uint64_t *length) {
+    if (of->on_end) return tell(of, take_told, at, words, room, length);
     turn it;
     uint32_t code = begin_turn(of, &it);
     if (code != SHARDHEAP_OK) return code;
@@ -109,7 +168,7 @@ uint32_t shardheap_table_raw_insert(shardheap_places *of, const uint64_t *words,
 }
 
 uint32_t shardheap_table_raw_get(shardheap_places *of, uint64_t at, uint64_t *words, size_t room, uint64_t *length) {
-    place *it = recent_idle(of);
+    place *it = of->on_end ? NULL : recent_idle(of);
     if (!it) return get_slowly(of, at, words, room, length);
     return shardheap_raw_load(&it->pass, at, words, room, length);
 }
@@ -121,12 +180,12 @@ uint32_t shardheap_table_raw_contains(shardheap_places *of, uint64_t at) {
 }
 
 uint32_t shardheap_table_raw_remove(shardheap_places *of, uint64_t at) {
-    place *it = recent_idle(of);
+    place *it = of->on_end ? NULL : recent_idle(of);
     return it ? remove_by(it, at) : remove_slowly(of, at);
 }
 
 uint32_t shardheap_table_raw_take(shardheap_places *of, uint64_t at, uint64_t *words, size_t room, uint64_t *length) {
-    place *it = recent_idle(of);
+    place *it = of->on_end ? NULL : recent_idle(of);
     return it ? take_by(it, at, words, room, length) : take_slowly(of, at, words, room, length);
 }
 
@@ -182,7 +241,23 @@ static uint32_t fill_places(shardheap_places *of, uint32_t owners, uint64_t valu
     return code;
 }
 
+void shardheap_table_raw_on_end(shardheap_places *of, shardheap_end_hook *hook, void *context) {
+    of->on_end = hook;
+    of->context = context;
+}
+
+/* Tells the hook all keys that have a value, as the table ends. */
+static void end_all(shardheap_places *of) {
+    shardheap_live_key met = {0, 0, 0, {0}};
+    while (shardheap_table_raw_next(of, met.behind, &met) == SHARDHEAP_OK) {
+        shardheap_ended ended = {met.key, met.length, {0}};
+        memcpy(ended.words, met.words, met.length * sizeof met.words[0]);
+        of->on_end(of->context, &ended);
+    }
+}
+
 void shardheap_table_raw_close(shardheap_places *of) {
+    if (of->on_end) end_all(of);
     place **link = link_of(of);
     if (*link) rest(link);
     for (int n = 0; n < PLACES; n++) {

@@ -1,5 +1,6 @@
 pub mod Batches
 pub mod Told
+pub mod Ended
 pub mod Rooms
 pub mod Opened
 pub mod WholeHeap

@@ -18,6 +18,7 @@ mod rooms;
 pub mod sizes;
 pub mod tags;
 pub mod taking;
+pub mod telling;
 #[cfg(test)]
 mod tests;
 pub mod values;

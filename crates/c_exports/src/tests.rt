@@ -14,6 +14,7 @@ mod passes;
 mod receipts;
 mod sizes;
 mod tags;
+mod telling;
 mod whole;
 
 use crate::calls::{shardheap_raw_adopt, shardheap_raw_leave};

@@ -12,7 +12,7 @@ use sh_value::{Hold, Refusal, Value, WORDS_MAX};
 use std::alloc::Global;
 
 // Copies words to the front of the room. (Most values have one word, and one store takes less than a call that copies.)
-fn copy_words(told: &[u64], words: &mut [u64])
+pub(crate) fn copy_words(told: &[u64], words: &mut [u64])
     requires { length told.now ≤ length words.old }
     ensures { words.new ≡ told.now ++ drop (length told.now) words.old }
 {

@@ -1,6 +1,7 @@
 pub mod Members
 pub mod Heaps
 pub mod HeldPasses
+pub mod Ended
 pub mod HeldHeaps
 pub mod HeapOwning
 pub mod PassOwning

@@ -21,6 +21,7 @@ pub mod receipt_handle;
 pub mod receipts;
 mod sizes;
 mod taking;
+mod telling;
 mod walking;
 mod warming;
 

@@ -2,6 +2,7 @@ pub mod CallSteps
 pub mod ChunkWalks
 pub mod Claims
 pub mod Collecting
+pub mod EndedKeys
 pub mod Full
 pub mod Halves
 pub mod Heeding

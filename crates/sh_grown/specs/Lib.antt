@@ -1,6 +1,7 @@
 pub mod Callers
 pub mod ChunkShapes
 pub mod Collecting
+pub mod Ended
 pub mod Growing
 pub mod Inserts
 pub mod Keeping

@@ -19,6 +19,7 @@ pub mod chunk;
 pub mod chunk_member;
 pub mod chunk_shapes;
 pub mod crossing;
+mod ends;
 pub mod growing;
 pub mod guard;
 mod inserting;

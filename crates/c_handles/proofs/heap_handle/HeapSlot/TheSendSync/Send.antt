@@ -17,12 +17,12 @@ use Rattle.c_handles.proofs.held_heap.HeldHeap.TheSendSync.{the_send as pass}
 use Rattle.c_handles.specs.HeapOwning.{heap_owns}
 use Rattle.c_handles.specs.contracts.heap_handle.HeapSlot.{the_row, the_type}
 
-owned : (a : Global) (p : Ptr) (o : Option HeldHeap.the_row.Denot) → Keyless (heap_owns a p o)
-owned a p None = tt
-owned a p (Some x) = (lies HeldHeap.the_row pass p x, heap.frees.frees a (raw (lone HeldHeap.the_row.mir)) p)
+heap_owned : (a : Global) (p : Ptr) (o : Option HeldHeap.the_row.Denot) → Keyless (heap_owns a p o)
+heap_owned a p None = tt
+heap_owned a p (Some x) = (lies HeldHeap.the_row pass p x, heap.frees.frees a (raw (lone HeldHeap.the_row.mir)) p)
 
 pub send : IsSend the_row
 send =
     let all : AllSend (fields the_type) = (search sendable, (handle.the_field_send, tt)) in
-    owning_send the_type all (λ d. owned d.alloc d.at d.value)
+    owning_send the_type all (λ d. heap_owned d.alloc d.at d.value)
     (λ k. quiet (to the_type) (exits_of k (fields the_type)) ((struct_send (shape the_type) all).leaving k))

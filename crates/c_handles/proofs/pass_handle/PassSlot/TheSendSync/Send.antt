@@ -17,12 +17,12 @@ use Rattle.c_handles.proofs.held_pass.HeldPass.TheSendSync.{the_send as pass}
 use Rattle.c_handles.specs.PassOwning.{pass_owns}
 use Rattle.c_handles.specs.contracts.pass_handle.PassSlot.{the_row, the_type}
 
-owned : (a : Global) (p : Ptr) (o : Option HeldPass.the_row.Denot) → Keyless (pass_owns a p o)
-owned a p None = tt
-owned a p (Some x) = (lies HeldPass.the_row pass p x, heap.frees.frees a (raw (lone HeldPass.the_row.mir)) p)
+pass_owned : (a : Global) (p : Ptr) (o : Option HeldPass.the_row.Denot) → Keyless (pass_owns a p o)
+pass_owned a p None = tt
+pass_owned a p (Some x) = (lies HeldPass.the_row pass p x, heap.frees.frees a (raw (lone HeldPass.the_row.mir)) p)
 
 pub send : IsSend the_row
 send =
     let all : AllSend (fields the_type) = (search sendable, (handle.the_field_send, tt)) in
-    owning_send the_type all (λ d. owned d.alloc d.at d.value)
+    owning_send the_type all (λ d. pass_owned d.alloc d.at d.value)
     (λ k. quiet (to the_type) (exits_of k (fields the_type)) ((struct_send (shape the_type) all).leaving k))

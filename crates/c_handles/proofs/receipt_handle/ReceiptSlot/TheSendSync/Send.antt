@@ -17,12 +17,12 @@ use Rattle.c_handles.proofs.receipts.KeptReceipt.TheSendSync.{the_send as pass}
 use Rattle.c_handles.specs.ReceiptOwning.{receipt_owns}
 use Rattle.c_handles.specs.contracts.receipt_handle.ReceiptSlot.{the_row, the_type}
 
-owned : (a : Global) (p : Ptr) (o : Option KeptReceipt.the_row.Denot) → Keyless (receipt_owns a p o)
-owned a p None = tt
-owned a p (Some x) = (lies KeptReceipt.the_row pass p x, heap.frees.frees a (raw (lone KeptReceipt.the_row.mir)) p)
+receipt_owned : (a : Global) (p : Ptr) (o : Option KeptReceipt.the_row.Denot) → Keyless (receipt_owns a p o)
+receipt_owned a p None = tt
+receipt_owned a p (Some x) = (lies KeptReceipt.the_row pass p x, heap.frees.frees a (raw (lone KeptReceipt.the_row.mir)) p)
 
 pub send : IsSend the_row
 send =
     let all : AllSend (fields the_type) = (search sendable, (handle.the_field_send, tt)) in
-    owning_send the_type all (λ d. owned d.alloc d.at d.value)
+    owning_send the_type all (λ d. receipt_owned d.alloc d.at d.value)
     (λ k. quiet (to the_type) (exits_of k (fields the_type)) ((struct_send (shape the_type) all).leaving k))
