@@ -2,6 +2,7 @@
 // compiled with the other lines but without the rest of these: library/cpp/refused.py tries them one by one.
 #include "shardheap.hpp"
 
+#include <optional>
 #include <string>
 #include <utility>
 
@@ -36,6 +37,10 @@ void tables(gearlongan::table<double> &numbers, gearlongan::table<float> &others
     constant.begin()->record = 0.5; //~ read-only
     constant.remove_if([](auto, double) { return true; }); //~ const
     constant.remove(half); //~ const
+    constant.on_end([](auto, double) {}); //~ const
+    numbers.on_end([](gearlongan::key_of<float>, double) {}); //~ no
+    numbers.on_end(5); //~ no
+    numbers.try_on_end([](auto, double) {}); //~ nodiscard
     (void)constant.insert(0.5); //~ const
     (void)constant.take(half); //~ const
     (void)others;
@@ -45,6 +50,13 @@ void refused(gearlongan::heap &heap, gearlongan::pass &pass, gearlongan::shard &
 void refused(gearlongan::heap &heap, gearlongan::pass &pass, gearlongan::shard &shard, const gearlongan::key key) {
     gearlongan::guard guard = pass.get(key);
     gearlongan::receipt receipt = pass.receipt();
+    std::optional<gearlongan::ended> told;
+
+    // A hook takes a key and words, and a refusal is looked at.
+    pass.on_end([](gearlongan::key_of<double>, gearlongan::words_view) {}); //~ no
+    pass.try_remove(key, told); //~ nodiscard
+    pass.take(key, told); //~ nodiscard
+    (void)pass.take(key, told);
 
     // Handles are not copied.
     gearlongan::heap another = heap; //~ deleted

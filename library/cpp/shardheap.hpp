@@ -36,7 +36,7 @@
 // ERRORS. Each call has two forms. The plain form throws gearlongan::error, which is a std::system_error. The form
 // named `try_..` is noexcept, returns an errc, and writes its result to a parameter, which a refusal leaves as it was.
 // A program that is compiled without exceptions has only the second form. Nothing else is thrown, except std::bad_alloc
-// if the text of an error finds no memory.
+// if the text of an error, or a hook, finds no memory.
 //
 // THREADS. The rules are those of shardheap.h. A pass, with its guards, is used by one thread at a time, and may go to
 // another thread by whatever orders the two. The calls on a handle are therefore not const. A const member function may
@@ -51,8 +51,11 @@
 // its new place. A pass also counts its guards. If it has one, a move, an adopt and a leave do nothing; a close, a lose
 // and a destructor go on. Each of them calls SHARDHEAP_ON_MISUSE(SHARDHEAP_BUSY).
 //
+// HOOKS. `on_end` of a pass, a shard, a caller and a table has a function called with each key that ends. It throws
+// nothing: otherwise the program ends. Each call of such an object finds out that there is one by one test.
+//
 // COSTS. A call is the call of shardheap.h, inlined; that on a heap also takes a lock of its object. No call takes
-// memory of its own, except for the text of an error.
+// memory of its own, except for the text of an error and a hook.
 #ifndef SHARDHEAP_HPP
 #define SHARDHEAP_HPP
 
@@ -63,6 +66,7 @@
 #error "shardheap.hpp needs C++17"
 #endif
 
+#include "gearlongan/ended.hpp"
 #include "gearlongan/errors.hpp"
 #include "gearlongan/growing.hpp"
 #include "gearlongan/guards.hpp"

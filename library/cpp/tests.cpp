@@ -385,7 +385,7 @@ static_assert(!std::is_constructible_v<gearlongan::shard, gearlongan::pass &&>);
 static_assert(!std::is_constructible_v<gearlongan::pass, gearlongan::reader &&>);
 #ifndef SHARDHEAP_CHECKED
 static_assert(sizeof(gearlongan::receipt) == sizeof(shardheap_receipt));
-static_assert(sizeof(gearlongan::pass) == sizeof(shardheap_pass));
+static_assert(sizeof(gearlongan::pass) == sizeof(shardheap_pass) + sizeof(void *)); // (with its hook)
 static_assert(sizeof(gearlongan::guard) == 16);
 #endif
 

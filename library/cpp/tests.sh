@@ -17,7 +17,7 @@ cpp_compiled() {
   # shellcheck disable=SC2086
   "$(of_c_as "$compiler")" -std=c11 $warnings -g "$@" -Ilibrary/include -c library/src/table.c -o "$out/cpp-table.o"
   case $name in
-    tests) sources+=(library/cpp/{values,threads,handing,growing,tables,walks}.cpp) ;;
+    tests) sources+=(library/cpp/{values,threads,handing,growing,tables,walks,ends}.cpp) ;;
     waiting) wrap=$(printf -- ' -Wl,--wrap=shardheap_raw_%s' leave take load receipt_make) ;;
     plain) set -- "$@" -fno-exceptions -fno-rtti ;;
     examples) sources=("$out/examples.cpp") ;;
@@ -69,7 +69,7 @@ cpp_other_standards() {
   for standard in c++20 c++23 c++2b; do
     "$1" "-std=$standard" -fsyntax-only -x c++ /dev/null 2> /dev/null || continue
     echo "== C++ by $1, $standard"
-    for source in tests values threads handing growing tables walks waiting checked entities; do
+    for source in tests values threads handing growing tables walks ends waiting checked entities; do
       # shellcheck disable=SC2086
       "$1" "-std=$standard" $warnings -Wshadow -fsyntax-only -Ilibrary/include -Ilibrary/cpp "library/cpp/$source.cpp"
     done

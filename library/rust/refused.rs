@@ -5,7 +5,7 @@
 use gearlongan::slab::pool::{OwnedRefMut, Ref, RefMut};
 use gearlongan::slab::{Entry, OwnedEntry, Pool, Slab, VacantEntry};
 use gearlongan::table::Key;
-use gearlongan::{Heap, Layout, Shape, Table};
+use gearlongan::{Heap, Layout, Pass, Shape, Table};
 use std::cell::Cell;
 use std::rc::Rc;
 use std::sync::{Arc, Mutex, MutexGuard};
@@ -279,4 +279,47 @@ fn what_is_no_record_is_stored(text: &String) {
 
 fn a_table_of_what_is_no_record_is_made() {
     let _: Table<Rc<u8>> = Table::new(); //~ E0277
+}
+
+// A hook goes where its pass or table goes, and borrows nothing. A guard keeps its pass as it is, until it is released.
+
+fn a_hook_is_set_while_a_guard_is_there(mut pass: Pass, key: gearlongan::Key) {
+    let guard = pass.get(key).unwrap();
+    pass.on_end(|_, _| ()); //~ E0502
+    drop(guard);
+}
+
+fn a_guard_is_used_after_its_release(pass: &Pass, key: gearlongan::Key) {
+    let guard = pass.get(key).unwrap();
+    guard.release();
+    println!("{}", guard.len()); //~ E0382
+}
+
+fn a_guard_is_released_after_its_pass(pass: Pass, key: gearlongan::Key) {
+    let guard = pass.get(key).unwrap();
+    drop(pass); //~ E0505
+    guard.release();
+}
+
+fn a_hook_that_stays_with_its_thread_goes_with_a_pass(pass: &mut Pass) {
+    let count = Rc::new(Cell::new(0));
+    pass.on_end(move |_, _| count.set(1)); //~ E0277
+}
+
+fn a_hook_of_a_table_is_of_one_thread(table: &mut Table<u32>) {
+    let count = Cell::new(0);
+    table.on_end(move |_, _| count.set(1)); //~ E0277
+}
+
+fn a_hook_borrows_what_ends_before_its_table(table: &mut Table<u32>) {
+    let keys: Mutex<Vec<Key<u32>>> = Mutex::new(Vec::new());
+    table.on_end(|key, _| keys.lock().unwrap().push(key)); //~ E0373
+}
+
+fn a_hook_is_set_of_a_table_that_is_shared(table: &Table<u32>) {
+    table.on_end(|_, _| ()); //~ E0596
+}
+
+fn a_hook_takes_the_records_of_another_table(table: &mut Table<u32>) {
+    table.on_end(|_, _: u64| ()); //~ E0631
 }

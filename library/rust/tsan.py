@@ -1,5 +1,5 @@
 #!/usr/bin/env python3
-"""Runs a program of threads over the slab, the pool and the table under ThreadSanitizer.
+"""Runs a program of threads over the slab, the pool, the table and a heap under ThreadSanitizer.
 
 usage: library/rust/tsan.py ARCHIVE [slab]
 
@@ -7,7 +7,7 @@ ARCHIVE is a libc_exports.a with the sanitizer's instrumentation: `scripts/build
 OUT/tsan/libc_exports.a. The crate is copied into a temporary folder. There it gets the locks of tsan/sync.rs in place
 of those of the standard library, which is not instrumented, and the program tsan/main.rs. Threads pass keys on by
 relaxed atomics in it, so that a value which is not ordered by the slab or the table itself is a data race. With the
-word slab there is no table.
+word slab there is neither table nor heap.
 
 It needs a cargo of the day (`cargo +nightly`) and what library/rust/build.rs needs.
 """

@@ -69,7 +69,18 @@ public:
     ///     gearlongan::guard guard = pass.get(key);
     ///     guard.reset();
     void reset() noexcept {
-        if (reader *of = forget()) shardheap_release(&of->raw_, key_.number());
+        if (reader *of = forget()) (void)of->try_release(key_);
+    }
+
+    /// Gives the hold back, and empties the guard, as reset does. Returns the key if that ended, and calls no hook.
+    ///
+    ///     gearlongan::guard one = pass.get(key), other = pass.get(key);
+    ///     shard.remove(key);
+    ///     assert(!one.release() && other.release()->key == key);
+    std::optional<ended> release() noexcept {
+        std::optional<ended> told;
+        if (reader *of = forget()) (void)of->try_release(key_, told);
+        return told;
     }
 
     /// Leaves the hold with the pass, and empties the guard: reader::try_release gives it back by its key. So a pass
@@ -86,7 +97,13 @@ public:
 private:
     friend class reader;
     // (the pass has a hold on the key that nothing else refers to)
-    guard(reader &of, gearlongan::key key) noexcept : of_(&of), key_(key) { of.count_guard(true); }
+    guard(reader &of, gearlongan::key key) noexcept { fill(of, key); }
+    // (it is empty)
+    void fill(reader &of, gearlongan::key key) noexcept {
+        of_ = &of;
+        key_ = key;
+        of.count_guard(true);
+    }
     reader *forget() noexcept {
         reader *of = std::exchange(of_, nullptr);
         if (of) of->count_guard(false);
@@ -99,7 +116,15 @@ private:
 inline errc reader::try_get(key of, guard &into) & noexcept {
     if (into) return errc::occupied;
     const errc code = hold(of);
-    if (code == errc::ok) into = guard(*this, of);
+    if (code == errc::ok) into.fill(*this, of);
+    return code;
+}
+
+inline errc reader::try_get(key of, guard &into, std::optional<ended> &told) & noexcept {
+    told.reset();
+    if (into) return errc::occupied;
+    const errc code = tell(shardheap_get_ended, of, told);
+    if (code == errc::ok) into.fill(*this, of);
     return code;
 }
 
@@ -114,6 +139,10 @@ inline guard reader::get(key of) & {
 }
 
 inline guard reader::find(key of) & { return detail::found(hold(of)) ? guard(*this, of) : guard(); }
+
+inline guard reader::find(key of, std::optional<ended> &told) & {
+    return detail::found(tell(shardheap_get_ended, of, told)) ? guard(*this, of) : guard();
+}
 #endif
 
 } // namespace gearlongan

@@ -33,6 +33,29 @@ private:
     std::uint64_t number_ = 0;
 };
 
+/// The key of a record of type R in a table: a number that no other record of its table ever has. It converts to no key
+/// of another type. That it is of another table of the same type is not found.
+///
+///     using number_key = gearlongan::key_of<double>;
+///     static_assert(sizeof(number_key) == 8 && !std::is_convertible_v<number_key, gearlongan::key_of<float>>);
+///     assert(number_key(4096).number() == 4096);
+template <class R> class key_of {
+public:
+    constexpr key_of() noexcept = default;
+    explicit constexpr key_of(std::uint64_t number) noexcept : number_(number) {}
+    [[nodiscard]] constexpr std::uint64_t number() const noexcept { return number_; }
+
+    friend constexpr bool operator==(key_of a, key_of b) noexcept { return a.number_ == b.number_; }
+    friend constexpr bool operator!=(key_of a, key_of b) noexcept { return a.number_ != b.number_; }
+    friend constexpr bool operator<(key_of a, key_of b) noexcept { return a.number_ < b.number_; }
+    friend constexpr bool operator>(key_of a, key_of b) noexcept { return b < a; }
+    friend constexpr bool operator<=(key_of a, key_of b) noexcept { return !(b < a); }
+    friend constexpr bool operator>=(key_of a, key_of b) noexcept { return !(a < b); }
+
+private:
+    std::uint64_t number_ = 0;
+};
+
 // ---- Tags: 8 bits of the caller's on a key of layout tagged ----
 
 /// A key, and the tag that was with it.
@@ -83,6 +106,11 @@ inline errc try_untag(std::uint64_t number, tagged_key &into) noexcept {
 /// The hash of a key, for std::unordered_map and std::unordered_set.
 template <> struct std::hash<gearlongan::key> {
     [[nodiscard]] std::size_t operator()(gearlongan::key of) const noexcept {
+        return std::hash<std::uint64_t>{}(of.number());
+    }
+};
+template <class R> struct std::hash<gearlongan::key_of<R>> {
+    [[nodiscard]] std::size_t operator()(gearlongan::key_of<R> of) const noexcept {
         return std::hash<std::uint64_t>{}(of.number());
     }
 };

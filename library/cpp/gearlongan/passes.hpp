@@ -162,7 +162,7 @@ inline errc pass::try_adopt(std::uint64_t number, shard &into) & noexcept {
     if (into) return errc::occupied;
     if (!unguarded()) return errc::busy;
     const auto code = static_cast<errc>(shardheap_adopt(&raw_, number));
-    if (code == errc::ok) detail::shift(raw_, into.raw_);
+    if (code == errc::ok) into.take_over(*this);
     return code;
 }
 
@@ -170,7 +170,7 @@ inline errc shard::try_leave(pass &into) & noexcept {
     if (into) return errc::occupied;
     if (!unguarded()) return errc::busy;
     const auto code = static_cast<errc>(shardheap_leave(&raw_));
-    if (code == errc::ok) detail::shift(raw_, into.raw_);
+    if (code == errc::ok) into.take_over(*this);
     return code;
 }
 

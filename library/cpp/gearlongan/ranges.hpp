@@ -1,5 +1,5 @@
-// The keys of a heap or of a shard, and the live keys that a walk meets, as ranges. A part of shardheap.hpp, which says
-// what holds of all.
+// The keys of a heap or of a shard, and the live keys that a walk meets, as ranges, and batches of keys. A part of
+// shardheap.hpp, which says what holds of all.
 #ifndef GEARLONGAN_RANGES_HPP
 #define GEARLONGAN_RANGES_HPP
 
@@ -16,6 +16,38 @@ namespace gearlongan {
 class heap;
 class reader;
 class shard;
+
+/// A key to load, and what its load returned: an element of a batch for reader::load_each.
+///
+///     gearlongan::loaded one(key);
+///     assert(pass.try_load_each(&one, 1) == gearlongan::errc::ok && one && one.view()[1] == 8);
+class loaded : private shardheap_loaded {
+public:
+    // (the words are written before they are read)
+    loaded() noexcept : loaded(gearlongan::key()) {}
+    explicit loaded(gearlongan::key of) noexcept { // NOLINT(cppcoreguidelines-pro-type-member-init)
+        shardheap_loaded::key = of.number();
+        shardheap_loaded::length = 0;
+        shardheap_loaded::code = SHARDHEAP_EMPTY;
+    }
+
+    /// The key that is to be loaded.
+    [[nodiscard]] gearlongan::key key() const noexcept { return gearlongan::key(shardheap_loaded::key); }
+    /// Names another key for the next batch.
+    void set_key(gearlongan::key of) noexcept { shardheap_loaded::key = of.number(); }
+    /// What the load returned: what try_load returns, or empty, if it was in no batch yet.
+    [[nodiscard]] errc code() const noexcept { return static_cast<errc>(shardheap_loaded::code); }
+    /// Whether the key was loaded.
+    [[nodiscard]] explicit operator bool() const noexcept { return code() == errc::ok; }
+    /// The value, which has no words if the key was not loaded.
+    [[nodiscard]] words_view view() const noexcept {
+        return {words, static_cast<std::size_t>(*this ? shardheap_loaded::length : 0)};
+    }
+
+private:
+    friend class reader;
+};
+static_assert(sizeof(loaded) == sizeof(shardheap_loaded), "a batch is a batch of the library");
 
 /// A live key that a walk met, with its value.
 struct live_key {

@@ -2,6 +2,7 @@
 #ifndef GEARLONGAN_READERS_HPP
 #define GEARLONGAN_READERS_HPP
 
+#include "gearlongan/ended.hpp"
 #include "gearlongan/keys.hpp"
 #include "gearlongan/ranges.hpp"
 #include "gearlongan/receipts.hpp"
@@ -19,44 +20,21 @@ class guard;
 class pass;
 class shard;
 
-/// A key to load, and what its load returned: an element of a batch for reader::load_each.
-///
-///     gearlongan::loaded one(key);
-///     assert(pass.try_load_each(&one, 1) == gearlongan::errc::ok && one && one.view()[1] == 8);
-class loaded : private shardheap_loaded {
-public:
-    // (the words are written before they are read)
-    loaded() noexcept : loaded(gearlongan::key()) {}
-    explicit loaded(gearlongan::key of) noexcept { // NOLINT(cppcoreguidelines-pro-type-member-init)
-        shardheap_loaded::key = of.number();
-        shardheap_loaded::length = 0;
-        shardheap_loaded::code = SHARDHEAP_EMPTY;
-    }
-
-    /// The key that is to be loaded.
-    [[nodiscard]] gearlongan::key key() const noexcept { return gearlongan::key(shardheap_loaded::key); }
-    /// Names another key for the next batch.
-    void set_key(gearlongan::key of) noexcept { shardheap_loaded::key = of.number(); }
-    /// What the load returned: what try_load returns, or empty, if it was in no batch yet.
-    [[nodiscard]] errc code() const noexcept { return static_cast<errc>(shardheap_loaded::code); }
-    /// Whether the key was loaded.
-    [[nodiscard]] explicit operator bool() const noexcept { return code() == errc::ok; }
-    /// The value, which has no words if the key was not loaded.
-    [[nodiscard]] words_view view() const noexcept {
-        return {words, static_cast<std::size_t>(*this ? shardheap_loaded::length : 0)};
-    }
-
-private:
-    friend class reader;
-};
-static_assert(sizeof(loaded) == sizeof(shardheap_loaded), "a batch is a batch of the library");
-
 /// What a pass, a shard and a caller have in common: any key may be held, read, removed and taken. A function that
 /// takes a `reader &` takes each of them. The refusals of all calls here include errc::empty.
-class reader {
+class reader : public detail::ending {
 public:
     reader(const reader &) = delete;
     reader &operator=(const reader &) = delete;
+
+    // (with those forms that write which key they ended)
+    using detail::ending::try_release;
+    using detail::ending::try_remove;
+    using detail::ending::try_take;
+#if defined(__cpp_exceptions)
+    using detail::ending::remove;
+    using detail::ending::take;
+#endif
 
     /// Takes a hold on a key into an empty guard, so that its value stays readable. A pass has at most 16 holds, also
     /// several on one key. bad_key, holds_full, gone, crowded; occupied, if the guard is not empty.
@@ -64,6 +42,7 @@ public:
     ///     gearlongan::guard guard;
     ///     if (pass.try_get(key, guard) == gearlongan::errc::ok) guard.reset();
     errc try_get(key of, guard &into) & noexcept;
+    errc try_get(key of, guard &into, std::optional<ended> &told) & noexcept;
 
     /// Copies the value of a key, and takes no hold. It writes nothing to shared memory if the key has a value or was
     /// removed. bad_key, gone; holds_full and crowded come only of a key whose insert the pass neither made nor heard
@@ -84,6 +63,7 @@ public:
     ///     assert(batch[0].view() == pass.load(key)->view());
     ///     assert(batch[1].code() == gearlongan::errc::bad_key && batch[1].view().empty());
     errc try_load_each(loaded *batch, std::size_t count) noexcept {
+        if (has_hook()) return load_one_by_one(batch, count);
         return static_cast<errc>(shardheap_load_each(&raw_, batch, count));
     }
 
@@ -101,7 +81,10 @@ public:
     /// Removes a key: no later get finds it, and its value stays until the last hold goes. bad_key, gone.
     ///
     ///     assert(pass.try_remove(key) == gearlongan::errc::ok);
-    errc try_remove(key of) noexcept { return static_cast<errc>(shardheap_remove(&raw_, of.number())); }
+    errc try_remove(key of) noexcept {
+        if (has_hook()) return hooked(shardheap_remove_ended, of);
+        return static_cast<errc>(shardheap_remove(&raw_, of.number()));
+    }
 
     /// Takes the value of a key: a get, a read, a remove and a release in one. Of all calls that remove one key,
     /// exactly one is ok. bad_key, holds_full, gone, crowded.
@@ -110,6 +93,7 @@ public:
     ///     assert(pass.try_take(key, value) == gearlongan::errc::ok && value.size() == 2);
     ///     assert(pass.try_take(key, value) == gearlongan::errc::gone);
     inline errc try_take(key of, value &into) noexcept {
+        if (has_hook()) return hooked_take(of, into);
         return static_cast<errc>(
             shardheap_take_value(&raw_, of.number(), into.words_, value::max_size(), &into.size_));
     }
@@ -190,7 +174,7 @@ public:
     ///
     ///     gearlongan::key held = pass.get(key).detach();
     ///     assert(pass.try_release(held) == gearlongan::errc::ok);
-    errc try_release(key of) noexcept { return static_cast<errc>(shardheap_release(&raw_, of.number())); }
+    errc try_release(key of) noexcept { return give_back(of); }
 
 #if defined(__cpp_exceptions)
     /// Takes a hold on a key. It throws if the key is gone, too.
@@ -202,6 +186,7 @@ public:
     ///
     ///     if (gearlongan::guard guard = pass.find(key)) assert(guard.read()[0] == 7);
     [[nodiscard]] guard find(key of) &;
+    [[nodiscard]] guard find(key of, std::optional<ended> &told) &;
 
     /// Copies the value of a key, and takes no hold: nothing if the key is gone.
     ///
@@ -317,18 +302,19 @@ public:
     ///     assert(!pass);
     void lose() noexcept {
         unguarded();
+        on_end_.reset();
         shardheap_pass_lose(&raw_);
     }
 
 protected:
     reader() noexcept = default;
     reader(reader &&other) noexcept {
-        if (other.unguarded()) detail::shift(other.raw_, raw_);
+        if (other.unguarded()) take_over(other);
     }
     reader &operator=(reader &&other) noexcept {
         if (this == &other || !other.unguarded()) return *this;
         close();
-        detail::shift(other.raw_, raw_);
+        take_over(other);
         return *this;
     }
     ~reader() { close(); }
@@ -337,6 +323,7 @@ protected:
     // the close leaves the shards, and is waiting if that is.)
     void close() noexcept {
         unguarded();
+        on_end_.reset();
         for (int tries = 0; tries < 1000; tries++) {
             const std::uint32_t code = shardheap_pass_close(&raw_);
             if (code != SHARDHEAP_OWNS && code != SHARDHEAP_WAITING) return;
@@ -350,9 +337,19 @@ private:
     friend class pass;
     friend class shard;
 
-    errc hold(key of) noexcept { return static_cast<errc>(shardheap_get(&raw_, of.number())); }
-    inline errc load_words(key of, std::uint64_t *words, std::size_t room, std::uint64_t &size) noexcept {
-        return static_cast<errc>(shardheap_load(&raw_, of.number(), words, room, &size));
+    // Moves the pass of another one, with its hook. (This has none.)
+    void take_over(reader &other) noexcept {
+        detail::shift(other.raw_, raw_);
+        on_end_ = std::move(other.on_end_);
+    }
+
+    [[gnu::cold, gnu::noinline]] errc load_one_by_one(loaded *batch, std::size_t count) noexcept {
+        if (!raw_.full || !batch) return static_cast<errc>(shardheap_load_each(&raw_, batch, count));
+        for (loaded *it = batch; it != batch + count; ++it) {
+            shardheap_loaded *one = it;
+            one->code = static_cast<std::uint32_t>(load_by_hold(it->key(), one->words, value::max_size(), one->length));
+        }
+        return errc::ok;
     }
     // (wrong_size, if the value has another number of words than the record)
     template <class T> errc load_record_words(key of, std::uint64_t *words) noexcept {
@@ -362,10 +359,6 @@ private:
         const bool other = code == errc::too_short || (code == errc::ok && size != detail::words_of<T>);
         return other ? errc::wrong_size : code;
     }
-    inline errc read_words(key of, value &into) noexcept {
-        return static_cast<errc>(shardheap_read(&raw_, of.number(), into.words_, value::max_size(), &into.size_));
-    }
-
 #ifdef SHARDHEAP_CHECKED
     void count_guard(bool more) noexcept { more ? guards_++ : guards_--; }
     [[nodiscard]] bool is_guarded() const noexcept { return guards_ != 0; }
@@ -379,8 +372,6 @@ private:
         if (is_guarded()) SHARDHEAP_ON_MISUSE(SHARDHEAP_BUSY);
         return !is_guarded();
     }
-
-    shardheap_pass raw_ = SHARDHEAP_INIT;
 };
 
 } // namespace gearlongan

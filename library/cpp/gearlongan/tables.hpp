@@ -3,6 +3,7 @@
 #define GEARLONGAN_TABLES_HPP
 
 #include "gearlongan/handles.hpp"
+#include "gearlongan/keys.hpp"
 #include "gearlongan/values.hpp"
 
 #include <cstddef>
@@ -10,33 +11,11 @@
 #include <cstring>
 #include <functional>
 #include <iterator>
+#include <memory>
 #include <optional>
 #include <utility>
 
 namespace gearlongan {
-
-/// The key of a record of type R in a table: a number that no other record of its table ever has. It converts to no key
-/// of another type. That it is of another table of the same type is not found.
-///
-///     using number_key = gearlongan::key_of<double>;
-///     static_assert(sizeof(number_key) == 8 && !std::is_convertible_v<number_key, gearlongan::key_of<float>>);
-///     assert(number_key(4096).number() == 4096);
-template <class R> class key_of {
-public:
-    constexpr key_of() noexcept = default;
-    explicit constexpr key_of(std::uint64_t number) noexcept : number_(number) {}
-    [[nodiscard]] constexpr std::uint64_t number() const noexcept { return number_; }
-
-    friend constexpr bool operator==(key_of a, key_of b) noexcept { return a.number_ == b.number_; }
-    friend constexpr bool operator!=(key_of a, key_of b) noexcept { return a.number_ != b.number_; }
-    friend constexpr bool operator<(key_of a, key_of b) noexcept { return a.number_ < b.number_; }
-    friend constexpr bool operator>(key_of a, key_of b) noexcept { return b < a; }
-    friend constexpr bool operator<=(key_of a, key_of b) noexcept { return !(b < a); }
-    friend constexpr bool operator>=(key_of a, key_of b) noexcept { return !(a < b); }
-
-private:
-    std::uint64_t number_ = 0;
-};
 
 /// What a table has room for as it opens, and how far it grows.
 struct table_room {
@@ -64,7 +43,7 @@ public:
     table() noexcept {} // NOLINT(modernize-use-equals-default)
     table(table &&) noexcept = default;
     table &operator=(table &&) noexcept = default;
-    ~table() = default;
+    ~table() { this->close(); }
 
     /// Opens a table in this object, which is empty. occupied, memory; bad_shape, if a number is outside its limits or
     /// no first chunk has the room.
@@ -169,6 +148,26 @@ public:
         }
         removed = count;
         return code == errc::no_key ? errc::ok : code;
+    }
+
+    /// Has `hook` called with each key that ends from now on, and its record. It is called once for each key that is
+    /// removed, by the thread whose call was the last to use the key, at the end of that call. The close calls it for
+    /// each key that is left. It replaces the one before. No other call runs meanwhile. It throws nothing: otherwise
+    /// the program ends. shardheap_table_on_end says what else holds of it.
+    ///
+    ///     auto numbers = gearlongan::table<double>::open();
+    ///     double sum = 0;
+    ///     const auto adds = [&sum](gearlongan::key_of<double>, double number) { sum += number; };
+    ///     assert(numbers.try_on_end(adds) == gearlongan::errc::ok);
+    ///     assert(numbers.remove(numbers.insert(0.5)) && sum == 0.5);
+    ///     (void)numbers.insert(100);
+    ///     numbers.close();
+    ///     assert(sum == 100.5);
+    errc try_on_end(std::function<void(key_type, const R &)> hook) {
+        auto kept = std::make_unique<std::function<void(key_type, const R &)>>(std::move(hook));
+        const auto code = static_cast<errc>(shardheap_table_on_end(raw(), ends, kept.get()));
+        if (code == errc::ok) on_end_ = std::move(kept);
+        return code;
     }
 
     /// Takes a place for this thread beforehand. Calls are served without it. memory, no_place.
@@ -334,6 +333,13 @@ public:
         return removed;
     }
 
+    /// Has a hook called with each key that ends, as try_on_end does.
+    ///
+    ///     auto numbers = gearlongan::table<double>::open();
+    ///     numbers.on_end([](auto, double number) { assert(number == 0.5); });
+    ///     numbers.remove(numbers.insert(0.5));
+    void on_end(std::function<void(key_type, const R &)> hook) { detail::check(try_on_end(std::move(hook))); }
+
     /// Takes a place for this thread beforehand, as try_enter does.
     ///
     ///     auto numbers = gearlongan::table<double>::open();
@@ -348,6 +354,14 @@ public:
 #endif
 
 private:
+    // What C calls as a key ends. (A call of C may have stored another value.)
+    static void ends(void *hook, const shardheap_ended *of) noexcept {
+        if (of->length != detail::words_of<R>) return;
+        detail::record_room<R> room;
+        room.fill(of->words);
+        (*static_cast<std::function<void(key_type, const R &)> *>(hook))(key_type(of->key), room.record);
+    }
+
     // Meets the first key at a place or behind it that has a record. (A call of C may have stored another value.)
     errc find_next(std::uint64_t &place, shardheap_live_key &next) const noexcept {
         do {
@@ -371,15 +385,10 @@ private:
             return static_cast<errc>(code);
         }
     };
+
+    std::unique_ptr<std::function<void(key_type, const R &)>> on_end_;
 };
 
 } // namespace gearlongan
-
-/// The hash of a key, for std::unordered_map and std::unordered_set.
-template <class R> struct std::hash<gearlongan::key_of<R>> {
-    [[nodiscard]] std::size_t operator()(gearlongan::key_of<R> of) const noexcept {
-        return std::hash<std::uint64_t>{}(of.number());
-    }
-};
 
 #endif

@@ -62,6 +62,8 @@ inline constexpr bool is_record_v = std::is_object_v<T> && !std::is_array_v<T> &
 
 namespace detail {
 
+class ending;
+
 template <class T> inline constexpr std::size_t words_of = (sizeof(T) + 7) / 8;
 
 // The words of a record. Those of its padding are whatever they are; the rest of the last word is 0.
@@ -145,6 +147,7 @@ public:
     }
 
 private:
+    friend class detail::ending;
     friend class reader;
     void fill(words_view words) noexcept {
         if (!words.empty()) std::memcpy(words_, words.data(), words.size() * sizeof *words_);

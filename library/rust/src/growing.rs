@@ -219,6 +219,20 @@ impl Caller {
         self.pass.remove_if(predicate)
     }
 
+    /// Has a hook called with each key that a call of this caller ends: see [`Pass::on_end`].
+    ///
+    /// ```
+    /// # use gearlongan::{Error, Heap, Room};
+    /// # let heap = Heap::growing(Room { owners: 1, values: 1, words: 1, passes: 1 }, 256)?;
+    /// let mut caller = heap.take()?;
+    /// caller.on_end(|_, words| assert_eq!(words, [7]));
+    /// caller.remove(caller.insert(&[7])?)?;
+    /// # Ok::<(), Error>(())
+    /// ```
+    pub fn on_end(&mut self, hook: impl Fn(Key, &[u64]) + Send + 'static) {
+        self.pass.on_end(hook);
+    }
+
     /// Collects what others freed in each shard that the caller owns, so that pages of which nothing is used may take
     /// values of another length.
     ///

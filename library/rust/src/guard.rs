@@ -1,4 +1,5 @@
 //! Guards.
+use crate::ended::Ended;
 use crate::error::Error;
 use crate::ffi::PassHandle;
 use crate::key::Key;
@@ -6,6 +7,7 @@ use crate::record::Record;
 use crate::value::Value;
 use crate::words::Kept;
 use std::fmt;
+use std::mem::ManuallyDrop;
 use std::ops::Deref;
 
 /// A hold on a key, which is released when the guard is dropped. Until then the value stays readable and unchanged.
@@ -55,6 +57,32 @@ impl<'p> Guard<'p> {
     pub(crate) fn take(pass: &'p PassHandle, key: Key) -> Result<Guard<'p>, Error> {
         pass.get(key)?;
         Ok(Guard::of(pass, key))
+    }
+
+    pub(crate) fn take_ended(pass: &'p PassHandle, key: Key, ended: &mut Ended) -> Result<Guard<'p>, Error> {
+        pass.get_ended(key, ended)?;
+        Ok(Guard::of(pass, key))
+    }
+
+    /// Releases the hold, as a drop of the guard, and returns the key if that ended: if it was removed, and this hold
+    /// was the last use of it.
+    ///
+    /// ```
+    /// # use gearlongan::{Error, Heap, Layout, Shape};
+    /// # let heap = Heap::open(Layout::Wide, Shape { shards: 1, segments: 1, passes: 1 })?;
+    /// # let shard = heap.take()?.adopt(0)?;
+    /// let key = shard.insert(&[7, 8])?;
+    /// let (one, other) = (shard.get(key)?, shard.get(key)?);
+    /// shard.remove(key)?;
+    /// assert_eq!(one.release(), None);
+    /// assert!(other.release().is_some_and(|it| it.key == key && it.value == [7, 8]));
+    /// # Ok::<(), Error>(())
+    /// ```
+    pub fn release(self) -> Option<Ended> {
+        let guard = ManuallyDrop::new(self);
+        let (released, ended) = Ended::told(|ended| guard.pass.release_ended(guard.key, ended));
+        debug_assert_eq!(released, Ok(()), "a guard has a hold");
+        ended
     }
 
     /// The key that is held.

@@ -51,6 +51,14 @@
 //! takes w + 4 atomic loads for a value of w words, and at most 20 if the key was removed. A [`get`](Pass::get) pins
 //! the value in place. It and the drop of its guard each change a word that all readers of the key share.
 //!
+//! # The end of a value
+//!
+//! What a value names, such as a pointer or a file, can be freed once nobody reads the value any more: then its key
+//! ends. Exactly one call ends a key. [`Pass::on_end`] and [`Table::on_end`] have a closure called with it. Without one
+//! [`Guard::release`], [`Pass::remove_ended`] and the like return it: see [`Ended`]. The other calls do not say which
+//! key they end: a guard's drop, a removal and a `take`. A `get`, a `load` or a step of [`Pass::walk_held`] ends one
+//! only if it finds a key gone.
+//!
 //! # Walks
 //!
 //! A walk ([`Pass::walk`], [`Table::iter`]) meets the live keys in the order of their places, each place once. A key
@@ -136,6 +144,7 @@
 compile_error!("gearlongan supports x86-64 Linux alone");
 
 mod accounts;
+mod ended;
 mod error;
 mod ffi;
 mod growing;
@@ -172,6 +181,7 @@ use unrecorded as history;
 mod readme {}
 
 pub use accounts::{PageAccounts, Totals};
+pub use ended::Ended;
 pub use error::{AdoptError, Error, LeaveError};
 pub use growing::{Caller, Growing};
 pub use guard::Guard;

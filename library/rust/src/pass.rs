@@ -53,7 +53,7 @@ impl Pass {
     }
 
     /// Reads a value and takes no hold. It writes nothing to shared memory if the key has a value or was removed, and
-    /// takes w + 4 atomic loads for a value of w words.
+    /// takes w + 4 atomic loads for a value of w words. (It takes a hold if the pass has a [hook](Pass::on_end).)
     ///
     /// # Errors
     ///

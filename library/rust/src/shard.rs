@@ -207,6 +207,20 @@ impl Shard {
         self.pass.remove_if(predicate)
     }
 
+    /// Has a hook called with each key that a call of this pass ends: see [`Pass::on_end`].
+    ///
+    /// ```
+    /// # use gearlongan::{Error, Heap, Layout, Shape};
+    /// # let heap = Heap::open(Layout::Wide, Shape { shards: 1, segments: 1, passes: 1 })?;
+    /// let mut shard = heap.take()?.adopt(0)?;
+    /// shard.on_end(|_, words| assert_eq!(words, [7]));
+    /// shard.remove(shard.insert(&[7])?)?;
+    /// # Ok::<(), Error>(())
+    /// ```
+    pub fn on_end(&mut self, hook: impl Fn(Key, &[u64]) + Send + 'static) {
+        self.pass.on_end(hook);
+    }
+
     /// Leaves the shard, with all that is in it, to the pass that adopts it next, and gets the pass back.
     ///
     /// # Errors

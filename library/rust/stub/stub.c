@@ -343,6 +343,21 @@ uint32_t shardheap_raw_take_value(shardheap_pass *pass, uint64_t key, uint64_t *
     abort();
 }
 
+uint32_t shardheap_raw_get_ended(shardheap_pass *pass, uint64_t key, shardheap_ended *ended) {
+    (void)pass, (void)key, (void)ended;
+    abort();
+}
+
+uint32_t shardheap_raw_release_ended(shardheap_pass *pass, uint64_t key, shardheap_ended *ended) {
+    (void)pass, (void)key, (void)ended;
+    abort();
+}
+
+uint32_t shardheap_raw_remove_ended(shardheap_pass *pass, uint64_t key, shardheap_ended *ended) {
+    (void)pass, (void)key, (void)ended;
+    abort();
+}
+
 uint32_t shardheap_raw_pages_left(shardheap_pass *pass, uint64_t *pages) {
     (void)pass, (void)pages;
     abort();

@@ -2,6 +2,7 @@
 //! forgotten guard has is lost.
 #![forbid(unsafe_code)]
 use gearlongan::slab::{Config, Pool, Slab};
+use gearlongan::Table;
 use std::mem::forget;
 use std::sync::Arc;
 use std::thread;
@@ -108,4 +109,13 @@ fn sixteen_million_forgotten_entries_do_not_end_the_value() {
     assert!(slab.get(key).is_some_and(|value| *value == text(7)));
     assert!(slab.remove(key) && !slab.contains(key));
     assert!(slab.insert(text(8)).is_some_and(|key| slab.take(key) == Some(text(8))));
+}
+
+#[test]
+fn a_forgotten_table_tells_no_ends() {
+    let mut table = Table::new();
+    table.on_end(|_, n: u64| assert_eq!(n, 7));
+    let keys = [7, 8].map(|n| table.insert(&n).expect("there is room"));
+    assert!(table.remove(keys[0]));
+    forget(table);
 }

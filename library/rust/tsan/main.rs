@@ -1,8 +1,8 @@
-//! A program of threads over a slab, a pool and a table, for ThreadSanitizer. Threads pass keys on by relaxed atomics,
-//! which order nothing: so what orders the values is the slab or the table alone. For `tsan.py`.
+//! A program of threads over a slab, a pool, a table and a heap, for ThreadSanitizer. Threads pass keys on by relaxed
+//! atomics, which order nothing: so what orders the values is the slab, the table or the heap alone. For `tsan.py`.
 use gearlongan::slab::{Pool, Slab};
 use gearlongan::table::Key;
-use gearlongan::Table;
+use gearlongan::{Heap, Room, Table};
 use std::ffi::c_void;
 use std::ptr;
 use std::sync::atomic::AtomicUsize;
@@ -195,15 +195,47 @@ fn dropped() {
     });
 }
 
+static FREED: AtomicUsize = AtomicUsize::new(0);
+
+/// Boxes that threads read under guards. The call that ends a key frees its box, after all reads.
+fn boxes(threads: usize) {
+    let room = Room { owners: threads as u32, values: 1000, words: 1, passes: threads as u32 };
+    let (heap, board) = (Heap::growing(room, 64).expect("it opens"), Board::new());
+    let user = || {
+        let mut caller = heap.take().expect("a pass is at home");
+        caller.on_end(|_, words| {
+            FREED.fetch_add(1, Relaxed);
+            // SAFETY: it is the box from below. Its key ends once.
+            drop(unsafe { Box::from_raw(words[0] as *mut [usize; 2]) });
+        });
+        caller
+    };
+    in_threads(threads, &|number| {
+        let caller = user();
+        for round in 0..ROUNDS {
+            let value = Box::into_raw(Box::new([round; 2]));
+            let key = caller.insert(&[value as u64]).expect("there is room");
+            let old = board.swap(round + number, u64::from(key) as usize);
+            let guard = board.look(round).and_then(|key| caller.get((key as u64).into()).ok());
+            // SAFETY: it is a box from above. Its key does not end before the guard goes.
+            assert!(guard.is_none_or(|words| unsafe { *(words[0] as *const [usize; 2]) }[1] < ROUNDS));
+            assert!(old.is_none_or(|key| caller.remove((key as u64).into()).is_ok()));
+        }
+    });
+    assert_eq!(user().remove_if(|_, _| true), PLACES);
+    assert_eq!(FREED.load(Relaxed), threads * ROUNDS);
+}
+
 fn main() {
     for threads in [2, 4, 8] {
         slab(threads);
         pool(threads);
         ends(threads);
     }
-    // (Over the stand-in of `stub.py` there is no table.)
+    // (The stand-in of `stub.py` has no heap that grows.)
     if std::env::args().nth(1).as_deref() != Some("slab") {
         [2, 4, 8].into_iter().for_each(table);
+        boxes(8);
         crowd(80);
         dropped();
     }

@@ -3,6 +3,7 @@
 //! What the reasons below lean on. The declarations are those of `shardheap.h`. A handle begins as zeroed bytes, and
 //! nothing but the library writes it. It is never copied: it lies in a value that is neither `Copy` nor `Clone`, and to
 //! move that is to move the handle. No call calls back, so that a handle which one thread has is used by one call.
+use crate::ended::Ended;
 use crate::error::{told, Error};
 use crate::key::Key;
 use crate::value::{Value, MAX_WORDS};
@@ -95,7 +96,12 @@ pub(crate) struct LiveKey {
 impl LiveKey {
     /// A walk goes on behind it over all keys.
     pub(crate) fn none() -> LiveKey {
-        LiveKey { key: Key::from(0), behind: 0, value: Value::default() }
+        LiveKey::behind(0)
+    }
+
+    /// A walk goes on at this place.
+    fn behind(place: u64) -> LiveKey {
+        LiveKey { key: Key::from(0), behind: place, value: Value::default() }
     }
 }
 
@@ -142,6 +148,9 @@ extern "C" {
     fn shardheap_raw_get(pass: *mut Raw, key: u64) -> u32;
     fn shardheap_raw_release(pass: *mut Raw, key: u64) -> u32;
     fn shardheap_raw_remove(pass: *mut Raw, key: u64) -> u32;
+    fn shardheap_raw_get_ended(pass: *mut Raw, key: u64, ended: *mut Ended) -> u32;
+    fn shardheap_raw_release_ended(pass: *mut Raw, key: u64, ended: *mut Ended) -> u32;
+    fn shardheap_raw_remove_ended(pass: *mut Raw, key: u64, ended: *mut Ended) -> u32;
     fn shardheap_raw_read(pass: *mut Raw, key: u64, words: *mut u64, room: usize, length: *mut u64) -> u32;
     fn shardheap_raw_load(pass: *mut Raw, key: u64, words: *mut u64, room: usize, length: *mut u64) -> u32;
     fn shardheap_raw_load_each(pass: *mut Raw, loads: *mut Loaded, count: usize) -> u32;

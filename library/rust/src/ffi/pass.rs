@@ -1,5 +1,6 @@
 //! The handles of passes and receipts.
 use super::*;
+use crate::ended::{Hook, OfPass};
 use crate::history::Log;
 use std::cell::{Cell, UnsafeCell};
 use std::thread;
@@ -16,6 +17,7 @@ pub(crate) struct PassHandle {
     // The number of its heap.
     heap: u64,
     log: Log,
+    on_end: Hook<OfPass>,
 }
 
 /// The handle of a receipt, with the number of the heap that it is of.
@@ -38,7 +40,7 @@ const LEAVE_TRIES: u32 = 1000;
 impl PassHandle {
     /// The handle of a pass that was taken just now, from the heap with this number.
     pub(super) fn of(raw: Raw, heap: u64, log: Log) -> PassHandle {
-        PassHandle { raw: UnsafeCell::new(raw), holds: Cell::new(0), heap, log }
+        PassHandle { raw: UnsafeCell::new(raw), holds: Cell::new(0), heap, log, on_end: Hook::none() }
     }
 
     #[inline]
@@ -46,8 +48,27 @@ impl PassHandle {
         self.raw.get()
     }
 
+    /// From now on the calls below call the hook with each key that they end.
+    pub(crate) fn set_on_end(&mut self, hook: Box<OfPass>) {
+        self.on_end.set(hook);
+    }
+
+    // Makes a call that writes which key it ended, and calls the hook with it.
+    #[cold]
+    #[inline(never)]
+    fn hooked<T>(&self, call: impl FnOnce(&mut Ended) -> T) -> T {
+        let (answer, ended) = Ended::told(call);
+        if let (Some(hook), Some(ended)) = (self.on_end.get(), ended) {
+            hook(ended.key, &ended.value);
+        }
+        answer
+    }
+
     #[inline]
     pub(crate) fn get(&self, key: Key) -> Result<(), Error> {
+        if self.on_end.is_set() {
+            return self.hooked(|ended| self.get_ended(key, ended));
+        }
         // SAFETY: the handle is this thread's, and no other call uses it.
         self.log.get(key, || told(unsafe { shardheap_raw_get(self.at(), key.into()) }))?;
         self.holds.set(self.holds.get() + 1);
@@ -56,6 +77,9 @@ impl PassHandle {
 
     #[inline]
     pub(crate) fn release(&self, key: Key) -> Result<(), Error> {
+        if self.on_end.is_set() {
+            return self.hooked(|ended| self.release_ended(key, ended));
+        }
         // SAFETY: as in `get`.
         self.log.release(key, || told(unsafe { shardheap_raw_release(self.at(), key.into()) }))?;
         self.holds.set(self.holds.get() - 1);
@@ -64,8 +88,44 @@ impl PassHandle {
 
     #[inline]
     pub(crate) fn remove(&self, key: Key) -> Result<(), Error> {
+        if self.on_end.is_set() {
+            return self.hooked(|ended| self.remove_ended(key, ended));
+        }
         // SAFETY: as in `get`.
         self.log.remove(key, || told(unsafe { shardheap_raw_remove(self.at(), key.into()) }))
+    }
+
+    /// The same calls, which write what they ended, or [`Ended::none`], whether they are refused or not. They call no
+    /// hook.
+    pub(crate) fn get_ended(&self, key: Key, ended: &mut Ended) -> Result<(), Error> {
+        // SAFETY: as in `get`. The library writes a key, and as many words as the length says.
+        self.log.get(key, || told(unsafe { shardheap_raw_get_ended(self.at(), key.into(), ended) }))?;
+        self.holds.set(self.holds.get() + 1);
+        Ok(())
+    }
+
+    pub(crate) fn release_ended(&self, key: Key, ended: &mut Ended) -> Result<(), Error> {
+        // SAFETY: as in `get_ended`.
+        self.log.release(key, || told(unsafe { shardheap_raw_release_ended(self.at(), key.into(), ended) }))?;
+        self.holds.set(self.holds.get() - 1);
+        Ok(())
+    }
+
+    pub(crate) fn remove_ended(&self, key: Key, ended: &mut Ended) -> Result<(), Error> {
+        // SAFETY: as in `get_ended`.
+        self.log.remove(key, || told(unsafe { shardheap_raw_remove_ended(self.at(), key.into(), ended) }))
+    }
+
+    /// The value stays as it was if another pass removes the key first. (The removal ends nothing, since the pass has a
+    /// hold on the key until the release.)
+    pub(crate) fn take_ended(&self, key: Key, value: &mut Value, ended: &mut Ended) -> Result<(), Error> {
+        let mut taken = Value::default();
+        self.get_ended(key, ended)?;
+        let removed = self.read(key, &mut taken).and_then(|()| self.remove_ended(key, ended));
+        self.release_ended(key, ended)?;
+        removed?;
+        *value = taken;
+        Ok(())
     }
 
     /// Reads into the value's own room.
@@ -81,15 +141,38 @@ impl PassHandle {
     /// Loads into the value's own room.
     #[inline]
     pub(crate) fn load(&self, key: Key, value: &mut Value) -> Result<(), Error> {
+        if self.on_end.is_set() {
+            return self.hooked(|ended| self.load_ended(key, value, ended));
+        }
+        self.load_or_get(key, value)
+    }
+
+    // A load as the library makes it: if it comes before the value was there, it goes on as a get, which may end a key.
+    #[inline(always)]
+    fn load_or_get(&self, key: Key, value: &mut Value) -> Result<(), Error> {
         // SAFETY: as in `read`.
         self.log.load(key, value, |value| unsafe {
             value.words.fill(|words, length| told(shardheap_raw_load(self.at(), key.into(), words, MAX_WORDS, length)))
         })
     }
 
+    /// The same by a get, a read and a release, which write what they ended, or [`Ended::none`].
+    pub(crate) fn load_ended(&self, key: Key, value: &mut Value, ended: &mut Ended) -> Result<(), Error> {
+        match self.get_ended(key, ended) {
+            Ok(()) => {
+                let read = self.read(key, value);
+                self.release_ended(key, ended)?;
+                read
+            }
+            // This ends no key: its get would be refused before it is at the slot, or the value was there.
+            Err(Error::HoldsFull | Error::Crowded) => self.load_or_get(key, value),
+            Err(error) => Err(error),
+        }
+    }
+
     /// Loads each key, as far as there are places for the results.
     pub(crate) fn load_each(&self, keys: &[Key], results: &mut [Result<Value, Error>]) {
-        if self.log.is_on() {
+        if self.log.is_on() || self.on_end.is_set() {
             return self.load_one_by_one(keys, results);
         }
         let mut batch = [Loaded::NONE; BATCH];
@@ -109,8 +192,9 @@ impl PassHandle {
     /// Takes the value of a key into the value's own room, which each value fits.
     #[inline]
     pub(crate) fn take(&self, key: Key, value: &mut Value) -> Result<(), Error> {
-        if self.log.is_on() {
-            return self.take_in_parts(key, value);
+        // (If it is recorded: as the calls that it consists of, one by one.)
+        if self.log.is_on() || self.on_end.is_set() {
+            return self.hooked(|ended| self.take_ended(key, value, ended));
         }
         // SAFETY: as in `read`.
         unsafe {
@@ -132,6 +216,9 @@ impl PassHandle {
 
     /// The first live key from a place on, which becomes the place behind it; and whether the pass got a hold on it.
     pub(crate) fn next_held(&self, place: &mut u64) -> Result<Option<(Key, bool)>, Error> {
+        if self.on_end.is_set() {
+            return self.next_held_in_parts(place);
+        }
         let next = self.log.next_held(|| {
             let mut met = HeldKey::default();
             // SAFETY: as in `get`.
@@ -148,26 +235,31 @@ impl PassHandle {
         Ok(next)
     }
 
-    // A batch of loads that are recorded one by one.
+    // The same by a walk without holds and a get of each key that it meets, since each get may end another key. A key
+    // that is gone at its get was not met.
+    #[cold]
+    fn next_held_in_parts(&self, place: &mut u64) -> Result<Option<(Key, bool)>, Error> {
+        let mut met = LiveKey::behind(*place);
+        while self.next_live(&mut met) {
+            let got = self.get(met.key);
+            if matches!(got, Ok(()) | Err(Error::Crowded)) {
+                *place = met.behind;
+                return Ok(Some((met.key, got.is_ok())));
+            }
+            if got != Err(Error::Gone) {
+                return got.map(|()| None);
+            }
+        }
+        Ok(None)
+    }
+
+    // A batch of loads that are recorded one by one, or tell a hook.
     #[cold]
     fn load_one_by_one(&self, keys: &[Key], results: &mut [Result<Value, Error>]) {
         for (key, result) in keys.iter().zip(results) {
             let mut value = Value::default();
             *result = self.load(*key, &mut value).map(|()| value);
         }
-    }
-
-    // A take as the calls that it consists of, which are recorded one by one. The value stays as it was if another pass
-    // removes the key first.
-    #[cold]
-    fn take_in_parts(&self, key: Key, value: &mut Value) -> Result<(), Error> {
-        let mut taken = Value::default();
-        self.get(key)?;
-        let removed = self.read(key, &mut taken).and_then(|()| self.remove(key));
-        self.release(key)?;
-        removed?;
-        *value = taken;
-        Ok(())
     }
 
     pub(crate) fn receipt(&self) -> Result<ReceiptHandle, Error> {

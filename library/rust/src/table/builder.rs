@@ -1,4 +1,5 @@
 //! How a table is opened.
+use super::ending::OnEnd;
 use super::members::Members;
 use super::Table;
 use crate::{Error, Record, Room, MAX_WORDS};
@@ -58,7 +59,7 @@ impl<R: Record> Builder<R> {
     /// memory for the heap is refused. If the few kilobytes of the table itself are refused, the process ends, as for
     /// any `Box`.
     pub fn open(self) -> Result<Table<R>, Error> {
-        Ok(Table { members: Members::open(self.first, self.chunks)?, record: PhantomData })
+        Ok(Table { members: Members::open(self.first, self.chunks)?, on_end: OnEnd::none(), record: PhantomData })
     }
 }
 

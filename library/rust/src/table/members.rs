@@ -1,5 +1,6 @@
 //! Which place of a table each thread has.
 use super::places::{is_within, within, Open, Owned, Places};
+use crate::ended::Ended;
 use crate::ffi::LiveKey;
 use crate::threads::{number, Leave, Slots};
 use crate::{Error, Key, Room, Value};
@@ -118,6 +119,19 @@ impl Members {
     #[inline]
     pub(super) fn take(&self, key: Key, value: &mut Value) -> bool {
         self.succeeds(|open| open.take(key, value).is_ok())
+    }
+
+    /// The same three, which write what they ended, whatever they return.
+    pub(super) fn load_ended(&self, key: Key, value: &mut Value, ended: &mut Ended) -> bool {
+        self.succeeds(|open| open.load_ended(key, value, ended).is_ok())
+    }
+
+    pub(super) fn remove_ended(&self, key: Key, ended: &mut Ended) -> bool {
+        self.succeeds(|open| open.remove_ended(key, ended).is_ok())
+    }
+
+    pub(super) fn take_ended(&self, key: Key, value: &mut Value, ended: &mut Ended) -> bool {
+        self.succeeds(|open| open.take_ended(key, value, ended).is_ok())
     }
 
     // (Always, since its callers are few and the compiler would count what is cold.)

@@ -62,7 +62,8 @@
 //! # Records
 //!
 //! A record is copied into the table and out of it as words. So neither a removal nor the end of the table drops a
-//! record: if its type has a `Drop`, each copy runs it that a call returns.
+//! record: if its type has a `Drop`, each copy runs it that a call returns. [`Table::on_end`] has a closure called with
+//! each record whose key ended.
 //!
 //! [`Record::write`] runs before the table is changed, and [`Record::read`] after. Both may call the table, and if they
 //! panic the table is whole. A `take` whose `read` panics has removed its key.
@@ -84,6 +85,7 @@
 //! cannot be had, they use a shared one. The memory of all chunks is freed as the table is dropped. Some 13 KB of it
 //! stay until each thread that used it has ended, or has used enough later tables to forget it.
 mod builder;
+mod ending;
 mod key;
 mod members;
 mod places;
@@ -96,6 +98,7 @@ pub use key::Key;
 
 use crate::record::with_words;
 use crate::{Error, Record, Value};
+use ending::OnEnd;
 use members::Members;
 use std::fmt;
 use std::marker::PhantomData;
@@ -107,6 +110,7 @@ use std::sync::Arc;
 /// It is [`Send`] and [`Sync`], whatever the record is: a record is copied into the table and out of it as words.
 pub struct Table<R> {
     members: Arc<Members>,
+    on_end: OnEnd,
     record: PhantomData<fn() -> R>,
 }
 
@@ -166,7 +170,7 @@ impl<R: Record> Table<R> {
     }
 
     /// A copy of the record of a key. None if it was removed, or the key was never issued. It writes nothing to memory
-    /// that threads share, if the thread has a place of its own.
+    /// that threads share, if the thread has a place of its own and the table no [hook](Table::on_end).
     ///
     /// ```
     /// # use gearlongan::{Error, Table};
@@ -180,7 +184,7 @@ impl<R: Record> Table<R> {
     #[inline]
     pub fn get(&self, key: Key<R>) -> Option<R> {
         let mut value = Value::default();
-        self.members.load(key.raw(), &mut value).then_some(())?;
+        self.load(key, &mut value).then_some(())?;
         value.record().ok()
     }
 
@@ -195,7 +199,16 @@ impl<R: Record> Table<R> {
     /// ```
     #[inline]
     pub fn contains(&self, key: Key<R>) -> bool {
-        self.members.load(key.raw(), &mut Value::default())
+        self.load(key, &mut Value::default())
+    }
+
+    // Whether the key has a record, which is written then.
+    #[inline]
+    fn load(&self, key: Key<R>, value: &mut Value) -> bool {
+        if self.on_end.is_set() {
+            return self.on_end.load(&self.members, key.raw(), value);
+        }
+        self.members.load(key.raw(), value)
     }
 
     /// Removes a key, and returns whether this call did: of all calls that remove or take a key, one does.
@@ -210,6 +223,9 @@ impl<R: Record> Table<R> {
     /// ```
     #[inline]
     pub fn remove(&self, key: Key<R>) -> bool {
+        if self.on_end.is_set() {
+            return self.on_end.remove(&self.members, key.raw());
+        }
         self.members.remove(key.raw())
     }
 
@@ -226,7 +242,12 @@ impl<R: Record> Table<R> {
     #[inline]
     pub fn take(&self, key: Key<R>) -> Option<R> {
         let mut value = Value::default();
-        self.members.take(key.raw(), &mut value).then_some(())?;
+        let is_taken = if self.on_end.is_set() {
+            self.on_end.take(&self.members, key.raw(), &mut value)
+        } else {
+            self.members.take(key.raw(), &mut value)
+        };
+        is_taken.then_some(())?;
         value.record().ok()
     }
 
@@ -316,6 +337,14 @@ impl<R: Record> Default for Table<R> {
     /// As [`Table::new`], which panics if memory is refused.
     fn default() -> Table<R> {
         Table::new()
+    }
+}
+
+impl<R> Drop for Table<R> {
+    fn drop(&mut self) {
+        if self.on_end.is_set() {
+            self.on_end.end_all(&self.members);
+        }
     }
 }
 

@@ -2,6 +2,7 @@
 //!
 //! A place rests if no thread has it. It keeps its caller, and that its shards, so that nothing is left or adopted as a
 //! thread ends, and nothing waits. The next thread that asks has it as it is.
+use crate::ended::Ended;
 use crate::ffi::LiveKey;
 use crate::threads::{mark, Alone, Taken};
 use crate::{Caller, Error, Growing, Heap, Key, Room, Value};
@@ -108,6 +109,23 @@ impl Open<'_> {
     #[inline]
     pub(super) fn take(&self, key: Key, value: &mut Value) -> Result<(), Error> {
         self.alone.run(|| self.caller.take_into(key, value))?;
+        self.add(-1);
+        Ok(())
+    }
+
+    /// The same three, which write what they ended, whether they are refused or not.
+    pub(super) fn load_ended(&self, key: Key, value: &mut Value, ended: &mut Ended) -> Result<(), Error> {
+        self.alone.run(|| self.caller.handle.load_ended(key, value, ended))
+    }
+
+    pub(super) fn remove_ended(&self, key: Key, ended: &mut Ended) -> Result<(), Error> {
+        self.alone.run(|| self.caller.handle.remove_ended(key, ended))?;
+        self.add(-1);
+        Ok(())
+    }
+
+    pub(super) fn take_ended(&self, key: Key, value: &mut Value, ended: &mut Ended) -> Result<(), Error> {
+        self.alone.run(|| self.caller.handle.take_ended(key, value, ended))?;
         self.add(-1);
         Ok(())
     }
