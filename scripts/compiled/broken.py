@@ -65,6 +65,14 @@ HEAPS = [
            "if BROKEN && slot_ref.slot == 0 { return false; }\n    OLD", behind="{\n    "),
     Broken("read_is_empty", "sh_pass/src/pass.rt", "Ok(value)", "Ok(Value::empty())",
            behind="        self.read_into(hold, &mut value)?;\n        "),
+    # Calls that tell ends.
+    Broken("removal_tells_the_end_of_a_key_that_is_held", "sh_pass/src/told_entering.rt",
+           "(first, is_own.then_some(slot_ref), ended)",
+           "(first, is_own.then_some(slot_ref), if BROKEN && first { Some(key) } else { ended })"),
+    Broken("end_is_told_though_another_ended_the_key", "sh_pass/src/told_ending.rt",
+           "        return (None, false);\n",
+           "        return (if BROKEN { key_in::<L>(table.shape(), slot_ref, generation) } else { None }, false);\n",
+           behind="    if found != marked {\n"),
     # Looks.
     Broken("look_loads_the_state_once", "sh_table/src/looks.rt",
            f"self.load::<Brand, _>(\n            seat,\n            {STATE_AGAIN}name.slot),\n        )",

@@ -56,11 +56,12 @@ BY_HAND = ["begun by hand", "steps by hand", "stops in the middle", "marked by h
 def add_up(rounds, grows):
     """Whether the counts of a run agree with one another. Each answer has a line and is judged, and each shard that was
     adopted was left. A value is at its end live, or was removed by a call, or by one of those that marked it by hand.
-    A hold that was got was released, or keeps a slot. Each fill at the end of a round ends as Full."""
+    A hold that was got was released, or keeps a slot. Some rounds report ends, each of a key that was removed. Each fill at
+    the end of a round ends as Full."""
     def look(text):
         of = {name: int(count) for name, count in re.findall(r"^(.*) (\d+)$", text, re.M)}
         missing = {*MADE, *ANSWERS, *BY_HAND, "rounds", "answers judged", "shards left", "slots live at the end",
-                   "slots marked at the end", "refused as Full"} - of.keys()
+                   "slots marked at the end", "refused as Full", "ends reported"} - of.keys()
         if missing:
             yield f"it does not count {', '.join(sorted(missing))}"
             return
@@ -74,6 +75,8 @@ def add_up(rounds, grows):
             "slots live at least those left": of["slots live at the end"] >= left - of["marked by hand"],
             "slots marked at most those held": of["slots marked at the end"] <= of["gets"] - of["releases"],
             "keys judged at least the inserts": of["keys judged"] >= of["inserts"],
+            "ends reported in one of several rounds": of["ends reported"] > 0 or rounds == 1,
+            "ends reported of those removed": of["ends reported"] <= of["removes"] + of["marked by hand"],
             "refused as Full once a round": of["refused as Full"] >= rounds,
         }.items():
             if not is_so:

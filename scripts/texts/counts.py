@@ -88,7 +88,7 @@ TO_READ = [
     ("the actions, and the table `row`: what each action requires, does and leaves", "sh_step/src action moves body;"
      " sh_step/specs Plans Collections Operations Parts Rows Moves"),
     ("what a list of events leaves, and what was put on each list", "sh_core/specs Words Worlds Lists"),
-    ("the theorem, with the definitions that its clauses cite", "sh_core/specs Tallies Stacks Bells InHeap"
+    ("the theorem, with the definitions that its clauses cite", "sh_core/specs Tallies Stacks Bells InHeap KeyEnds"
      " Looks Variants Refines; sh_step/specs Conditions Ends; sh_core/src claims"),
     ("the rule of the running heap, and the file that touches its words", "sh_step/specs Footsteps; sh_core/specs Kept"
      " Trails; sh_table/specs Views Tales TableNumbers Reached Orders; sh_table/src rule table"),

@@ -2,6 +2,7 @@
 //! run reports, and what history it leaves.
 mod callers;
 mod defect;
+mod ending;
 mod growing;
 mod heaps;
 mod model;
@@ -41,6 +42,7 @@ fn round_by<R: Threads + Wait + Sync>(
         segments: 1,
         chunks: 1,
         steps,
+        tells_ends: false,
     };
     played(rt, alloc, &plan, defect, dice)
 }

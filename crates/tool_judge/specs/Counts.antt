@@ -32,6 +32,7 @@ place_of count.Live = 22
 place_of count.Marked = 23
 place_of count.Retired = 24
 place_of count.Queued = 25
+place_of count.Ends = 26
 
 -- how often this was counted
 abbrev pub number_of : Counts → Count → ℕ

@@ -6,3 +6,4 @@ pub mod Records
 pub mod Tallies
 pub mod Walks
 pub mod Choices
+pub mod Ends

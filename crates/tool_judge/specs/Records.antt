@@ -16,6 +16,7 @@ use Rattle.tool_judge.specs.declared.counts.Count.TheVariants as count
 use Rattle.tool_judge.specs.declared.record.Held.{Held}
 use Rattle.tool_judge.specs.declared.record.Record.{Record}
 use Rattle.tool_judge.specs.declared.walk.Walk.{Walk}
+use Rattle.tool_judge.specs.declared.end.End.{End}
 use Rattle.tool_judge.specs.Counts.{counted}
 use Rattle.tool_judge.specs.Pattern.{IsPattern}
 
@@ -52,6 +53,11 @@ pub record HasHold (old new : Record) (hold : Hold) (times : Times) : Type 0 whe
 abbrev pub HasWalk : (old new : Record) → Walk → Type 0
 HasWalk old new walk =
     (new.walks.items ≡ old.walks.items ++ walk ∷ []) ⊎ (new.fault ≡ first_fault old fault.Memory)
+
+-- an end is noted behind the others, or that memory was refused
+abbrev pub HasEnd : (old new : Record) → End → Type 0
+HasEnd old new end =
+    (new.ends.items ≡ old.ends.items ++ end ∷ []) ⊎ (new.fault ≡ first_fault old fault.Memory)
 
 -- the value of a get, if it was read
 abbrev pub value_told : Told → Option (List ℕ)

@@ -34,9 +34,10 @@ pub enum Count {
     Marked,
     Retired,
     Queued,
+    Ends,
 }
 
-const NAMES: [&str; 26] = [
+const NAMES: [&str; 27] = [
     "inserts",
     "refused as Full",
     "gets",
@@ -63,12 +64,13 @@ const NAMES: [&str; 26] = [
     "slots marked at the end",
     "slots retired at the end",
     "slots queued at the end",
+    "ends reported",
 ];
 
 /// A number for each thing that is counted.
 #[derive(Clone, Copy, Debug, PartialEq, Eq)]
 pub struct Counts {
-    numbers: [u64; 26],
+    numbers: [u64; 27],
 }
 
 impl Counts {
@@ -76,7 +78,7 @@ impl Counts {
     pub fn new() -> Counts
         ensures { (count : Count) → number_of result count ≡ 0 }
     {
-        Counts { numbers: [0; 26] }
+        Counts { numbers: [0; 27] }
     }
 
     /// Counts `more` of a thing, up to the greatest number of 64 bits.
@@ -84,7 +86,7 @@ impl Counts {
         ensures { self.new ≡ counted count more self.old }
     {
         let place = count as usize;
-        if place < 26 {
+        if place < 27 {
             self.numbers[place] = self.numbers[place].saturating_add(more);
         }
     }

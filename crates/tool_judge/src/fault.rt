@@ -60,6 +60,18 @@ pub enum Wrong {
     /// An insert returned a number that is no key of the layout.
     #[error("{0} was inserted and is no key")]
     NoKey(u64),
+    /// Two calls ended one key.
+    #[error("key {0} ended twice")]
+    EndedTwice(u64),
+    /// A call reported the end of a key that was not removed, or that others used or held still.
+    #[error("key {0} ended before it was removed and released")]
+    EndedEarly(u64),
+    /// A call reported the end of a key with words that are not those of its value.
+    #[error("key {0} ended with the words of another value")]
+    EndedAsAnother(u64),
+    /// A key was removed and is not held, and no call reported its end.
+    #[error("no call reported the end of key {0}")]
+    NotEnded(u64),
     /// Not all passes are joined.
     #[error("not all passes met")]
     Apart,

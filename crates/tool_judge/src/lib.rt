@@ -5,6 +5,7 @@
 
 pub mod counts;
 pub mod dice;
+pub mod end;
 pub mod fault;
 pub mod judge;
 pub mod line;

@@ -4,10 +4,11 @@ ghost use Rattle.std.specs.Prelude.{vec_len, slice_get};
 ghost use Rattle.std.specs.Bool.{OnTrue, OnFalse};
 ghost use Rattle.std.specs.Option.{option_copied};
 ghost use Rattle.tool_judge.specs.Counts.{counted};
-ghost use Rattle.tool_judge.specs.Records.{refusal_fault, first_fault, IsTold, HasHold, HasWalk, Sees, Reads, value_read};
+ghost use Rattle.tool_judge.specs.Records.{refusal_fault, first_fault, IsTold, HasHold, HasWalk, HasEnd, Sees, Reads, value_read};
 ghost use Rattle.tool_judge.specs.declared.record.Held.{Held as AnyHeld};
 
 use crate::counts::{Count, Counts};
+use crate::end::End;
 use crate::fault::{Call, Fault, Wrong};
 use crate::line::{Line, Told};
 use crate::pattern;
@@ -31,16 +32,20 @@ pub struct Record {
     pub pass: u32,
     /// How often each result was returned.
     pub counts: Counts,
+    /// Whether its calls report which keys they end.
+    pub tells_ends: bool,
     lines: Vec<Line>,
     holds: Vec<Held>,
     walks: Vec<Walk>,
+    ends: Vec<End>,
     fault: Option<Fault>,
 }
 
 impl Record {
     /// The record of a pass that has done nothing.
-    pub fn new(alloc: Global, pass: u32) -> Record
+    pub fn new(alloc: Global, pass: u32, tells_ends: bool) -> Record
         ensures pass { result.pass ≡ pass }
+        ensures tells { result.tells_ends ≡ tells_ends }
         ensures no_lines { result.lines.items ≡ [] }
         ensures no_holds { result.holds.items ≡ [] }
         ensures no_fault { result.fault ≡ None }
@@ -48,9 +53,11 @@ impl Record {
         Record {
             pass,
             counts: Counts::new(),
+            tells_ends,
             lines: Vec::new(alloc),
             holds: Vec::new(alloc),
             walks: Vec::new(alloc),
+            ends: Vec::new(alloc),
             fault: None,
         }
     }
@@ -175,6 +182,15 @@ impl Record {
         }
     }
 
+    /// Notes the end of a key.
+    pub fn ended(&mut self, end: End)
+        ensures { HasEnd self.old self.new end }
+    {
+        if self.ends.push(end).is_err() {
+            self.fail(Fault::Memory);
+        }
+    }
+
     /// Whether it has the greatest number of holds of a pass.
     pub fn is_full(&self) -> bool
         ensures { IsTrue result ↔ (16 ≤ vec_len self.now.holds) }
@@ -257,11 +273,12 @@ impl Record {
         }
     }
 
-    /// The lines of the log, and the walks.
-    pub fn into_parts(self) -> (Vec<Line>, Vec<Walk>)
+    /// The lines of the log, the walks, and the ends of keys.
+    pub fn into_parts(self) -> (Vec<Line>, Vec<Walk>, Vec<End>)
         ensures lines { result.0 ≡ self.lines }
         ensures walks { result.1 ≡ self.walks }
+        ensures ends { result.2 ≡ self.ends }
     {
-        (self.lines, self.walks)
+        (self.lines, self.walks, self.ends)
     }
 }

@@ -98,15 +98,15 @@ fn is_inserted(calls: &[Call], key: u64) -> bool
     calls.iter().any(|call| call.said.inserts(key))
 }
 
-// Whether the key was removed.
-fn is_removed(calls: &[Call], key: u64) -> bool
+/// Whether the key was removed.
+pub fn is_removed(calls: &[Call], key: u64) -> bool
     ensures { result ≡ is_removed key calls.now }
 {
     calls.iter().any(|call| call.said.removes(key))
 }
 
-// How many holds on the key are left.
-fn holds_on(calls: &[Call], key: u64) -> usize
+/// How many holds on the key are left.
+pub fn holds_on(calls: &[Call], key: u64) -> usize
     ensures { result ≡ holds_on key calls.now }
 {
     let got = calls.iter().filter(|call| call.said.gets(key)).count();

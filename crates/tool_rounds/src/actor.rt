@@ -13,8 +13,8 @@ use tool_judge::record::Record;
 pub enum Task {
     /// It entered the slot of this key to remove it. It learns whether there is a value when it marks.
     Removing(u64, Span),
-    /// The result is known, and the remaining steps have yet to run.
-    Ending,
+    /// The result on this key is known, and the remaining steps have yet to run.
+    Ending(u64),
 }
 
 /// A pass: one that owns no shard, one that owns a shard, or one that stopped in the middle of a call.

@@ -1,6 +1,7 @@
 //! Turns by hand: each step of a removal, get or release is a turn of its own, so that others can act between steps.
 use crate::actor::{Actor, Task};
 use crate::board::Board;
+use crate::ends;
 use crate::moments::Moments;
 use crate::pass::LonePass;
 use history_timed::Span;
@@ -20,18 +21,25 @@ pub fn begin<R: Wait, C: Drop, P: LonePass<Receipt = C>>(
     board: &Board<'_, R, C>,
     dice: &mut Dice,
 ) -> Actor<P> {
-    let key = board.look(&mut lone, record, dice.word());
+    let left = board.look(&mut lone, record, dice.word());
+    let call = dice.below(8);
+    let key = match call {
+        1..4 => record.hold(0).map(|held| held.hold.key),
+        _ => left,
+    };
+    let Some(key) = key else {
+        return Actor::Lone(lone);
+    };
     let stopped = match lone.begin() {
         Ok(stopped) => stopped,
         Err(lone) => return Actor::Lone(lone),
     };
     record.counts.one(Count::Begun);
     let moments = &board.moments;
-    match (dice.below(8), key) {
-        (0, Some(key)) => get::<P>(stopped, record, moments, key),
-        (1..4, _) => release::<P>(stopped, record, moments),
-        (_, Some(key)) => remove::<P>(stopped, record, moments, key),
-        _ => end::<P>(stopped, record),
+    match call {
+        0 => get::<P>(stopped, record, moments, key),
+        1..4 => release::<P>(stopped, record, moments, key),
+        _ => remove::<P>(stopped, record, moments, key),
     }
 }
 
@@ -62,27 +70,24 @@ fn get<P: LonePass>(
         if !record.is_full() {
             record.unbegun(Call::Get);
         }
-        return end::<P>(stopped, record);
+        return end::<P>(stopped, record, key);
     };
     match P::end(stopped) {
         Ok(lone) => {
             record.got(Hold { key }, times);
             Actor::Lone(lone)
         }
-        Err(stopped) => Actor::Stopped(stopped, Task::Ending),
+        Err(stopped) => Actor::Stopped(stopped, Task::Ending(key)),
     }
 }
 
-// Releases the first of the pass's holds.
+// Releases the first of the pass's holds, which is on this key.
 fn release<P: LonePass>(
     mut stopped: P::Stopped,
     record: &mut Record,
     moments: &Moments,
+    key: u64,
 ) -> Actor<P> {
-    let Some(held) = record.hold(0) else {
-        return end::<P>(stopped, record);
-    };
-    let key = held.hold.key;
     match act::<P>(&mut stopped, record, moments, &Action::DropHold(key)) {
         Some(times) => {
             record.counts.one(Count::Releases);
@@ -91,7 +96,7 @@ fn release<P: LonePass>(
         }
         None => record.unbegun(Call::Release),
     }
-    Actor::Stopped(stopped, Task::Ending)
+    Actor::Stopped(stopped, Task::Ending(key))
 }
 
 // Enters the slot of a key, to remove it.
@@ -105,7 +110,7 @@ fn remove<P: LonePass>(
         Some(times) => Actor::Stopped(stopped, Task::Removing(key, times)),
         None => {
             record.unbegun(Call::Remove);
-            end::<P>(stopped, record)
+            end::<P>(stopped, record, key)
         }
     }
 }
@@ -131,21 +136,29 @@ fn mark<P: LonePass>(
 }
 
 // Returns the pass to its plain state, if nothing is left to do.
-fn end<P: LonePass>(stopped: P::Stopped, record: &mut Record) -> Actor<P> {
+fn end<P: LonePass>(stopped: P::Stopped, record: &mut Record, key: u64) -> Actor<P> {
     match P::end(stopped) {
         Ok(lone) => Actor::Lone(lone),
         Err(stopped) => {
             record.endless();
-            Actor::Stopped(stopped, Task::Ending)
+            Actor::Stopped(stopped, Task::Ending(key))
         }
     }
 }
 
-// Does the next step that ends a removal, a release or a refused get. False if nothing is left to do.
-fn goes_on<P: LonePass>(stopped: &mut P::Stopped) -> bool {
+// Does the next step that ends a removal, a release or a refused get of a key. False if nothing is left to do.
+fn goes_on<P: LonePass>(
+    stopped: &mut P::Stopped,
+    record: &mut Record,
+    moments: &Moments,
+    key: u64,
+) -> bool {
+    if let Some(times) = act::<P>(stopped, record, moments, &Action::Finish) {
+        ends::note_by_hand(record, times, key);
+        return true;
+    }
     let steps = [
         Action::Drop,
-        Action::Finish,
         Action::Put,
         Action::Tie,
         Action::Ring,
@@ -153,6 +166,7 @@ fn goes_on<P: LonePass>(stopped: &mut P::Stopped) -> bool {
     ];
     for action in &steps {
         if P::act(stopped, action) {
+            record.counts.one(Count::Acts);
             return true;
         }
     }
@@ -166,13 +180,15 @@ pub fn go_on<P: LonePass>(
     record: &mut Record,
     moments: &Moments,
 ) -> Actor<P> {
-    if let Task::Removing(key, entered) = task {
-        mark::<P>(&mut stopped, record, moments, key, entered);
-        return Actor::Stopped(stopped, Task::Ending);
+    let key = match task {
+        Task::Removing(key, entered) => {
+            mark::<P>(&mut stopped, record, moments, key, entered);
+            return Actor::Stopped(stopped, Task::Ending(key));
+        }
+        Task::Ending(key) => key,
+    };
+    if goes_on::<P>(&mut stopped, record, moments, key) {
+        return Actor::Stopped(stopped, Task::Ending(key));
     }
-    if goes_on::<P>(&mut stopped) {
-        record.counts.one(Count::Acts);
-        return Actor::Stopped(stopped, Task::Ending);
-    }
-    end::<P>(stopped, record)
+    end::<P>(stopped, record, key)
 }

@@ -4,6 +4,7 @@
 //! owners of that moment fill their shards, before they leave. The other shards are adopted, filled and left.
 ghost use Rattle.std.specs.Prelude.{◌≤◌};
 
+use crate::ends::Ends;
 use crate::history::History;
 use crate::judging::Judge;
 use crate::moments::Moments;
@@ -15,6 +16,7 @@ use sh_shape::{Shape, class_of};
 use std::alloc::Global;
 use tool_judge::counts::Counts;
 use tool_judge::dice::Dice;
+use tool_judge::end::End;
 use tool_judge::fault::{Fault, Wrong};
 use tool_judge::line::Line;
 use tool_judge::record::Record;
@@ -88,18 +90,20 @@ fn fill<C: Drop, P: LonePass<Receipt = C>>(
     class_of(len).unwrap_or(0)
 }
 
-// Adds the log, the walks and the counts of a pass to those of the others. A fault of the pass is a fault of the round.
+// Adds the log, the walks, the ends and the counts of a pass to those of the others. A fault of the pass is a fault of the round.
 fn take_in(
     record: Record,
     counts: &mut Counts,
     lines: &mut Vec<Line>,
     walks: &mut Vec<Walk>,
+    ends: &mut Vec<End>,
 ) -> Result<(), Fault> {
     let fault = record.fault();
     counts.take_in(&record.counts);
-    let (mut told, mut walked) = record.into_parts();
+    let (mut told, mut walked, mut ended) = record.into_parts();
     lines.append(&mut told)?;
     walks.append(&mut walked)?;
+    ends.append(&mut ended)?;
     match fault {
         Some(fault) => Err(fault),
         None => Ok(()),
@@ -113,6 +117,7 @@ struct Gathered<P: LonePass> {
     counts: Counts,
     lines: Vec<Line>,
     walks: Vec<Walk>,
+    ends: Vec<End>,
     fault: Option<Fault>,
 }
 
@@ -144,7 +149,13 @@ impl<C: Drop, P: LonePass<Receipt = C>> Gathered<P> {
     // Adds one more worker: its log, its counts and its pass.
     fn gather(&mut self, worker: Worker<P>) {
         let (lone, record) = worker.finish();
-        let taken = take_in(record, &mut self.counts, &mut self.lines, &mut self.walks);
+        let taken = take_in(
+            record,
+            &mut self.counts,
+            &mut self.lines,
+            &mut self.walks,
+            &mut self.ends,
+        );
         let met = self.meet(lone);
         self.note(taken);
         self.note(met);
@@ -161,6 +172,7 @@ fn gather_all<C: Drop, P: LonePass<Receipt = C>>(
         counts: Counts::new(),
         lines: Vec::new(alloc),
         walks: Vec::new(alloc),
+        ends: Vec::new(alloc),
         fault: None,
     };
     for worker in workers {
@@ -185,6 +197,7 @@ pub fn ended<C: Drop, P: LonePass<Receipt = C>>(
         mut counts,
         mut lines,
         walks,
+        ends,
         fault,
     } = gather_all(alloc, workers);
     let passes = plan.all_passes();
@@ -197,7 +210,8 @@ pub fn ended<C: Drop, P: LonePass<Receipt = C>>(
                 shapes,
                 class,
             };
-            judge.verdict(carrier, &mut lines, walks.as_slice(), &mut counts)
+            let ends = Ends::new(plan.tells_ends, ends);
+            judge.verdict(carrier, &mut lines, walks.as_slice(), ends, &mut counts)
         }
         (None, None) => Err(Fault::Wrong(Wrong::Apart)),
     };

@@ -30,6 +30,8 @@ pub fn key_of(fault: Fault) -> Option<u64> {
         Fault::Wrong(Wrong::Torn(_, key) | Wrong::Changed(_, key)) => Some(key),
         Fault::Wrong(Wrong::NoOrder(key) | Wrong::NoKey(key)) => Some(key),
         Fault::Wrong(Wrong::Missed(_, key) | Wrong::WentBack(_, key)) => Some(key),
+        Fault::Wrong(Wrong::EndedTwice(key) | Wrong::EndedEarly(key)) => Some(key),
+        Fault::Wrong(Wrong::EndedAsAnother(key) | Wrong::NotEnded(key)) => Some(key),
         _ => None,
     }
 }

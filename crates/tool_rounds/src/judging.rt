@@ -1,4 +1,5 @@
 //! The judge of a round: what all calls returned, key by key, and the accounts of each page.
+use crate::ends::Ends;
 use crate::pass::{LonePass, PageName};
 use sh_key::KeyLayout;
 use sh_shape::Shape;
@@ -23,12 +24,14 @@ pub struct Judge<'s> {
 }
 
 impl Judge<'_> {
-    // Judges the lines of the first key, counts its slot, and returns the lines of the other keys. No walk missed it.
+    // Judges the lines of the first key, and its end, counts its slot, and returns the lines of the other keys. No walk
+    // missed it.
     fn judge_key<'l, P: LonePass>(
         &self,
         lines: &'l [Line],
         walks: &[Walk],
         key: u64,
+        ends: &mut Ends,
         tallies: &mut [Tally],
         counts: &mut Counts,
     ) -> Result<&'l [Line], Fault> {
@@ -41,6 +44,7 @@ impl Judge<'_> {
         if let Some(walk) = walks.iter().find(|walk| walk.misses(key, calls.as_slice())) {
             return Err(Fault::Wrong(Wrong::Missed(walk.pass, key)));
         }
+        ends.judge::<P>(key, calls.as_slice())?;
         let (chunk, within) = P::split(key);
         let Some(tally) = tallies.get_mut(chunk as usize) else {
             return Err(Fault::Wrong(Wrong::NoKey(key)));
@@ -65,6 +69,7 @@ impl Judge<'_> {
         &self,
         lines: &[Line],
         walks: &[Walk],
+        mut ends: Ends,
         counts: &mut Counts,
     ) -> Result<Vec<Tally>, Fault> {
         let mut tallies = self.no_tallies()?;
@@ -73,8 +78,10 @@ impl Judge<'_> {
             let Some(first) = rest.first() else {
                 break;
             };
-            rest = self.judge_key::<P>(rest, walks, first.key, tallies.as_mut_slice(), counts)?;
+            let tallies = tallies.as_mut_slice();
+            rest = self.judge_key::<P>(rest, walks, first.key, &mut ends, tallies, counts)?;
         }
+        ends.judge_rest()?;
         Ok(tallies)
     }
 
@@ -139,18 +146,19 @@ impl Judge<'_> {
         Ok(())
     }
 
-    /// Judges what the calls of all passes returned and their walks met, and sorts the lines by their keys. The carrier is all passes
-    /// joined.
+    /// Judges what the calls of all passes returned, what their walks met and which keys they ended, and sorts the lines
+    /// by their keys. The carrier is all passes joined.
     pub fn verdict<P: LonePass>(
         &self,
         carrier: P,
         lines: &mut Vec<Line>,
         walks: &[Walk],
+        ends: Ends,
         counts: &mut Counts,
     ) -> Result<(), Fault> {
         let mut whole = carrier.whole()?;
         lines.sort_by_key(|line| line.key)?;
-        let tallies = self.judge_all::<P>(lines.as_slice(), walks, counts)?;
+        let tallies = self.judge_all::<P>(lines.as_slice(), walks, ends, counts)?;
         self.audit::<P>(&mut whole, tallies.as_slice(), counts)
     }
 }

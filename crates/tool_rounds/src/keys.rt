@@ -39,9 +39,9 @@ fn next_key<P: LonePass>(key: u64) -> u64 {
     key.wrapping_add(to_next_key::<P::Layout>(within))
 }
 
-// Gets or looks at a number that may be a key.
+// Gets or looks at a number that may be a key. Such a look may end a key, and does not report it.
 fn guess<U: User>(user: &mut U, record: &mut Record, moments: &Moments, dice: &mut Dice, key: u64) {
-    if dice.once_in(2) {
+    if record.tells_ends || dice.once_in(2) {
         using::get(user, record, moments, key, true);
     } else {
         using::look(user, record, moments, key, true);
@@ -58,6 +58,11 @@ pub fn take_turn<P: LonePass, U: User>(
     key: Option<u64>,
 ) {
     let held = some_hold(record, dice);
+    let turn = if record.tells_ends {
+        turn.telling()
+    } else {
+        turn
+    };
     match (turn, key, held) {
         (Turn::Get, Some(key), _) => using::get(user, record, moments, key, false),
         (Turn::Guard, Some(key), _) => using::guard(user, record, moments, key),

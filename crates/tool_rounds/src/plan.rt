@@ -53,6 +53,8 @@ pub struct Plan {
     pub chunks: u32,
     /// The number of turns that each thread takes.
     pub steps: u64,
+    /// Whether its calls report which keys they end.
+    pub tells_ends: bool,
 }
 
 impl Plan {
@@ -125,5 +127,6 @@ pub fn plan_of(options: &Options<'_>, round: u64, dice: &mut Dice) -> Plan {
         segments,
         chunks,
         steps: options.steps,
+        tells_ends: dice.once_in(2),
     }
 }

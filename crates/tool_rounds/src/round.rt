@@ -42,7 +42,7 @@ fn workers<C: Drop, P: LonePass<Receipt = C>>(
     let mut workers = Vec::new(alloc);
     let mut number = 0u32;
     for lone in lones {
-        let worker = Worker::new(alloc, lone, number, u64::from(plan.shards));
+        let worker = Worker::new(alloc, lone, number, plan);
         if workers.push(worker).is_err() {
             return Err(Fault::Memory);
         }

@@ -38,6 +38,17 @@ pub enum Turn {
     Leave,
 }
 
+impl Turn {
+    /// The turn in a round whose calls report ends. A guard and a take do not, so it is a get or a removal instead.
+    pub fn telling(self) -> Turn {
+        match self {
+            Turn::Guard => Turn::Get,
+            Turn::Take => Turn::Remove,
+            turn => turn,
+        }
+    }
+}
+
 /// The next turn of a pass that owns no shard.
 pub fn of_lone(dice: &mut Dice) -> Turn {
     match dice.below(38) {

@@ -44,6 +44,19 @@ pub trait User {
     /// Releases a hold.
     fn release(&mut self, hold: Hold) -> Result<(), Refusal>;
 
+    /// Takes a hold on a key. It also returns which key that ended, if any, whose value's words are then in `words`.
+    fn get_ended(&mut self, key: u64, words: &mut Value) -> (Result<Hold, Refusal>, Option<u64>);
+
+    /// Removes a key, and returns which key that ended.
+    fn remove_ended(&mut self, key: u64, words: &mut Value) -> (Result<(), Refusal>, Option<u64>);
+
+    /// Releases a hold, and returns which key that ended.
+    fn release_ended(
+        &mut self,
+        hold: Hold,
+        words: &mut Value,
+    ) -> (Result<(), Refusal>, Option<u64>);
+
     /// A receipt of all that its calls returned, and of all receipts that it heeded.
     fn receipt(&mut self) -> Self::Receipt;
 

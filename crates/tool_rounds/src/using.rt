@@ -1,4 +1,5 @@
 //! Calls on keys, which note their results in the record.
+use crate::ends;
 use crate::moments::Moments;
 use crate::user::{Met, User};
 use history_timed::Span;
@@ -18,9 +19,7 @@ pub fn heed<U: User>(user: &mut U, record: &mut Record, told: U::Receipt) {
 
 /// Takes a hold on a key. A guessed number may be no key.
 pub fn get<U: User>(user: &mut U, record: &mut Record, moments: &Moments, key: u64, guessed: bool) {
-    let begin = moments.next();
-    let answer = user.get(key);
-    let times = moments.since(begin);
+    let (answer, times) = ends::get(user, record, moments, key);
     match answer {
         Ok(hold) => record.got(hold, times),
         Err(Refusal::BadKey) if guessed => record.counts.one(Count::BadKeys),
@@ -158,9 +157,7 @@ pub fn take<U: User>(user: &mut U, record: &mut Record, moments: &Moments, key: 
 
 /// Removes a key.
 pub fn remove<U: User>(user: &mut U, record: &mut Record, moments: &Moments, key: u64) {
-    let begin = moments.next();
-    let answer = user.remove(key);
-    let times = moments.since(begin);
+    let (answer, times) = ends::remove(user, record, moments, key);
     match answer {
         Ok(()) => {
             record.counts.one(Count::Removes);
@@ -190,9 +187,7 @@ pub fn release<U: User>(user: &mut U, record: &mut Record, moments: &Moments, nu
     let Some(held) = record.hold(number) else {
         return;
     };
-    let begin = moments.next();
-    let answer = user.release(held.hold);
-    let times = moments.since(begin);
+    let (answer, times) = ends::release(user, record, moments, held.hold);
     match answer {
         Ok(()) => {
             record.counts.one(Count::Releases);

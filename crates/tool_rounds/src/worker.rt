@@ -5,6 +5,7 @@ use crate::actor::{Actor, Task};
 use crate::board::Board;
 use crate::moments::Moments;
 use crate::pass::LonePass;
+use crate::plan::Plan;
 use crate::turn::Turn;
 use crate::{by_hand, keys, owning, turn, using};
 use std::alloc::Global;
@@ -31,12 +32,12 @@ pub struct Worker<P: LonePass> {
 }
 
 impl<C: Drop, P: LonePass<Receipt = C>> Worker<P> {
-    /// A pass that has done nothing, in a heap with this number of shards.
-    pub fn new(alloc: Global, lone: P, number: u32, shards: u64) -> Self {
+    /// A pass that has done nothing, in a round of this plan.
+    pub fn new(alloc: Global, lone: P, number: u32, plan: &Plan) -> Self {
         Worker {
             actor: Actor::Lone(lone),
-            record: Record::new(alloc, number),
-            shards,
+            record: Record::new(alloc, number, plan.tells_ends),
+            shards: u64::from(plan.shards),
             shard: 0,
             filled: None,
             alloc,

@@ -78,6 +78,22 @@ impl<H: Home + Send> User for Grower<H> {
         self.caller.release(hold)
     }
 
+    fn get_ended(&mut self, key: u64, words: &mut Value) -> (Result<Hold, Refusal>, Option<u64>) {
+        self.caller.get_ended(key, words)
+    }
+
+    fn remove_ended(&mut self, key: u64, words: &mut Value) -> (Result<(), Refusal>, Option<u64>) {
+        self.caller.remove_ended(key, words)
+    }
+
+    fn release_ended(
+        &mut self,
+        hold: Hold,
+        words: &mut Value,
+    ) -> (Result<(), Refusal>, Option<u64>) {
+        self.caller.release_ended(hold, words)
+    }
+
     fn receipt(&mut self) -> GrownHomeReceipt<H> {
         GrownHomeReceipt::new(self.caller.receipt())
     }

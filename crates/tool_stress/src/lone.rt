@@ -8,7 +8,7 @@ use sh_core::Accounts;
 use sh_gather::{Whole, whole};
 use sh_key::KeyLayout;
 use sh_member::{NextLive, fetching, taking, walking};
-use sh_pass::Pass;
+use sh_pass::{Pass, Tells};
 use sh_shard::Shard;
 use sh_step::Action;
 use sh_value::{Hold, Refusal, Value};
@@ -91,6 +91,22 @@ impl<L: KeyLayout, H: Home + Send> User for Lone<'_, L, H> {
 
     fn release(&mut self, hold: Hold) -> Result<(), Refusal> {
         self.pass.release(hold)
+    }
+
+    fn get_ended(&mut self, key: u64, words: &mut Value) -> (Result<Hold, Refusal>, Option<u64>) {
+        self.pass.get_ended(key, words)
+    }
+
+    fn remove_ended(&mut self, key: u64, words: &mut Value) -> (Result<(), Refusal>, Option<u64>) {
+        self.pass.remove_ended(key, words)
+    }
+
+    fn release_ended(
+        &mut self,
+        hold: Hold,
+        words: &mut Value,
+    ) -> (Result<(), Refusal>, Option<u64>) {
+        self.pass.release_ended(hold, words)
     }
 
     fn receipt(&mut self) -> HomeReceipt<H> {

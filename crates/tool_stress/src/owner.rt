@@ -98,6 +98,22 @@ impl<L: KeyLayout, H: Home + Send> User for Owner<'_, L, H> {
         self.shard.release(hold)
     }
 
+    fn get_ended(&mut self, key: u64, words: &mut Value) -> (Result<Hold, Refusal>, Option<u64>) {
+        self.shard.get_ended(key, words)
+    }
+
+    fn remove_ended(&mut self, key: u64, words: &mut Value) -> (Result<(), Refusal>, Option<u64>) {
+        self.shard.remove_ended(key, words)
+    }
+
+    fn release_ended(
+        &mut self,
+        hold: Hold,
+        words: &mut Value,
+    ) -> (Result<(), Refusal>, Option<u64>) {
+        self.shard.release_ended(hold, words)
+    }
+
     fn receipt(&mut self) -> HomeReceipt<H> {
         HomeReceipt::new(self.shard.receipt())
     }

@@ -14,6 +14,11 @@ use tool_rounds::user::{Met, User};
 // What is added to a key of the second chunk: more than any key of the layout.
 const SECOND: u64 = 1 << 40;
 
+// The key that the chunk of `key` tells, with its chunk.
+fn key_beside(key: u64, within: u64, told: Option<u64>) -> Option<u64> {
+    Some(told?.wrapping_add(key.wrapping_sub(within)))
+}
+
 // A chunk, and whether the caller owns its shard.
 #[derive(Drop)]
 struct Chunk<'a, R: Wait> {
@@ -170,6 +175,33 @@ impl<R: Wait> User for ModelCaller<'_, R> {
     fn release(&mut self, hold: Hold) -> Result<(), Refusal> {
         let (chunk, within) = self.chunk_of(hold.key);
         chunk.model.lock(chunk.rt).release(within)
+    }
+
+    fn get_ended(&mut self, key: u64, words: &mut Value) -> (Result<Hold, Refusal>, Option<u64>) {
+        let (chunk, within) = self.chunk_of(key);
+        let mut model = chunk.model.lock(chunk.rt);
+        match model.get(within) {
+            Ok(_) => (Ok(Hold { key }), None),
+            Err(refusal) => (Err(refusal), key_beside(key, within, model.told(words))),
+        }
+    }
+
+    fn remove_ended(&mut self, key: u64, words: &mut Value) -> (Result<(), Refusal>, Option<u64>) {
+        let (chunk, within) = self.chunk_of(key);
+        let mut model = chunk.model.lock(chunk.rt);
+        let answer = model.remove(within);
+        (answer, key_beside(key, within, model.told(words)))
+    }
+
+    fn release_ended(
+        &mut self,
+        hold: Hold,
+        words: &mut Value,
+    ) -> (Result<(), Refusal>, Option<u64>) {
+        let (chunk, within) = self.chunk_of(hold.key);
+        let mut model = chunk.model.lock(chunk.rt);
+        let answer = model.release(within);
+        (answer, key_beside(hold.key, within, model.told(words)))
     }
 
     fn receipt(&mut self) -> u64 {

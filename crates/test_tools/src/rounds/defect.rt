@@ -57,6 +57,16 @@ pub enum Defect {
     Apart,
     /// A receipt is refused.
     Unheeded,
+    /// A call that is refused as gone reports once more that its key ended.
+    EndsTwice,
+    /// No call reports that it ended a key.
+    EndsUntold,
+    /// A call that ended a key reports the next key of the slot.
+    EndsAnother,
+    /// A removal reports that its key ended, though others hold it. Their releases do not.
+    EndsWhileHeld,
+    /// A call that ended a key reports the words of the value in the next slot.
+    EndsAsNext,
     /// A heap that grows returns keys of its second chunk without the chunk's number.
     KeyOfNoChunk,
 }

@@ -22,6 +22,7 @@ fn plan(threads: u32, passes: u32, steps: u64) -> Plan {
         segments: 1,
         chunks: 2,
         steps,
+        tells_ends: false,
     }
 }
 

@@ -1,4 +1,5 @@
 //! A heap of one shard, as a list of slots, with a defect if one is asked for.
+mod ending;
 mod looking;
 mod walking;
 
@@ -74,6 +75,8 @@ pub struct Model {
     // The number of the call that adopted the shard last.
     adopted: u64,
     calls: u64,
+    // The place of the slot whose key the last get, removal or release ended.
+    ended: Option<usize>,
 }
 
 impl Model {
@@ -86,6 +89,7 @@ impl Model {
             is_owned: false,
             adopted: 0,
             calls: 0,
+            ended: None,
         }
     }
 
@@ -129,11 +133,15 @@ impl Model {
     /// Takes a hold on a key.
     pub fn get(&mut self, key: u64) -> Result<Hold, Refusal> {
         self.calls = self.calls.saturating_add(1);
+        self.ended = None;
         if Tiny::unpack(key).is_none() {
             return Err(Refusal::BadKey);
         }
         let place = self.place_of(key).ok_or(Refusal::Gone)?;
         let slot = self.slots.get_mut(place).ok_or(Refusal::Gone)?;
+        if self.defect == Defect::EndsTwice && !slot.is_live && slot.holds == 0 {
+            self.ended = Some(place);
+        }
         Model::got(self.defect, self.calls, slot)?;
         Ok(Hold { key })
     }
@@ -177,6 +185,7 @@ impl Model {
     /// Removes a key.
     pub fn remove(&mut self, key: u64) -> Result<(), Refusal> {
         self.calls = self.calls.saturating_add(1);
+        self.ended = None;
         let place = self.place_of(key).ok_or(Refusal::Gone)?;
         let slot = self.slots.get_mut(place).ok_or(Refusal::Gone)?;
         if !slot.is_live && self.defect != Defect::TwoRemovers {
@@ -185,6 +194,9 @@ impl Model {
         slot.is_live = false;
         slot.is_loaded = false;
         slot.since = self.calls;
+        if slot.holds == 0 || self.defect == Defect::EndsWhileHeld {
+            self.ended = Some(place);
+        }
         Ok(())
     }
 
@@ -207,9 +219,13 @@ impl Model {
     /// Releases a hold, or what `enter` counted.
     pub fn release(&mut self, key: u64) -> Result<(), Refusal> {
         self.calls = self.calls.saturating_add(1);
+        self.ended = None;
         let place = self.place_of(key).ok_or(Refusal::NotHeld)?;
         let slot = self.slots.get_mut(place).ok_or(Refusal::NotHeld)?;
         slot.holds = slot.holds.saturating_sub(1);
+        if !slot.is_live && slot.holds == 0 && self.defect != Defect::EndsWhileHeld {
+            self.ended = Some(place);
+        }
         Ok(())
     }
 

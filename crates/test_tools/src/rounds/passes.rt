@@ -19,6 +19,8 @@ enum Begun {
     Entered(u64),
     // It has one more step to do.
     LastStep,
+    // It left a slot and ended its key, and has the step to do that does so.
+    Ended,
     // The same, and it has yet to leave the slot of this key.
     Leaving(u64),
 }
@@ -77,16 +79,36 @@ impl<'a, R: Wait> ModelPass<'a, R> {
         true
     }
 
-    // Does the last step.
+    // Leaves the slot of a key.
+    fn leave_slot(&mut self, key: u64) -> bool {
+        let mut model = self.model.lock(self.rt);
+        let is_left = model.release(key).is_ok();
+        self.begun = if model.has_ended() {
+            Begun::Ended
+        } else {
+            Begun::Nothing
+        };
+        is_left
+    }
+
+    // Does the last step, or the last but one.
     fn step(&mut self) -> bool {
-        if let Begun::Leaving(key) = self.begun {
-            let _ = self.model.lock(self.rt).release(key);
+        match self.begun {
+            Begun::Leaving(key) => return self.leave_slot(key),
+            Begun::LastStep if self.defect != Defect::Endless => self.begun = Begun::Nothing,
+            Begun::LastStep => {}
+            _ => return false,
         }
-        let is_begun = self.begun != Begun::Nothing;
-        if self.defect != Defect::Endless {
+        true
+    }
+
+    // Does the step that ends a key.
+    fn finish(&mut self) -> bool {
+        let is_ended = self.begun == Begun::Ended;
+        if is_ended {
             self.begun = Begun::Nothing;
         }
-        is_begun
+        is_ended
     }
 }
 
@@ -142,6 +164,28 @@ impl<R: Wait> User for ModelPass<'_, R> {
 
     fn release(&mut self, hold: Hold) -> Result<(), Refusal> {
         self.model.lock(self.rt).release(hold.key)
+    }
+
+    fn get_ended(&mut self, key: u64, words: &mut Value) -> (Result<Hold, Refusal>, Option<u64>) {
+        let mut model = self.model.lock(self.rt);
+        let answer = model.get(key);
+        (answer, model.told(words))
+    }
+
+    fn remove_ended(&mut self, key: u64, words: &mut Value) -> (Result<(), Refusal>, Option<u64>) {
+        let mut model = self.model.lock(self.rt);
+        let answer = model.remove(key);
+        (answer, model.told(words))
+    }
+
+    fn release_ended(
+        &mut self,
+        hold: Hold,
+        words: &mut Value,
+    ) -> (Result<(), Refusal>, Option<u64>) {
+        let mut model = self.model.lock(self.rt);
+        let answer = model.release(hold.key);
+        (answer, model.told(words))
     }
 
     fn receipt(&mut self) -> u64 {
@@ -204,9 +248,10 @@ impl<'a, R: Wait + Sync> LonePass for ModelPass<'a, R> {
         match action {
             Action::EnterGet(key) => stopped.enter_get(*key),
             Action::EnterRemove(key) => stopped.enter_remove(*key),
-            Action::DropHold(key) => stopped.model.lock(stopped.rt).release(*key).is_ok(),
+            Action::DropHold(key) => stopped.leave_slot(*key),
             Action::Mark => stopped.mark(),
             Action::Drop => stopped.step(),
+            Action::Finish => stopped.finish(),
             _ => false,
         }
     }
