@@ -34,6 +34,7 @@ returns c = (
     flags = c.refines_map.ensures.flags layout shape a b f es;
     hands = c.refines_map.ensures.hands layout shape a b f es;
     goes_on = c.refines_map.ensures.goes_on layout shape a b f es;
+    ends = c.refines_map.ensures.ends layout shape a b f es;
     passes = c.refines_map.ensures.passes layout shape a b f es;
   },
   c.plans_are_lawful.ensures,
