@@ -393,8 +393,8 @@ fn calls_that_are_refused_are_told_of_ends() {
     let calls: [fn(&Pass, Key) -> Option<Error>; 3] =
         [|pass, key| pass.load(key).err(), |pass, key| pass.get(key).err(), |pass, key| pass.remove(key).err()];
     for call in calls {
-        // (Under memcheck one thread runs at a time, and it seldom comes to that.)
-        let is_told = (0..50).any(|_| refused_round(call) > 0);
+        let rounds = if cfg!(debug_assertions) { 3 } else { 50 }; // (under memcheck one thread runs at a time)
+        let is_told = (0..rounds).any(|_| refused_round(call) > 0);
         assert!(is_told || cfg!(debug_assertions), "no refused call ended a key");
     }
 }
